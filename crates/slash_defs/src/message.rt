@@ -8,7 +8,10 @@ use edge_kit::Root;
 #[derive(Clone, Copy, PartialEq, Eq, Debug)]
 pub enum Message {
     /// A block of a slot.
-    Block { slot: u64, root: Root },
+    Block {
+        slot: u64,
+        root: Root,
+    },
     /// A vote from a source epoch to a target epoch.
     Vote {
         source: u64,
