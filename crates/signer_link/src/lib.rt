@@ -1,0 +1,8 @@
+//! The service that signs.
+#![tactic(auto)]
+
+mod mem_signer;
+mod signer;
+
+pub use mem_signer::MemSigner;
+pub use signer::{SignCall, SignReply, SignRequest, Signer};
