@@ -1,0 +1,4 @@
+pub mod Keys
+pub mod Contents
+pub mod Taking
+pub mod Machine

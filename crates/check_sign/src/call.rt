@@ -1,0 +1,48 @@
+//! What the desk is asked, and what it replies.
+use crate::grant::Grant;
+use edge_kit::PubKey;
+use protect_record::Verdict;
+use slash_defs::Message;
+
+/// What became of a grant.
+#[derive(Clone, Copy, PartialEq, Eq, Debug)]
+pub enum Outcome {
+    /// Sending was begun.
+    Sent,
+    /// Nothing was sent.
+    Dropped,
+}
+
+/// A call of the desk, with its arguments. Moments are epochs.
+pub enum DeskCall {
+    /// Makes a key active.
+    Activate { key: PubKey, now: u64 },
+    /// Asks for leave to have a message signed by a key.
+    Propose {
+        key: PubKey,
+        message: Message,
+        now: u64,
+    },
+    /// Spends an open grant of this desk.
+    Settle { grant: Grant, outcome: Outcome },
+}
+
+/// A reply of the desk.
+pub enum DeskReply {
+    /// The key is active from now on.
+    Active,
+    /// The key was active.
+    Already,
+    /// The message may be signed and sent.
+    Granted(Grant),
+    /// The grant is spent.
+    Settled,
+    /// No past is kept of the key.
+    Unknown,
+    /// The key's past forbids the message; never `Verdict::Pass`.
+    Refused(Verdict),
+    /// `have` keys are kept, and with the `new` ones there would be more than 65,536.
+    TooManyKeys { have: u64, new: u64 },
+    /// Memory ran out. But for the latest moment, the desk is as before.
+    OutOfMemory,
+}

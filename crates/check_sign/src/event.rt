@@ -1,0 +1,29 @@
+//! What the desk did, as plain data.
+use crate::call::Outcome;
+use edge_kit::{Items, PubKey};
+use slash_defs::Message;
+
+/// A call whose reply changed the desk, a grant by its number.
+#[derive(Clone, Copy, PartialEq, Eq, Debug)]
+pub enum Event {
+    /// A key became active.
+    Activated { key: PubKey },
+    /// A proposal was granted.
+    Granted {
+        key: PubKey,
+        message: Message,
+        grant: u64,
+    },
+    /// A grant was spent.
+    Settled { grant: u64, outcome: Outcome },
+}
+
+/// An event with its moment, the greatest epoch that the desk had been told by then.
+#[derive(Clone, Copy, PartialEq, Eq, Debug)]
+pub struct DeskEvent {
+    pub event: Event,
+    pub moment: u64,
+}
+
+/// The events since the desk was opened, in order.
+pub type Events = Items<DeskEvent>;

@@ -1,0 +1,10 @@
+//! A session: a request on each line in, an answer on each line out.
+#![tactic(auto)]
+
+mod lines;
+mod next;
+mod request;
+
+pub use lines::Lines;
+pub use next::{Limit, LineFault, Next};
+pub use request::{Member, Op, Request, read_request};
