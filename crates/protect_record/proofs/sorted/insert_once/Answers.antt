@@ -1,0 +1,7 @@
+use Rattle.protect_record.proofs.OrderLemmas.{inserted}
+use Rattle.protect_record.proofs.sorted.insert_once.Goals as goal
+
+pub returns-in-Err-clause-joined : goal.returns-in-Err-clause-joined
+returns-in-Err-clause-joined g c =
+    inserted g.T.Ord.cmp g.met.T.Ord.total _ _ _ c.in-Err.place _ c.requires.in_order c.as_slice.ensures.value c.in-Err.ensures.bound c.in-Err.ensures.position
+    _ (c.insert.ensures.succeeds c.requires.room) c.insert.ensures.items

@@ -1,0 +1,10 @@
+pub mod Order
+pub mod Parts
+pub mod Pasts
+pub mod Passing
+pub mod Floors
+pub mod Standing
+pub mod Verdicts
+pub mod Changes
+pub mod Iterating
+pub mod PastLaws
