@@ -82,6 +82,11 @@ Reply state (call.Propose key m now) reply.OutOfMemory = IsSomeAnd (past_of stat
 Reply state (call.Settle grant outcome) reply.Settled = Unit {0}
 Reply state c r = ⊥
 
+-- a grant that was given is open
+abbrev pub IsOpenIn : List OpenGrant → DeskReply → Type 0
+IsOpenIn grants (reply.Granted grant) = Contains grants grant
+IsOpenIn grants r = Unit {0}
+
 -- the moment of a call, where it has one
 abbrev pub latest_after : ℕ → DeskCall → ℕ
 latest_after latest (call.Activate key now) = max latest now

@@ -3,15 +3,21 @@ use Rattle.std.specs.Prelude.{◌≡◌, ◌≢◌, List, [], None, Some}
 use Rattle.edge_kit.specs.declared.bytes.PubKey.{PubKey}
 use Rattle.slash_defs.specs.declared.message.Message.{Message}
 use Rattle.protect_record.specs.Parts.{Parts, SameParts}
-use Rattle.protect_record.specs.Pasts.{Past, with_own}
+use Rattle.protect_record.specs.Pasts.{Past, no_past, with_own}
 use Rattle.protect_record.specs.Standing.{Stands}
 use Rattle.protect_record.specs.Verdicts.{IsVerdict}
 use Rattle.protect_record.specs.Passing.{Passes}
 use Rattle.protect_record.specs.declared.verdict.Verdict.{Verdict}
 use Rattle.protect_record.specs.declared.verdict.Verdict.TheVariants as verdict
-use Rattle.check_sign.specs.Keys.{kept_of, with_kept}
+use Rattle.check_sign.specs.Keys.{kept_of, with_key, with_kept}
 use Rattle.check_sign.specs.declared.kept.Taken.{Taken}
 use Rattle.check_sign.specs.declared.kept.Taken.TheVariants as taken
+
+-- the key is kept with a record of no past
+pub record Begins (old new : List (PubKey × Parts)) (key : PubKey) : Type 0 where
+  pub parts : Parts
+  pub stands : Stands parts no_past
+  pub entries : new ≡ with_key old key parts
 
 -- the key's record keeps what it kept, with more room maybe, and judges the message so
 pub record Judged (old new : List (PubKey × Parts)) (key : PubKey) (m : Message) (v : Verdict) : Type 0 where

@@ -4,6 +4,9 @@ use edge_kit::PubKey;
 use protect_record::Verdict;
 use slash_defs::Message;
 
+/// The greatest moment, an epoch.
+pub const MOMENT_LIMIT: u64 = 576_460_752_303_423_487;
+
 /// What became of a grant.
 #[derive(Clone, Copy, PartialEq, Eq, Debug)]
 pub enum Outcome {
@@ -16,7 +19,10 @@ pub enum Outcome {
 /// A call of the desk, with its arguments. Moments are epochs.
 pub enum DeskCall {
     /// Makes a key active.
-    Activate { key: PubKey, now: u64 },
+    Activate {
+        key: PubKey,
+        now: u64,
+    },
     /// Asks for leave to have a message signed by a key.
     Propose {
         key: PubKey,
@@ -24,7 +30,10 @@ pub enum DeskCall {
         now: u64,
     },
     /// Spends an open grant of this desk.
-    Settle { grant: Grant, outcome: Outcome },
+    Settle {
+        grant: Grant,
+        outcome: Outcome,
+    },
 }
 
 /// A reply of the desk.

@@ -1,15 +1,15 @@
 //! The desk.
-ghost use Rattle.std.specs.Prelude.{◌≡◌, ◌+◌, ◌-◌, ◌<◌, ◌≤◌, ◌++◌, ◌∷◌, [], Contains, length, vec_len, vec_capacity};
+ghost use Rattle.std.specs.Prelude.{◌≡◌, ◌+◌, ◌-◌, ◌<◌, ◌≤◌, ◌++◌, ◌∷◌, [], max, Contains, length, vec_len, vec_capacity};
 ghost use Rattle.edge_kit.specs.declared.bytes.PubKey.{PubKey};
 ghost use Rattle.slash_defs.specs.declared.message.Message.{Message};
 ghost use Rattle.check_sign.specs.Contents.{Contents};
-ghost use Rattle.check_sign.specs.Machine.{State, no_state, DeskStands, MayCall, Reply, after, noted, moment_limit, without};
+ghost use Rattle.check_sign.specs.Machine.{State, no_state, DeskStands, MayCall, Reply, after, noted, moment_limit, IsOpenIn};
 ghost use Rattle.check_sign.specs.declared.open_grant.OpenGrant.{OpenGrant};
 
 use crate::call::{DeskCall, DeskReply, Outcome};
 use crate::event::{DeskEvent, Event, Events};
 use crate::grant::Grant;
-use crate::kept::{Taken, take_in};
+use crate::kept::{Taken, keep_new, take_in};
 use crate::open_grant::OpenGrant;
 use crate::room::{close_one, make_room, note, open_one};
 use edge_kit::PubKey;
@@ -67,6 +67,7 @@ impl Desk {
         requires { MayCall self.old.grants call }
         ensures machine { (state : State) → DeskStands self.old state → Reply state call result × DeskStands self.new (after state call result) }
         ensures events { self.new.events ≡ self.old.events ++ noted self.old.latest call result }
+        ensures is_open { IsOpenIn self.new.grants result }
     {
         match call {
             DeskCall::Activate { key, now } => self.activate(key, now),
@@ -85,10 +86,13 @@ impl Desk {
         Events::from_vec(self.events)
     }
 
-    fn activate(&mut self, key: PubKey, now: u64) -> DeskReply
+    /// Makes a key active: `Active`, or `Already` where it was. Refused by `TooManyKeys` exactly where 65,536
+    /// keys are kept and this is another, and by `OutOfMemory`.
+    pub fn activate(&mut self, key: PubKey, now: u64) -> DeskReply
         requires { now ≤ moment_limit }
         ensures machine { (state : State) → DeskStands self.old state → Reply state (DeskCall.Activate key now) result × DeskStands self.new (after state (DeskCall.Activate key now) result) }
         ensures events { self.new.events ≡ self.old.events ++ noted self.old.latest (DeskCall.Activate key now) result }
+        ensures latest { self.new.latest ≡ max self.old.latest now }
     {
         self.latest = self.latest.max(now);
         if self.kept.contains_key(&key) {
@@ -101,20 +105,25 @@ impl Desk {
                 new: 1,
             };
         }
-        if self.events.reserve(self.open.len() + 1).is_err() {
+        if !make_room(&mut self.events, &mut self.open) {
             return DeskReply::OutOfMemory;
         }
-        if self.kept.insert(key, Record::new(self.alloc)).is_err() {
+        let Ok(()) = keep_new(&mut self.kept, self.alloc, key) else {
             return DeskReply::OutOfMemory;
-        }
+        };
         note(&mut self.events, Event::Activated { key }, self.latest);
         DeskReply::Active
     }
 
-    fn propose(&mut self, key: PubKey, message: Message, now: u64) -> DeskReply
+    /// Grants a proposal exactly where the key's past lets it pass, and keeps it among the key's own
+    /// messages. Refused by `Unknown` exactly where no past is kept, by the first verdict that holds, and by
+    /// `OutOfMemory`. The grant has to be spent by `settle`.
+    pub fn propose(&mut self, key: PubKey, message: Message, now: u64) -> DeskReply
         requires { now ≤ moment_limit }
         ensures machine { (state : State) → DeskStands self.old state → Reply state (DeskCall.Propose key message now) result × DeskStands self.new (after state (DeskCall.Propose key message now) result) }
         ensures events { self.new.events ≡ self.old.events ++ noted self.old.latest (DeskCall.Propose key message now) result }
+        ensures is_open { IsOpenIn self.new.grants result }
+        ensures latest { self.new.latest ≡ max self.old.latest now }
     {
         self.latest = self.latest.max(now);
         let has_room = make_room(&mut self.events, &mut self.open);
@@ -130,7 +139,15 @@ impl Desk {
                     message: Some(message),
                 };
                 open_one(&mut self.open, granted);
-                note(&mut self.events, Event::Granted { key, message, grant: number }, self.latest);
+                note(
+                    &mut self.events,
+                    Event::Granted {
+                        key,
+                        message,
+                        grant: number,
+                    },
+                    self.latest,
+                );
                 self.next += 1;
                 DeskReply::Granted(Grant {
                     number,
@@ -141,7 +158,9 @@ impl Desk {
         }
     }
 
-    fn settle(&mut self, grant: Grant, outcome: Outcome)
+    /// Spends a grant that is open at this desk: `Sent` wherever sending was begun, else `Dropped`. Takes no
+    /// memory.
+    pub fn settle(&mut self, grant: Grant, outcome: Outcome)
         requires { Contains self.old.grants grant }
         ensures machine { (state : State) → DeskStands self.old state → DeskStands self.new (after state (DeskCall.Settle grant outcome) DeskReply.Settled) }
         ensures events { self.new.events ≡ self.old.events ++ noted self.old.latest (DeskCall.Settle grant outcome) DeskReply.Settled }

@@ -7,7 +7,9 @@ use slash_defs::Message;
 #[derive(Clone, Copy, PartialEq, Eq, Debug)]
 pub enum Event {
     /// A key became active.
-    Activated { key: PubKey },
+    Activated {
+        key: PubKey,
+    },
     /// A proposal was granted.
     Granted {
         key: PubKey,
@@ -15,7 +17,10 @@ pub enum Event {
         grant: u64,
     },
     /// A grant was spent.
-    Settled { grant: u64, outcome: Outcome },
+    Settled {
+        grant: u64,
+        outcome: Outcome,
+    },
 }
 
 /// An event with its moment, the greatest epoch that the desk had been told by then.

@@ -9,8 +9,8 @@ mod kept;
 mod open_grant;
 mod room;
 
-pub use call::{DeskCall, DeskReply, Outcome};
-pub use desk::Desk;
+pub use call::{DeskCall, DeskReply, MOMENT_LIMIT, Outcome};
+pub use desk::{Desk, KEY_LIMIT};
 pub use event::{DeskEvent, Event, Events};
 pub use grant::Grant;
 pub use open_grant::OpenGrant;

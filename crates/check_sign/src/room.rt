@@ -1,5 +1,5 @@
 //! Room that is made before the desk changes, and spent without refusal.
-ghost use Rattle.std.specs.Prelude.{◌≡◌, ◌+◌, ◌<◌, ◌≤◌, ◌++◌, ◌∷◌, [], ℕ, IsTrue, vec_len, vec_capacity, Contains};
+ghost use Rattle.std.specs.Prelude.{◌≡◌, ◌+◌, ◌<◌, ◌≤◌, ◌++◌, ◌∷◌, [], ℕ, IsTrue, vec_len, vec_capacity, length, remove, IfSome, IfNone, Contains};
 ghost use Rattle.check_sign.specs.Machine.{without};
 ghost use Rattle.check_sign.specs.declared.open_grant.OpenGrant.{OpenGrant};
 
@@ -50,7 +50,20 @@ pub fn close_one(open: &mut Vec<OpenGrant>, number: u64)
     ensures open { open.new.items ≡ without open.old.items number }
     ensures len { vec_len open.new + 1 ≡ vec_len open.old }
 {
-    if let Some(place) = open.iter().position(|grant| grant.number == number) {
+    if let Some(place) = place_of(open.as_slice(), number) {
         let _ = open.remove(place);
     }
+}
+
+/// Where the grant of this number stands.
+fn place_of(open: &[OpenGrant], number: u64) -> Option<usize>
+    ensures found { IfSome result (λ i. (i < length open.now) × (without open.now number ≡ remove open.now i)) }
+    ensures none { IfNone result ((g : OpenGrant) → Contains open.now g → g.number ≡ number → ⊥) }
+{
+    for (i, grant) in open.iter().enumerate() {
+        if grant.number == number {
+            return Some(i);
+        }
+    }
+    None
 }
