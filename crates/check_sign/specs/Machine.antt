@@ -87,6 +87,13 @@ abbrev pub IsOpenIn : List OpenGrant → DeskReply → Type 0
 IsOpenIn grants (reply.Granted grant) = Contains grants grant
 IsOpenIn grants r = Unit {0}
 
+-- a grant is of the key and the message that were proposed, and comes for a proposal alone
+abbrev pub IsGrantFor : DeskCall → DeskReply → Type 0
+IsGrantFor (call.Propose key m now) (reply.Granted grant) = (grant.key ≡ key) × (grant.message ≡ Some m)
+IsGrantFor (call.Activate key now) (reply.Granted grant) = ⊥
+IsGrantFor (call.Settle settled o) (reply.Granted grant) = ⊥
+IsGrantFor c r = Unit {0}
+
 -- the moment of a call, where it has one
 abbrev pub latest_after : ℕ → DeskCall → ℕ
 latest_after latest (call.Activate key now) = max latest now

@@ -3,7 +3,7 @@ ghost use Rattle.std.specs.Prelude.{◌≡◌, ◌+◌, ◌-◌, ◌<◌, ◌≤
 ghost use Rattle.edge_kit.specs.declared.bytes.PubKey.{PubKey};
 ghost use Rattle.slash_defs.specs.declared.message.Message.{Message};
 ghost use Rattle.check_sign.specs.Contents.{Contents};
-ghost use Rattle.check_sign.specs.Machine.{State, no_state, DeskStands, MayCall, Reply, after, noted, moment_limit, IsOpenIn};
+ghost use Rattle.check_sign.specs.Machine.{State, no_state, DeskStands, MayCall, Reply, after, noted, moment_limit, IsOpenIn, IsGrantFor};
 ghost use Rattle.check_sign.specs.declared.open_grant.OpenGrant.{OpenGrant};
 
 use crate::call::{DeskCall, DeskReply, Outcome};
@@ -68,6 +68,7 @@ impl Desk {
         ensures machine { (state : State) → DeskStands self.old state → Reply state call result × DeskStands self.new (after state call result) }
         ensures events { self.new.events ≡ self.old.events ++ noted self.old.latest call result }
         ensures is_open { IsOpenIn self.new.grants result }
+        ensures granted { IsGrantFor call result }
     {
         match call {
             DeskCall::Activate { key, now } => self.activate(key, now),
@@ -92,6 +93,8 @@ impl Desk {
         requires { now ≤ moment_limit }
         ensures machine { (state : State) → DeskStands self.old state → Reply state (DeskCall.Activate key now) result × DeskStands self.new (after state (DeskCall.Activate key now) result) }
         ensures events { self.new.events ≡ self.old.events ++ noted self.old.latest (DeskCall.Activate key now) result }
+        ensures is_open { IsOpenIn self.new.grants result }
+        ensures granted { IsGrantFor (DeskCall.Activate key now) result }
         ensures latest { self.new.latest ≡ max self.old.latest now }
     {
         self.latest = self.latest.max(now);
@@ -123,6 +126,7 @@ impl Desk {
         ensures machine { (state : State) → DeskStands self.old state → Reply state (DeskCall.Propose key message now) result × DeskStands self.new (after state (DeskCall.Propose key message now) result) }
         ensures events { self.new.events ≡ self.old.events ++ noted self.old.latest (DeskCall.Propose key message now) result }
         ensures is_open { IsOpenIn self.new.grants result }
+        ensures granted { IsGrantFor (DeskCall.Propose key message now) result }
         ensures latest { self.new.latest ≡ max self.old.latest now }
     {
         self.latest = self.latest.max(now);

@@ -7,14 +7,12 @@ use Rattle.edge_kit.specs.declared.bytes.Root.{Root}
 use Rattle.serde_json.specs.Data.{Data}
 use Rattle.serde_json.specs.Read.{read}
 use Rattle.serde_json.specs.Find.{get, as_str, as_object}
+use Rattle.check_sign.specs.Machine.{moment_limit}
 use Rattle.session_run.specs.declared.request.Member.{Member}
 use Rattle.session_run.specs.declared.request.Member.TheVariants as member
 use Rattle.session_run.specs.declared.request.Op.{Op}
 use Rattle.session_run.specs.declared.request.Op.TheVariants as op
 use Rattle.session_run.specs.declared.request.Request.{Request}
-
-abbrev pub moment_limit : ℕ
-moment_limit = 576460752303423487
 
 -- the next reading, where this one gave a value
 infixl 10 ◌>>=◌

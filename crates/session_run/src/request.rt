@@ -1,14 +1,12 @@
 //! The request of a line.
 ghost use Rattle.std.specs.Prelude.{◌≡◌, ◌≤◌, IfOk, IfSome, option_map};
 ghost use Rattle.serde_json.specs.View.{view};
-ghost use Rattle.session_run.specs.Requests.{request_of, request_in, op_in, text_at, key_at, number_at, root_at, epoch_at, activate_at, block_at, vote_at, moment_limit};
+ghost use Rattle.session_run.specs.Requests.{request_of, request_in, op_in, text_at, key_at, number_at, root_at, epoch_at, activate_at, block_at, vote_at};
 
+use check_sign::MOMENT_LIMIT;
 use edge_kit::{PubKey, Root, read_hex, read_quoted};
 use serde_json::Value;
 use std::alloc::{AllocError, Global};
-
-/// The greatest moment, an epoch.
-pub const MOMENT_LIMIT: u64 = 576_460_752_303_423_487;
 
 /// What a line asks for.
 #[derive(Clone, Copy, PartialEq, Eq, Debug)]

@@ -1,0 +1,203 @@
+-- One line of a session, and many.
+use Rattle.std.specs.Prelude.{◌≡◌, ◌≢◌, ℕ, max, List, [], ◌∷◌, ◌++◌, flat_map, Option, Some, None, unwrap_or, Result, Ok, Err}
+use Rattle.edge_kit.specs.declared.bytes.PubKey.{PubKey}
+use Rattle.edge_kit.specs.declared.bytes.Root.{Root}
+use Rattle.slash_defs.specs.declared.message.Message.{Message}
+use Rattle.slash_defs.specs.declared.message.Message.TheVariants as message
+use Rattle.signer_link.specs.Signing.{asked, told_call}
+use Rattle.signer_link.specs.InMemory.{root_of}
+use Rattle.signer_link.specs.declared.signer.SignCall.{SignCall}
+use Rattle.signer_link.specs.declared.signer.SignReply.{SignReply}
+use Rattle.signer_link.specs.declared.signer.SignReply.TheVariants as signing
+use Rattle.check_sign.specs.Machine.{State, Reply, after, noted}
+use Rattle.check_sign.specs.declared.open_grant.OpenGrant.{OpenGrant}
+use Rattle.check_sign.specs.declared.event.DeskEvent.{DeskEvent}
+use Rattle.check_sign.specs.declared.call.DeskCall.{DeskCall}
+use Rattle.check_sign.specs.declared.call.DeskCall.TheVariants as call
+use Rattle.check_sign.specs.declared.call.DeskReply.{DeskReply}
+use Rattle.check_sign.specs.declared.call.DeskReply.TheVariants as reply
+use Rattle.check_sign.specs.declared.call.Outcome.{Outcome}
+use Rattle.check_sign.specs.declared.call.Outcome.TheVariants as outcome
+use Rattle.session_run.specs.Requests.{request_of}
+use Rattle.session_run.specs.Answers.{answer_text}
+use Rattle.session_run.specs.declared.request.Op.{Op}
+use Rattle.session_run.specs.declared.request.Op.TheVariants as op
+use Rattle.session_run.specs.declared.request.Request.{Request}
+use Rattle.session_run.specs.declared.request.Member.{Member}
+use Rattle.session_run.specs.declared.answer.Answer.{Answer}
+use Rattle.session_run.specs.declared.answer.Answer.TheVariants as answer
+use Rattle.session_run.specs.declared.answer.Cause.TheVariants as cause
+
+-- A line with what the desk replied and what the signer answered. Where a line asks nothing of one of them, that part
+-- says nothing.
+pub record Turn : Type 0 where
+  pub line : List ℕ
+  pub reply : DeskReply
+  pub signing : SignReply
+
+-- where a session stands: the desk's state, and the greatest moment that a line named
+pub record Place : Type 0 where
+  pub desk : State
+  pub moment : ℕ
+
+-- the moment of a request: the greatest that was named, by an earlier line or this one
+abbrev pub moment_at : ℕ → Request → ℕ
+moment_at moment q = max moment (unwrap_or q.epoch 0)
+
+-- the desk's call of what a line asks
+abbrev pub call_of : Op → ℕ → DeskCall
+call_of (op.Activate key) now = call.Activate key now
+call_of (op.Block key slot root) now = call.Propose key (message.Block slot root) now
+call_of (op.Vote key source target root) now = call.Propose key (message.Vote source target root) now
+
+-- a signature is sent; without one the grant is dropped
+abbrev pub outcome_of : SignReply → Outcome
+outcome_of (signing.Signed signature) = outcome.Sent
+outcome_of signing.NoKey = outcome.Dropped
+outcome_of signing.Fault = outcome.Dropped
+outcome_of signing.OutOfMemory = outcome.Dropped
+
+-- the state after a call, and after the settling of the grant that it gave, if any
+abbrev pub settled : State → DeskReply → Outcome → State
+settled state (reply.Granted grant) o = after state (call.Settle grant o) reply.Settled
+settled state r o = state
+
+abbrev pub state_after : State → DeskCall → DeskReply → Outcome → State
+state_after state c r o = settled (after state c r) r o
+
+-- what the desk noted of both
+abbrev pub noted_settling : ℕ → DeskReply → Outcome → List DeskEvent
+noted_settling latest (reply.Granted grant) o = noted latest (call.Settle grant o) reply.Settled
+noted_settling latest r o = []
+
+abbrev pub noted_both : State → DeskCall → DeskReply → Outcome → List DeskEvent
+noted_both state c r o = noted state.latest c r ++ noted_settling (after state c r).latest r o
+
+-- the answer that goes out, where memory did not run out
+abbrev pub signed_answer : Option Message → SignReply → Answer
+signed_answer (Some m) (signing.Signed signature) = answer.Signed signature (root_of m)
+signed_answer None (signing.Signed signature) = answer.Unsigned cause.Fault
+signed_answer m signing.NoKey = answer.Unsigned cause.NoKey
+signed_answer m signing.Fault = answer.Unsigned cause.Fault
+signed_answer m signing.OutOfMemory = answer.Unsigned cause.Fault
+
+abbrev pub reply_answer : DeskReply → SignReply → Answer
+reply_answer reply.Active s = answer.Active
+reply_answer reply.Already s = answer.Active
+reply_answer (reply.Granted grant) s = signed_answer grant.message s
+reply_answer reply.Settled s = answer.Active
+reply_answer reply.Unknown s = answer.Unknown
+reply_answer (reply.Refused v) s = answer.Refused v
+reply_answer (reply.TooManyKeys have new) s = answer.TooManyKeys have new
+reply_answer reply.OutOfMemory s = answer.Active
+
+abbrev pub answer_of : Result Request Member → DeskReply → SignReply → Answer
+answer_of (Err m) r s = answer.BadRequest m
+answer_of (Ok q) r s = reply_answer r s
+
+-- memory did not run out at the desk or the signer
+abbrev pub IsAnswered : DeskReply → SignReply → Type 0
+IsAnswered reply.OutOfMemory s = ⊥
+IsAnswered (reply.Granted grant) signing.OutOfMemory = ⊥
+IsAnswered r s = Unit {0}
+
+-- what the signer was asked under a grant, with its reply
+abbrev pub asked_for : Root → PubKey → Option Message → SignReply → List (SignCall × SignReply)
+asked_for genesis key None s = []
+asked_for genesis key (Some m) s = told_call (asked key m (record { genesis = genesis })) s
+
+abbrev pub asked_of : Root → DeskReply → SignReply → List (SignCall × SignReply)
+asked_of genesis (reply.Granted grant) s = asked_for genesis grant.key grant.message s
+asked_of genesis r s = []
+
+-- the message whose signature went out, with its key
+abbrev pub sent_for : PubKey → Option Message → List (PubKey × Message)
+sent_for key None = []
+sent_for key (Some m) = (key, m) ∷ []
+
+abbrev pub sent_of : DeskReply → SignReply → List (PubKey × Message)
+sent_of (reply.Granted grant) (signing.Signed signature) = sent_for grant.key grant.message
+sent_of r s = []
+
+-- the signer did not fail
+abbrev pub IsUnfaulted : DeskReply → SignReply → Type 0
+IsUnfaulted (reply.Granted grant) signing.Fault = ⊥
+IsUnfaulted r s = Unit {0}
+
+-- ---- a line: a bad request does nothing
+
+abbrev pub CanReply : Place → Result Request Member → DeskReply → SignReply → Type 0
+CanReply place (Err m) r s = Unit {0}
+CanReply place (Ok q) r s = Reply place.desk (call_of q.op (moment_at place.moment q)) r × IsAnswered r s
+
+abbrev pub place_of : Place → Result Request Member → DeskReply → SignReply → Place
+place_of place (Err m) r s = place
+place_of place (Ok q) r s = record { desk = state_after place.desk (call_of q.op (moment_at place.moment q)) r (outcome_of s); moment = moment_at place.moment q }
+
+abbrev pub noted_of : Place → Result Request Member → DeskReply → SignReply → List DeskEvent
+noted_of place (Err m) r s = []
+noted_of place (Ok q) r s = noted_both place.desk (call_of q.op (moment_at place.moment q)) r (outcome_of s)
+
+abbrev pub told_of : Root → Result Request Member → DeskReply → SignReply → List (SignCall × SignReply)
+told_of genesis (Err m) r s = []
+told_of genesis (Ok q) r s = asked_of genesis r s
+
+abbrev pub sent_by : Result Request Member → DeskReply → SignReply → List (PubKey × Message)
+sent_by (Err m) r s = []
+sent_by (Ok q) r s = sent_of r s
+
+abbrev pub unfaulted_by : Result Request Member → DeskReply → SignReply → Type 0
+unfaulted_by (Err m) r s = Unit {0}
+unfaulted_by (Ok q) r s = IsUnfaulted r s
+
+abbrev pub moment_by : ℕ → Result Request Member → ℕ
+moment_by moment (Err m) = moment
+moment_by moment (Ok q) = moment_at moment q
+
+-- ---- lines, one after another
+
+-- the desk may give these replies to these lines
+abbrev pub CanRun : Place → List Turn → Type 0
+CanRun place [] = Unit {0}
+CanRun place (t ∷ ts) = CanReply place (request_of t.line) t.reply t.signing × CanRun (place_of place (request_of t.line) t.reply t.signing) ts
+
+abbrev pub place_after : Place → List Turn → Place
+place_after place [] = place
+place_after place (t ∷ ts) = place_after (place_of place (request_of t.line) t.reply t.signing) ts
+
+-- what the desk noted
+abbrev pub events_of : Place → List Turn → List DeskEvent
+events_of place [] = []
+events_of place (t ∷ ts) = noted_of place (request_of t.line) t.reply t.signing ++ events_of (place_of place (request_of t.line) t.reply t.signing) ts
+
+-- the greatest moment that was named
+abbrev pub moment_after : ℕ → List Turn → ℕ
+moment_after moment [] = moment
+moment_after moment (t ∷ ts) = moment_after (moment_by moment (request_of t.line)) ts
+
+-- the signer failed at none
+abbrev pub Unfaulted : List Turn → Type 0
+Unfaulted [] = Unit {0}
+Unfaulted (t ∷ ts) = unfaulted_by (request_of t.line) t.reply t.signing × Unfaulted ts
+
+abbrev pub line_of : Turn → List ℕ
+line_of t = t.line
+
+-- the bytes that are written, the calls that the signer tells, and the messages whose signatures go out
+abbrev pub text_of : Turn → List ℕ
+text_of t = answer_text (answer_of (request_of t.line) t.reply t.signing)
+
+abbrev pub written : List Turn → List ℕ
+written ts = flat_map text_of ts
+
+abbrev pub told_in : Root → Turn → List (SignCall × SignReply)
+told_in genesis t = told_of genesis (request_of t.line) t.reply t.signing
+
+abbrev pub told : Root → List Turn → List (SignCall × SignReply)
+told genesis ts = flat_map (told_in genesis) ts
+
+abbrev pub sent_in : Turn → List (PubKey × Message)
+sent_in t = sent_by (request_of t.line) t.reply t.signing
+
+abbrev pub sent : List Turn → List (PubKey × Message)
+sent ts = flat_map sent_in ts
