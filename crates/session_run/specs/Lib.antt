@@ -2,3 +2,9 @@ pub mod Lines
 pub mod Reading
 pub mod Requests
 pub mod Answers
+pub mod Turns
+pub mod Acts
+pub mod Safe
+pub mod Codes
+pub mod Closings
+pub mod Runs

@@ -5,8 +5,16 @@ mod answer;
 mod lines;
 mod next;
 mod request;
+mod session;
+mod status;
+mod turn;
+mod write;
 
 pub use answer::{Answer, Cause};
 pub use lines::Lines;
 pub use next::{Limit, LineFault, Next};
 pub use request::{Member, Op, Request, read_request};
+pub use session::serve;
+pub use status::Status;
+pub use turn::act;
+pub use write::{close, write_all};

@@ -62,7 +62,7 @@ impl Lines {
         ensures line { IfOk result (λ next. GivesLine (I.left source.old) (I.left source.new) self.old self.new next) }
         ensures end { IfOk result (λ next. IsLast next → IsAtEnd (I.left source.new)) }
         ensures stays { OnErr result (ReadsMore (I.left source.old) (I.left source.new) self.old self.new) }
-        ensures fault { result ≡ Err LineFault.Read → Rose (I.faults source.old) (I.faults source.new) × IsShortLine self.new.bytes }
+        ensures fault { result ≡ Err LineFault.Read → Rose (I.faults source.old) (I.faults source.new) × IsShortLine self.new.bytes × (self.new.total < input_limit) }
         ensures line_limit { result ≡ Err (LineFault.TooLong Limit.Line) → BeginsTooLong self.new.bytes }
         ensures input_limit { result ≡ Err (LineFault.TooLong Limit.Input) → self.new.total ≡ input_limit }
         ensures later { I.faults source.old ≤ I.faults source.new }

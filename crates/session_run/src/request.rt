@@ -12,9 +12,15 @@ use std::alloc::{AllocError, Global};
 #[derive(Clone, Copy, PartialEq, Eq, Debug)]
 pub enum Op {
     /// To make a key active.
-    Activate { key: PubKey },
+    Activate {
+        key: PubKey,
+    },
     /// To sign a block of a slot.
-    Block { key: PubKey, slot: u64, root: Root },
+    Block {
+        key: PubKey,
+        slot: u64,
+        root: Root,
+    },
     /// To sign a vote from a source epoch to a target epoch.
     Vote {
         key: PubKey,

@@ -1,0 +1,68 @@
+use Rattle.std.proofs.Common.{◌≡◌, ◌≤◌, ◌<◌, ◌+◌, Err, refl, sym, ◌∙◌, ap, arith, length, length-append}
+use Rattle.session_run.specs.Runs.{last_lines}
+use Rattle.session_run.proofs.SessionLemmas.{so_far_none, so_far_line, session_done, breaks_line, breaks_last, leaves_line, leaves_last, leaves_begin, rose_back, ends_stop, counted}
+use Rattle.session_run.proofs.session.serve.Goals as goal
+
+pub returns-in_default : goal.returns-in_default
+returns-in_default g c = leaves_begin _ _ _ _ _ _ _ _
+
+pub lines-init : goal.lines-init
+lines-init g c = record {
+  so_far = rw (c.in-Ok.ensures.bytes, c.in-Ok.ensures.total) (so_far_none _ _ _ _);
+  count = rw (c.in-Ok.ensures.bytes, c.in-Ok.ensures.total) (omega arith);
+  within = omega (arith, c.in-Ok.ensures.total);
+  moment = omega arith;
+  reads = omega arith;
+  writes = omega arith;
+}
+
+pub returns-in-Err-Memory : goal.returns-in-Err-Memory
+returns-in-Err-Memory g c =
+    let gives = rw c.in-Ok-Line.field-0-is at c.in-Ok-Line.ensures.line in
+    let left = rw c.as_slice.ensures.value at (c.in-Err-Memory.ensures.memory (ap Err c.in-Err-Memory.field-0-is)) in
+    leaves_line _ _ _ _ c.in-Ok-Line.line c.lines.invariant.so_far gives left.1 left.0
+
+pub returns-in-Err-Write : goal.returns-in-Err-Write
+returns-in-Err-Write g c =
+    let gives = rw c.in-Ok-Line.field-0-is at c.in-Ok-Line.ensures.line in
+    let cut = rw c.as_slice.ensures.value at (c.in-Err-Write.ensures.write (ap Err c.in-Err-Write.field-0-is)) in
+    (rose_back _ _ _ c.lines.invariant.writes cut.0, breaks_line _ _ _ _ c.in-Ok-Line.line c.lines.invariant.so_far gives cut.1)
+
+pub returns-in-Ok-serve_last : goal.returns-in-Ok-serve_last
+returns-in-Ok-serve_last g c =
+    let gives = rw c.in-Ok-Last.field-0-is at c.in-Ok-Last.ensures.line in
+    let end = c.in-Ok-Last.ensures.end (rw c.in-Ok-Last.field-0-is tt) in
+    let last = c.in-Ok-serve_last.ensures.ok in
+    session_done _ _ _ _ last.0 c.in-Ok-Last.line c.lines.invariant.so_far gives end last.2 (last.1 ∙ ap last_lines c.as_slice-in-Ok-Last.ensures.value)
+
+pub returns-in-Err-Memory-serve_last : goal.returns-in-Err-Memory-serve_last
+returns-in-Err-Memory-serve_last g c =
+    let gives = rw c.in-Ok-Last.field-0-is at c.in-Ok-Last.ensures.line in
+    let left = rw c.as_slice-in-Ok-Last.ensures.value at (c.in-Err-Memory-serve_last.ensures.memory (ap Err c.in-Err-Memory-serve_last.field-0-is)) in
+    leaves_last _ _ _ _ c.in-Ok-Last.line c.lines.invariant.so_far gives left.1 left.0
+
+pub returns-in-Err-Write-serve_last : goal.returns-in-Err-Write-serve_last
+returns-in-Err-Write-serve_last g c =
+    let gives = rw c.in-Ok-Last.field-0-is at c.in-Ok-Last.ensures.line in
+    let end = c.in-Ok-Last.ensures.end (rw c.in-Ok-Last.field-0-is tt) in
+    let cut = rw c.as_slice-in-Ok-Last.ensures.value at (c.in-Err-Write-serve_last.ensures.write (ap Err c.in-Err-Write-serve_last.field-0-is)) in
+    (rose_back _ _ _ c.lines.invariant.writes cut.0, breaks_last _ _ _ _ c.in-Ok-Last.line c.lines.invariant.so_far gives end cut.2 cut.1)
+
+pub returns-in-Err : goal.returns-in-Err
+returns-in-Err g c =
+    let e = c.in-Err.ensures in
+    ends_stop _ c.in-Err.fault c.stop.result _ _ _ _ _ _ c.lines.invariant.so_far e.stays c.lines.invariant.reads c.lines.invariant.writes
+    (λ q. e.fault (ap Err q)) (λ q. e.line_limit (ap Err q)) (λ q. e.input_limit (ap Err q)) c.stop.ensures.stops
+
+pub lines-preserved : goal.lines-preserved
+lines-preserved g c =
+    let gives = rw c.in-Ok-Line.field-0-is at c.in-Ok-Line.ensures.line in
+    let served = rw c.as_slice.ensures.value at c.in-Ok-serve_line.ensures.ok in
+    record {
+      so_far = so_far_line served.0 c.in-Ok-Line.line c.lines.invariant.so_far gives served.1 served.2 served.3;
+      count = counted c.lines.counter c.in-Ok-Line.line gives c.lines.invariant.count;
+      within = gives.within;
+      moment = c.in-Ok-serve_line.ensures.limit;
+      reads = omega (arith, c.lines.invariant.reads, c.in-Ok-Line.ensures.later);
+      writes = omega (arith, c.lines.invariant.writes, c.in-Ok-serve_line.ensures.later);
+    }

@@ -1,0 +1,17 @@
+use Rattle.std.proofs.Common.{◌≡◌, ◌+◌, ◌≤◌, ◌<◌, length}
+use Rattle.check_sign.specs.Machine.{moment_limit}
+use Rattle.session_run.specs.Lines.{input_limit}
+use Rattle.session_run.specs.Runs.{SoFar}
+use Rattle.session_run.proofs.session.serve.Given as goal
+
+abbrev pub invariant-lines : goal.invariant-lines
+invariant-lines g l = record {
+  so_far : SoFar l.genesis 0 (g.I.Source.left l.fn.input) (g.I.Source.left l.input)
+      (record { desk = l.fn.desk; told = g.S.Signer.told l.fn.signer; faults = g.S.Signer.faults l.fn.signer }) (record { desk = l.desk; told = g.S.Signer.told l.signer; faults = g.S.Signer.faults l.signer })
+      (g.O.Sink.held l.fn.out) (g.O.Sink.held l.out) l.lines.bytes l.lines.total l.latest;
+  count : l.counter + length l.lines.bytes ≤ l.lines.total;
+  within : l.lines.total < input_limit;
+  moment : l.latest ≤ moment_limit;
+  reads : g.I.Source.faults l.fn.input ≤ g.I.Source.faults l.input;
+  writes : g.O.Sink.faults l.fn.out ≤ g.O.Sink.faults l.out;
+}

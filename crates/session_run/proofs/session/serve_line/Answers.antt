@@ -1,0 +1,13 @@
+use Rattle.std.proofs.Common.{◌≡◌, sym, ◌∙◌}
+use Rattle.session_run.proofs.RunLemmas.{served_line, cut_line}
+use Rattle.session_run.proofs.session.serve_line.Goals as goal
+
+pub returns-in-Ok-write_all-clause-ok : goal.returns-in-Ok-write_all-clause-ok
+returns-in-Ok-write_all-clause-ok g c =
+    let done = c.in-Ok-answer_line.ensures.done in
+    served_line c.args.line.now c.as_bytes.result.now _ _ c.in-Ok-answer_line.now c.in-Ok.ensures done.2 (c.as_bytes.ensures.value ∙ done.3) done.4 c.in-Ok-write_all.ensures.ok
+
+pub returns-clause-write : goal.returns-clause-write
+returns-clause-write g c = λ e.
+    let done = c.in-Ok-answer_line.ensures.done in
+    (c.in-Err.ensures.cause.failed, cut_line c.args.line.now c.as_bytes.result.now _ _ c.in-Err.ensures.err.0 c.in-Ok.ensures done.2 (c.as_bytes.ensures.value ∙ done.3) c.in-Err.ensures.err.2)

@@ -1,0 +1,38 @@
+//! How the program ends.
+ghost use Rattle.std.specs.Prelude.{◌≡◌};
+ghost use Rattle.session_run.specs.Codes.{status_code};
+
+use crate::next::Limit;
+
+/// How the program ends.
+#[derive(Clone, Copy, PartialEq, Eq, Debug)]
+pub enum Status {
+    /// The input was read to its end, or the command was done.
+    Done,
+    /// The words are no command.
+    Usage,
+    /// The input failed.
+    ReadFault,
+    /// The output failed.
+    WriteFault,
+    /// Memory ran out.
+    OutOfMemory,
+    /// The input passed a limit.
+    InputTooLong(Limit),
+}
+
+impl Status {
+    /// The status that the process exits with.
+    pub fn code(self) -> u8
+        ensures { result ≡ status_code self }
+    {
+        match self {
+            Status::Done => 0,
+            Status::Usage => 2,
+            Status::ReadFault => 3,
+            Status::WriteFault => 4,
+            Status::OutOfMemory => 8,
+            Status::InputTooLong(_) => 9,
+        }
+    }
+}
