@@ -6,3 +6,4 @@ pub mod SafeLemmas
 pub mod RunLemmas
 pub mod ReadLemmas
 pub mod SessionLemmas
+pub mod LimitLemmas

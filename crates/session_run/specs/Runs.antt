@@ -24,7 +24,7 @@ use Rattle.session_run.specs.declared.next.LineFault.TheVariants as fault
 use Rattle.session_run.specs.Closings.{Closes}
 use Rattle.session_run.specs.declared.status.Status.{Status}
 use Rattle.session_run.specs.declared.status.Status.TheVariants as status
-use Rattle.std.specs.Prelude.{Result, Ok, Err}
+use Rattle.std.specs.Prelude.{Result, Ok, Err, Some, None}
 
 -- what a run does to the desk and to the signer: whichever state the desk stood for, the replies are the machine's, the
 -- desk stands for the state after them, and has noted just that
@@ -191,3 +191,8 @@ abbrev pub StopsAs : LineFault → Option (List ℕ) → Option (List ℕ) → �
 StopsAs fault.Memory held_before held_now failed_before failed_now result = (result ≡ status.OutOfMemory) × Keeps held_before held_now
 StopsAs fault.Read held_before held_now failed_before failed_now result = Closes status.ReadFault read_fault_text held_before held_now failed_before failed_now result
 StopsAs (fault.TooLong l) held_before held_now failed_before failed_now result = Closes (status.InputTooLong l) (too_long_text l) held_before held_now failed_before failed_now result
+
+-- the input that is left is known, and within the limits
+abbrev pub WithinLimits : Option (List ℕ) → Type 0
+WithinLimits None = ⊥
+WithinLimits (Some bytes) = AreShort (lines_of bytes) × (length bytes < input_limit)

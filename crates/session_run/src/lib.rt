@@ -14,7 +14,7 @@ pub use answer::{Answer, Cause};
 pub use lines::Lines;
 pub use next::{Limit, LineFault, Next};
 pub use request::{Member, Op, Request, read_request};
-pub use session::serve;
+pub use session::serve_lines;
 pub use status::Status;
 pub use turn::act;
 pub use write::{close, write_all};

@@ -10,7 +10,8 @@ ghost use Rattle.session_run.specs.Requests.{request_of};
 ghost use Rattle.session_run.specs.Answers.{answer_text};
 ghost use Rattle.session_run.specs.Turns.{Turn, answer_of, moment_by, moment_after, line_of};
 ghost use Rattle.session_run.specs.Acts.{Turned, Unanswered};
-ghost use Rattle.session_run.specs.Runs.{Ends, HasServed, CutShort, StopsAs, last_lines, too_long_text};
+ghost use Rattle.session_run.specs.Runs.{Ends, HasServed, CutShort, StopsAs, WithinLimits, last_lines, too_long_text};
+ghost use Rattle.session_run.specs.declared.next.Limit.{Limit};
 
 use crate::answer::Answer;
 use crate::lines::Lines;
@@ -35,7 +36,25 @@ enum Unserved {
 
 /// Serves the lines of an input, each answer as soon as it is known, and closes the output where the status
 /// has a line. The desk and the signer go on from where they are.
-pub fn serve<S: Signer, I: Source, O: Sink>(
+pub fn serve_lines<S: Signer, I: Source, O: Sink>(
+    alloc: Global,
+    genesis: Root,
+    desk: &mut Desk,
+    signer: &mut S,
+    input: &mut I,
+    out: &mut O,
+) -> Status
+    ensures ends { Ends genesis 0
+        (record { left = I.left input.old; held = O.held out.old; pair = record { desk = desk.old; told = S.told signer.old; faults = S.faults signer.old }; reads_failed = I.faults input.old; writes_failed = O.faults out.old })
+        (record { left = I.left input.new; held = O.held out.new; pair = record { desk = desk.new; told = S.told signer.new; faults = S.faults signer.new }; reads_failed = I.faults input.new; writes_failed = O.faults out.new })
+        result }
+    ensures within { WithinLimits (I.left input.old) → (l : Limit) → result ≢ Status.InputTooLong l }
+{
+    run_lines(alloc, genesis, desk, signer, input, out)
+}
+
+/// Serves the lines of an input.
+fn run_lines<S: Signer, I: Source, O: Sink>(
     alloc: Global,
     genesis: Root,
     desk: &mut Desk,

@@ -2,7 +2,7 @@ use Rattle.std.proofs.Common.{◌≡◌, ◌+◌, ◌≤◌, ◌<◌, length}
 use Rattle.check_sign.specs.Machine.{moment_limit}
 use Rattle.session_run.specs.Lines.{input_limit}
 use Rattle.session_run.specs.Runs.{SoFar}
-use Rattle.session_run.proofs.session.serve.Given as goal
+use Rattle.session_run.proofs.session.run_lines.Given as goal
 
 abbrev pub invariant-lines : goal.invariant-lines
 invariant-lines g l = record {

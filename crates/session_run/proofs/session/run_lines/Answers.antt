@@ -1,7 +1,7 @@
 use Rattle.std.proofs.Common.{◌≡◌, ◌≤◌, ◌<◌, ◌+◌, Err, refl, sym, ◌∙◌, ap, arith, length, length-append}
 use Rattle.session_run.specs.Runs.{last_lines}
 use Rattle.session_run.proofs.SessionLemmas.{so_far_none, so_far_line, session_done, breaks_line, breaks_last, leaves_line, leaves_last, leaves_begin, rose_back, ends_stop, counted}
-use Rattle.session_run.proofs.session.serve.Goals as goal
+use Rattle.session_run.proofs.session.run_lines.Goals as goal
 
 pub returns-in_default : goal.returns-in_default
 returns-in_default g c = leaves_begin _ _ _ _ _ _ _ _
