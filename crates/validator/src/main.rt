@@ -3,9 +3,11 @@
 
 use edge_kit::{Clock, Disk, Disks, Door, Reading, Writing};
 use signer_link::MemSigner;
+use std::alloc::AllocError;
 use std::process::ExitCode;
+use std::rt::Env;
 use std::{env, io};
-use validator_cli::{Node, run_validator};
+use validator_cli::{Node, Status, run_validator};
 
 /// What no command uses yet.
 #[derive(Clone, Copy, Drop)]
@@ -25,12 +27,25 @@ impl Node for Unused {
 
 impl Clock for Unused {}
 
-fn main(rt: HostRuntime) -> io::Result<ExitCode> {
-    let alloc = rt.alloc();
-    let mut words: Vec<String> = Vec::new(alloc);
-    for word in env::args(&rt)? {
+/// The words of the command line. Where one is no UTF-8 there are none, which is no command.
+fn words<R: Env + AllocGlobal>(rt: &R) -> Result<Vec<String>, AllocError> {
+    let mut words: Vec<String> = Vec::new(rt.alloc());
+    let args = match env::args(rt) {
+        Ok(args) => args,
+        Err(error) if error.kind() == io::ErrorKind::OutOfMemory => return Err(AllocError),
+        Err(_) => return Ok(words),
+    };
+    for word in args {
         words.push(word)?;
     }
+    Ok(words)
+}
+
+fn main(rt: HostRuntime) -> ExitCode {
+    let alloc = rt.alloc();
+    let Ok(words) = words(&rt) else {
+        return ExitCode::from(Status::OutOfMemory.code());
+    };
     let mut input = Reading::new(rt.reader());
     let mut output = Writing::new(io::writer(&rt));
     let nodes: Vec<Unused> = Vec::new(alloc);
@@ -49,5 +64,5 @@ fn main(rt: HostRuntime) -> io::Result<ExitCode> {
         &mut input,
         &mut output,
     );
-    Ok(ExitCode::from(ending.status.code()))
+    ExitCode::from(ending.status.code())
 }
