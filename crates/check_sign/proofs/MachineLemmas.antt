@@ -13,7 +13,7 @@ use Rattle.protect_record.specs.declared.verdict.Verdict.TheVariants as verdict
 use Rattle.check_sign.specs.Keys.{kept_of, with_key, with_kept, EachKey}
 use Rattle.check_sign.specs.Contents.{Contents}
 use Rattle.check_sign.specs.Taking.{Judged, Grew}
-use Rattle.check_sign.specs.Machine.{State, DeskStands, StandsForPast, IsRefusal, past_of, grown, grant_for}
+use Rattle.check_sign.specs.Machine.{State, DeskStands, IsRefusal, past_of, grown, grant_for}
 use Rattle.check_sign.specs.declared.event.DeskEvent.{DeskEvent}
 use Rattle.check_sign.specs.declared.open_grant.OpenGrant.{OpenGrant}
 use Rattle.check_sign.proofs.KeyLemmas.{each_found, each_refit, each_changed}
@@ -29,16 +29,16 @@ same_stands p q past same s = record {
 }
 
 -- a judged proposal, at the state
-pub judged : (old new : List (PubKey × Parts)) (keys : List (PubKey × Past)) (key : PubKey) (m : Message) (v : Verdict) → EachKey StandsForPast old keys → Judged old new key m v
-    → (past : Past) × (kept_of keys key ≡ Some past) × (roomy : Parts) × Stands roomy past × IsVerdict roomy m v × (v ≡ verdict.Pass → Passes past m) × (Passes past m → v ≡ verdict.Pass) × EachKey StandsForPast new keys
+pub judged : (old new : List (PubKey × Parts)) (keys : List (PubKey × Past)) (key : PubKey) (m : Message) (v : Verdict) → EachKey Stands old keys → Judged old new key m v
+    → (past : Past) × (kept_of keys key ≡ Some past) × (roomy : Parts) × Stands roomy past × IsVerdict roomy m v × (v ≡ verdict.Pass → Passes past m) × (Passes past m → v ≡ verdict.Pass) × EachKey Stands new keys
 judged old new keys key m v each j =
-    let found = each_found StandsForPast old keys key j.parts each j.is_kept in
+    let found = each_found Stands old keys key j.parts each j.is_kept in
     let past = found.0 in
-    let stands = same_stands j.parts j.roomy past j.same found.2.1 in
-    let passes = j.passes past found.2.0 stands in
-    let E : List (PubKey × Parts) → Type 0 = λ l. EachKey StandsForPast l keys in
-    let P : Past → Type 0 = λ p. StandsForPast j.roomy p in
-    let others = each_refit StandsForPast old keys key j.roomy each (λ y e. subst P (same_past past y (sym found.1 ∙ e)) (found.2.0, stands)) in
+    let stands = same_stands j.parts j.roomy past j.same found.2 in
+    let passes = j.passes past stands in
+    let E : List (PubKey × Parts) → Type 0 = λ l. EachKey Stands l keys in
+    let P : Past → Type 0 = λ p. Stands j.roomy p in
+    let others = each_refit Stands old keys key j.roomy each (λ y e. subst P (same_past past y (sym found.1 ∙ e)) stands) in
     (past, found.1, j.roomy, stands, j.is_verdict, passes.0, passes.1, subst E (sym j.others) others) where
       same_past : (a b : Past) → Some a ≡ Some b → a ≡ b
       same_past a b h = cc
@@ -47,8 +47,8 @@ some_is : {A : Type 0} (o : Option A) (x : A) (P : A → Type 0) → o ≡ Some 
 some_is o x P e p = rw e p
 
 -- a refused proposal
-pub refused : (old new : List (PubKey × Parts)) (state : State) (key : PubKey) (m : Message) (v : Verdict) → EachKey StandsForPast old state.keys → ¬ (v ≡ verdict.Pass) → Judged old new key m v
-    → IsSomeAnd (past_of state key) (λ past. IsRefusal past m v) × EachKey StandsForPast new state.keys
+pub refused : (old new : List (PubKey × Parts)) (state : State) (key : PubKey) (m : Message) (v : Verdict) → EachKey Stands old state.keys → ¬ (v ≡ verdict.Pass) → Judged old new key m v
+    → IsSomeAnd (past_of state key) (λ past. IsRefusal past m v) × EachKey Stands new state.keys
 refused old new state key m v each no_pass j =
     let at = judged old new state.keys key m v each j in (
       some_is (past_of state key) at.0 (λ past. IsRefusal past m v) at.1 (record { parts = at.2; stands = at.3; is_verdict = at.4; is_no_pass = no_pass; forbids = λ p. no_pass (at.6 p) }),
@@ -56,24 +56,24 @@ refused old new state key m v each no_pass j =
     )
 
 -- a proposal that passes, and for which there is no room
-pub no_room : (old new : List (PubKey × Parts)) (state : State) (key : PubKey) (m : Message) → EachKey StandsForPast old state.keys → Judged old new key m verdict.Pass
-    → IsSomeAnd (past_of state key) (λ past. Passes past m) × EachKey StandsForPast new state.keys
+pub no_room : (old new : List (PubKey × Parts)) (state : State) (key : PubKey) (m : Message) → EachKey Stands old state.keys → Judged old new key m verdict.Pass
+    → IsSomeAnd (past_of state key) (λ past. Passes past m) × EachKey Stands new state.keys
 no_room old new state key m each j =
     let at = judged old new state.keys key m verdict.Pass each j in
     (some_is (past_of state key) at.0 (λ past. Passes past m) at.1 (at.5 refl), at.7)
 
 -- a proposal that is granted
-pub granted : (old new : List (PubKey × Parts)) (state : State) (key : PubKey) (m : Message) → EachKey StandsForPast old state.keys → Grew old new key m
-    → IsSomeAnd (past_of state key) (λ past. Passes past m) × EachKey StandsForPast new (grown state.keys key m (past_of state key))
+pub granted : (old new : List (PubKey × Parts)) (state : State) (key : PubKey) (m : Message) → EachKey Stands old state.keys → Grew old new key m
+    → IsSomeAnd (past_of state key) (λ past. Passes past m) × EachKey Stands new (grown state.keys key m (past_of state key))
 granted old new state key m each g =
-    let found = each_found StandsForPast old state.keys key g.parts each g.is_kept in
+    let found = each_found Stands old state.keys key g.parts each g.is_kept in
     let past = found.0 in
-    let stands = same_stands g.parts g.roomy past g.same found.2.1 in
-    let fits : StandsForPast g.after (with_own past m) = (found.2.0, g.stands past found.2.0 stands) in
-    let E : Option Past → Type 0 = λ o. EachKey StandsForPast (with_kept old key g.after) (grown state.keys key m o) in
-    let F : List (PubKey × Parts) → Type 0 = λ l. EachKey StandsForPast l (grown state.keys key m (past_of state key)) in (
-      some_is (past_of state key) past (λ p. Passes p m) found.1 (g.passes past found.2.0 stands),
-      subst F (sym g.others) (subst E (sym found.1) (each_changed StandsForPast old state.keys key g.after (with_own past m) each fits)),
+    let stands = same_stands g.parts g.roomy past g.same found.2 in
+    let fits = g.stands past stands in
+    let E : Option Past → Type 0 = λ o. EachKey Stands (with_kept old key g.after) (grown state.keys key m o) in
+    let F : List (PubKey × Parts) → Type 0 = λ l. EachKey Stands l (grown state.keys key m (past_of state key)) in (
+      some_is (past_of state key) past (λ p. Passes p m) found.1 (g.passes past stands),
+      subst F (sym g.others) (subst E (sym found.1) (each_changed Stands old state.keys key g.after (with_own past m) each fits)),
     )
 
 -- a desk as it was opened
@@ -82,7 +82,7 @@ opened desk seen state e s = let P : Contents → Type 0 = λ d. DeskStands d st
 
 -- a desk whose keys and latest moment alone may differ
 pub restated : (desk : Contents) (state : State) (keys : List (PubKey × Parts)) (pasts : List (PubKey × Past)) (grants : List OpenGrant) (next latest now : ℕ) (events : List DeskEvent) → DeskStands desk state
-    → grants ≡ desk.grants → next ≡ desk.next → latest ≡ max desk.latest now → EachKey StandsForPast keys pasts
+    → grants ≡ desk.grants → next ≡ desk.next → latest ≡ max desk.latest now → EachKey Stands keys pasts
     → DeskStands (record { keys = keys; grants = grants; next = next; latest = latest; events = events }) (record { keys = pasts; grants = state.grants; next = state.next; latest = max state.latest now })
 restated desk state keys pasts grants next latest now events s g n l each = record {
   keys = each;
@@ -93,7 +93,7 @@ restated desk state keys pasts grants next latest now events s g n l each = reco
 
 -- a desk with one more open grant
 pub opened_one : (desk : Contents) (state : State) (keys : List (PubKey × Parts)) (pasts : List (PubKey × Past)) (roomy grants : List OpenGrant) (grant : OpenGrant) (latest now : ℕ) (events : List DeskEvent) → DeskStands desk state
-    → grants ≡ roomy ++ grant ∷ [] → roomy ≡ desk.grants → latest ≡ max desk.latest now → EachKey StandsForPast keys pasts
+    → grants ≡ roomy ++ grant ∷ [] → roomy ≡ desk.grants → latest ≡ max desk.latest now → EachKey Stands keys pasts
     → DeskStands (record { keys = keys; grants = grants; next = desk.next + 1; latest = latest; events = events }) (record { keys = pasts; grants = state.grants ++ grant ∷ []; next = state.next + 1; latest = max state.latest now })
 opened_one desk state keys pasts roomy grants grant latest now events s g r l each = record {
   keys = each;

@@ -43,11 +43,8 @@ abbrev pub past_of : State → PubKey → Option Past
 past_of state key = kept_of state.keys key
 
 -- a desk stands for a state: each record stands for its past, and all else is equal
-abbrev pub StandsForPast : Parts → Past → Type 0
-StandsForPast parts past = (past.books ≡ []) × Stands parts past
-
 pub record DeskStands (desk : Contents) (state : State) : Type 0 where
-  pub keys : EachKey StandsForPast desk.keys state.keys
+  pub keys : EachKey Stands desk.keys state.keys
   pub grants : desk.grants ≡ state.grants
   pub next : desk.next ≡ state.next
   pub latest : desk.latest ≡ state.latest

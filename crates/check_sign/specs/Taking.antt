@@ -26,7 +26,7 @@ pub record Judged (old new : List (PubKey × Parts)) (key : PubKey) (m : Message
   pub roomy : Parts
   pub same : SameParts parts roomy
   pub is_verdict : IsVerdict roomy m v
-  pub passes : (past : Past) → past.books ≡ [] → Stands roomy past → ((v ≡ verdict.Pass → Passes past m) × (Passes past m → v ≡ verdict.Pass))
+  pub passes : (past : Past) → Stands roomy past → ((v ≡ verdict.Pass → Passes past m) × (Passes past m → v ≡ verdict.Pass))
   pub others : new ≡ with_kept old key roomy
 
 -- the message passed, and the record now stands for one own message more
@@ -35,9 +35,9 @@ pub record Grew (old new : List (PubKey × Parts)) (key : PubKey) (m : Message) 
   pub is_kept : kept_of old key ≡ Some parts
   pub roomy : Parts
   pub same : SameParts parts roomy
-  pub passes : (past : Past) → past.books ≡ [] → Stands roomy past → Passes past m
+  pub passes : (past : Past) → Stands roomy past → Passes past m
   pub after : Parts
-  pub stands : (past : Past) → past.books ≡ [] → Stands roomy past → Stands after (with_own past m)
+  pub stands : (past : Past) → Stands roomy past → Stands after (with_own past m)
   pub others : new ≡ with_kept old key after
 
 abbrev pub Takes : List (PubKey × Parts) → List (PubKey × Parts) → PubKey → Message → Taken → Type 0

@@ -20,7 +20,7 @@ use Rattle.protect_record.specs.Verdicts.{IsBlockVerdict, ConflictsWith}
 use Rattle.protect_record.specs.declared.verdict.Verdict.{Verdict}
 use Rattle.protect_record.specs.declared.verdict.Verdict.TheVariants as verdict
 use Rattle.protect_record.proofs.MemberLemmas.{All-from_contains}
-use Rattle.protect_record.proofs.FloorLemmas.{block_floor-is, entry_below, floor_set}
+use Rattle.protect_record.proofs.FloorLemmas.{entry_below, floor_set}
 
 pub root_cases : (r q : Root) → (r ≡ q) ⊎ (r ≢ q)
 root_cases r q = at (cases_Bool (bytes_eq r.0 q.0)) where
@@ -47,7 +47,7 @@ lives (Some f) slot other over le dead = absurd (omega arith)
 at_floor : (o : Option ℕ) (slot m : ℕ) → IfSome o (λ f. f ≤ slot) → o ≡ Some m → m ≤ slot
 at_floor o slot m over is = let there : IfSome (Some m) (λ f. f ≤ slot) = subst (λ (p : Option ℕ). IfSome p (λ f. f ≤ slot)) is over in there
 
-floor_of : (parts : Parts) (past : Past) → Stands parts past → parts.floors.block ≡ (floors_of past.books).block
+pub floor_of : (parts : Parts) (past : Past) → Stands parts past → parts.floors.block ≡ (floors_of past.books).block
 floor_of parts past stands = ap (λ f. f.block) stands.floors
 
 pub block_passes : (parts : Parts) (past : Past) (slot : ℕ) (root : Root) → Stands parts past
@@ -64,7 +64,7 @@ block_passes parts past slot root stands pass =
       in_book b has (inl conflict) = free conflict.0 (inl (b, has, conflict.1)) (omega (arith, conflict.2.0)) conflict.2
       in_book b has (inr low) =
           let one = entry_below (λ c. c.blocks) (λ e. e.slot) past.books b has low.0 in
-          let floor : parts.floors.block ≡ Some one.2.0 = floor_of parts past stands ∙ block_floor-is past.books ∙ one.2.1 in
+          let floor : parts.floors.block ≡ Some one.2.0 = floor_of parts past stands ∙ one.2.1 in
           let over : one.2.0 ≤ slot = at_floor parts.floors.block slot one.2.0 pass.0 floor in
           let under : slot ≤ one.0.slot = All-contains (λ e. slot ≤ e.slot) b.blocks one.0 low.1 one.1 in
           let same : one.0.slot ≡ slot = omega (arith, over, under, one.2.2) in
@@ -74,18 +74,20 @@ block_passes parts past slot root stands pass =
       own (message.Block a r) has slash = let e : BlockEntry = record { slot = a; root = Some r } in free e (inr (r, refl, has)) (omega (arith, slash.0)) slash
       own (message.Vote s t r) has slash = slash
 
+-- an entry of the past that conflicts keeps the block from passing
+pub refused_block : (past : Past) (slot : ℕ) (root : Root) (e : BlockEntry) → Passes past (message.Block slot root) → ConflictsWith slot root e → IsPastBlock past e → ⊥
+refused_block past slot root e passes conflict (inl in_book) = All-contains (λ b. ¬ (BookRefuses b (message.Block slot root))) past.books in_book.0 passes.0 in_book.1 (inl (e, in_book.2, conflict))
+refused_block past slot root e passes conflict (inr own) = All-contains (λ n. ¬ (Slashable n (message.Block slot root))) past.own (message.Block e.slot own.0) passes.1 own.2 (conflict.0, differs e.root own.0 root own.1 conflict.1)
+
 pub block_passed : (parts : Parts) (past : Past) (slot : ℕ) (root : Root) → Stands parts past → Passes past (message.Block slot root)
     → (v : Verdict) → IsBlockVerdict parts.floors.block parts.blocks slot root v → v ≡ verdict.Pass
 block_passed parts past slot root stands passes verdict.Pass is = refl
 block_passed parts past slot root stands passes (verdict.SlotBelow f) is =
-    let set = floor_set (λ c. c.blocks) (λ e. e.slot) past.books f (sym (block_floor-is past.books) ∙ sym (floor_of parts past stands) ∙ is.0) in
+    let set = floor_set (λ c. c.blocks) (λ e. e.slot) past.books f (sym (floor_of parts past stands) ∙ is.0) in
     absurd (All-contains (λ b. ¬ (BookRefuses b (message.Block slot root))) past.books set.0 passes.0 set.1 (inr (
       set.2,
       All-from_contains (λ e. slot ≤ e.slot) set.0.blocks (λ e has. let up : f ≤ e.slot = All-contains (λ y. f ≤ y.slot) set.0.blocks e set.4 has in omega (arith, is.1)),
       λ same. let up : f ≤ same.0.slot = All-contains (λ y. f ≤ y.slot) set.0.blocks same.0 set.4 same.1 in omega (arith, is.1, same.2.0),
     )))
-block_passed parts past slot root stands passes (verdict.DoubleBlock e) is = absurd (refused ((stands.blocks e).0 is.1.is_kept).0) where
-  refused : IsPastBlock past e → ⊥
-  refused (inl in_book) = All-contains (λ b. ¬ (BookRefuses b (message.Block slot root))) past.books in_book.0 passes.0 in_book.1 (inl (e, in_book.2, is.1.passes))
-  refused (inr own) = All-contains (λ n. ¬ (Slashable n (message.Block slot root))) past.own (message.Block e.slot own.0) passes.1 own.2 (is.1.passes.0, differs e.root own.0 root own.1 is.1.passes.1)
+block_passed parts past slot root stands passes (verdict.DoubleBlock e) is = absurd (refused_block past slot root e passes is.1.passes ((stands.blocks e).0 is.1.is_kept).0)
 block_passed parts past slot root stands passes v is = absurd is

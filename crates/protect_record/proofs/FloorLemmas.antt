@@ -1,20 +1,20 @@
 -- Floors: each book with entries has one that is not above the floor, and one book has set it.
 use Rattle.std.proofs.Common.{◌≡◌, ◌≢◌, ℕ, ◌<◌, ◌≤◌, ◌⊎◌, inl, inr, min, max, List, [], ◌∷◌, Option, Some, None, refl, sym, ◌∙◌, ap, subst, arith, All, Contains}
-use Rattle.std.specs.Option.{option_zip, option_map}
+use Rattle.std.specs.Option.{option_map}
 use Rattle.std.proofs.lemmas.Bool.{cases_lt}
 use Rattle.slash_defs.specs.declared.entry.VoteEntry.{VoteEntry}
 use Rattle.slash_defs.specs.declared.book.Book.{Book}
-use Rattle.protect_record.specs.Floors.{lesser, least_by, greater, greater_pair, book_floors, floors_of}
+use Rattle.protect_record.specs.Floors.{lesser, lesser_pair, least_by, least_pair_by, greater, greater_pair, greatest_by, epochs, floors_of}
 use Rattle.protect_record.proofs.MemberLemmas.{All-from_contains, contains_first, contains_later, contains_cases, contains_none}
 
 none≢some : {X A : Type 0} (x : X) → None ≡ Some x → A
 none≢some {X} {A} x e = cc
 
-some-injective : {X : Type 0} (x y : X) → Some x ≡ Some y → x ≡ y
+pub some-injective : {X : Type 0} (x y : X) → Some x ≡ Some y → x ≡ y
 some-injective {X} x y e = cc
 
 -- the least of the numbers is at most each
-least_below : {X : Type 0} (f : X → ℕ) (xs : List X) (x : X) → Contains xs x → (l : ℕ) × (least_by f xs ≡ Some l) × (l ≤ f x)
+pub least_below : {X : Type 0} (f : X → ℕ) (xs : List X) (x : X) → Contains xs x → (l : ℕ) × (least_by f xs ≡ Some l) × (l ≤ f x)
 least_below f [] x has = contains_none x has
 least_below {X} f (y ∷ ys) x has = at (λ later. least_below f ys x later) (contains_cases y ys x has) where
   here : (r : Option ℕ) → (l : ℕ) × (lesser (Some (f y)) r ≡ Some l) × (l ≤ f y)
@@ -26,7 +26,7 @@ least_below {X} f (y ∷ ys) x has = at (λ later. least_below f ys x later) (co
   at rest (inr later) = let h = rest later in (min (f y) h.0, ap (λ r. lesser (Some (f y)) r) h.1, omega (arith, h.2))
 
 -- and is that of one of them
-least_attained : {X : Type 0} (f : X → ℕ) (xs : List X) (l : ℕ) → least_by f xs ≡ Some l → (x : X) × Contains xs x × (f x ≡ l)
+pub least_attained : {X : Type 0} (f : X → ℕ) (xs : List X) (l : ℕ) → least_by f xs ≡ Some l → (x : X) × Contains xs x × (f x ≡ l)
 least_attained f [] l e = none≢some l e
 least_attained {X} f (y ∷ ys) l e = at (λ m is. least_attained f ys m is) (least_by f ys) refl e where
   both : (m : ℕ) → ((x : X) × Contains ys x × (f x ≡ m)) → min (f y) m ≡ l → (f y < m) ⊎ (m ≤ f y) → (x : X) × Contains (y ∷ ys) x × (f x ≡ l)
@@ -37,11 +37,7 @@ least_attained {X} f (y ∷ ys) l e = at (λ m is. least_attained f ys m is) (le
   at rest None is h = (y, contains_first y ys, some-injective (f y) l h)
   at rest (Some m) is h = both m (rest m is) (some-injective (min (f y) m) l h) (cases_lt (f y) m)
 
--- the greatest of what each element gives
-abbrev pub greatest_by : {X : Type 0} → (X → Option ℕ) → List X → Option ℕ
-greatest_by f [] = None
-greatest_by f (x ∷ xs) = greater (f x) (greatest_by f xs)
-
+-- the greatest is at least each
 greatest_above : {X : Type 0} (f : X → Option ℕ) (xs : List X) (x : X) (l : ℕ) → Contains xs x → f x ≡ Some l → (m : ℕ) × (greatest_by f xs ≡ Some m) × (l ≤ m)
 greatest_above f [] x l has e = contains_none x has
 greatest_above {X} f (y ∷ ys) x l has e = at (λ later. greatest_above f ys x l later e) (contains_cases y ys x has) where
@@ -60,7 +56,7 @@ greatest_above {X} f (y ∷ ys) x l has e = at (λ later. greatest_above f ys x 
       let h = later (f y) r.0 r.2 in
       (h.0, ap (λ q. greater (f y) q) r.1 ∙ h.1, h.2)
 
-greatest_attained : {X : Type 0} (f : X → Option ℕ) (xs : List X) (m : ℕ) → greatest_by f xs ≡ Some m → (x : X) × Contains xs x × (f x ≡ Some m)
+pub greatest_attained : {X : Type 0} (f : X → Option ℕ) (xs : List X) (m : ℕ) → greatest_by f xs ≡ Some m → (x : X) × Contains xs x × (f x ≡ Some m)
 greatest_attained f [] m e = none≢some m e
 greatest_attained {X} f (y ∷ ys) m e = at (λ is. behind (greatest_attained f ys m is)) (f y) refl (greatest_by f ys) refl e where
   behind : ((x : X) × Contains ys x × (f x ≡ Some m)) → (x : X) × Contains (y ∷ ys) x × (f x ≡ Some m)
@@ -75,11 +71,7 @@ greatest_attained {X} f (y ∷ ys) m e = at (λ is. behind (greatest_attained f 
   at rest (Some k) p None is h = (y, contains_first y ys, p ∙ h)
   at rest (Some k) p (Some n) is h = both rest k n p is (some-injective (max k n) m h) (cases_lt k n)
 
--- each of the three floors is such a greatest of leasts
-pub block_floor-is : (books : List Book) → (floors_of books).block ≡ greatest_by (λ b. least_by (λ e. e.slot) b.blocks) books
-block_floor-is [] = refl
-block_floor-is (b ∷ bs) = ap (λ q. greater (least_by (λ e. e.slot) b.blocks) q) (block_floor-is bs)
-
+-- the two floors of votes are such greatests of leasts, each for itself
 first-greater : (p q : Option (ℕ × ℕ)) → option_map (λ x. x.0) (greater_pair p q) ≡ greater (option_map (λ x. x.0) p) (option_map (λ x. x.0) q)
 first-greater None q = refl
 first-greater (Some p) None = refl
@@ -90,37 +82,35 @@ second-greater None q = refl
 second-greater (Some p) None = refl
 second-greater (Some p) (Some q) = refl
 
-first-zip : (x y : ℕ) (p q : Option ℕ) → option_map (λ x. x.0) (option_zip (lesser (Some x) p) (lesser (Some y) q)) ≡ lesser (Some x) p
-first-zip x y None None = refl
-first-zip x y None (Some n) = refl
-first-zip x y (Some m) None = refl
-first-zip x y (Some m) (Some n) = refl
+first-lesser : (p q : Option (ℕ × ℕ)) → option_map (λ x. x.0) (lesser_pair p q) ≡ lesser (option_map (λ x. x.0) p) (option_map (λ x. x.0) q)
+first-lesser None q = refl
+first-lesser (Some p) None = refl
+first-lesser (Some p) (Some q) = refl
 
-second-zip : (x y : ℕ) (p q : Option ℕ) → option_map (λ x. x.1) (option_zip (lesser (Some x) p) (lesser (Some y) q)) ≡ lesser (Some y) q
-second-zip x y None None = refl
-second-zip x y None (Some n) = refl
-second-zip x y (Some m) None = refl
-second-zip x y (Some m) (Some n) = refl
+second-lesser : (p q : Option (ℕ × ℕ)) → option_map (λ x. x.1) (lesser_pair p q) ≡ lesser (option_map (λ x. x.1) p) (option_map (λ x. x.1) q)
+second-lesser None q = refl
+second-lesser (Some p) None = refl
+second-lesser (Some p) (Some q) = refl
 
-book_source : (votes : List VoteEntry) → option_map (λ x. x.0) (option_zip (least_by (λ e. e.source) votes) (least_by (λ e. e.target) votes)) ≡ least_by (λ e. e.source) votes
+book_source : (votes : List VoteEntry) → option_map (λ x. x.0) (least_pair_by epochs votes) ≡ least_by (λ e. e.source) votes
 book_source [] = refl
-book_source (v ∷ vs) = first-zip v.source v.target (least_by (λ e. e.source) vs) (least_by (λ e. e.target) vs)
+book_source (v ∷ vs) = first-lesser (Some (epochs v)) (least_pair_by epochs vs) ∙ ap (λ r. lesser (Some v.source) r) (book_source vs)
 
-book_target : (votes : List VoteEntry) → option_map (λ x. x.1) (option_zip (least_by (λ e. e.source) votes) (least_by (λ e. e.target) votes)) ≡ least_by (λ e. e.target) votes
+book_target : (votes : List VoteEntry) → option_map (λ x. x.1) (least_pair_by epochs votes) ≡ least_by (λ e. e.target) votes
 book_target [] = refl
-book_target (v ∷ vs) = second-zip v.source v.target (least_by (λ e. e.source) vs) (least_by (λ e. e.target) vs)
+book_target (v ∷ vs) = second-lesser (Some (epochs v)) (least_pair_by epochs vs) ∙ ap (λ r. lesser (Some v.target) r) (book_target vs)
 
 pub source_floor-is : (books : List Book) → option_map (λ x. x.0) (floors_of books).vote ≡ greatest_by (λ b. least_by (λ e. e.source) b.votes) books
 source_floor-is [] = refl
 source_floor-is (b ∷ bs) =
-    first-greater (book_floors b).vote (floors_of bs).vote
+    first-greater (least_pair_by epochs b.votes) (floors_of bs).vote
     ∙ ap (λ p. greater p (option_map (λ x. x.0) (floors_of bs).vote)) (book_source b.votes)
     ∙ ap (λ q. greater (least_by (λ e. e.source) b.votes) q) (source_floor-is bs)
 
 pub target_floor-is : (books : List Book) → option_map (λ x. x.1) (floors_of books).vote ≡ greatest_by (λ b. least_by (λ e. e.target) b.votes) books
 target_floor-is [] = refl
 target_floor-is (b ∷ bs) =
-    second-greater (book_floors b).vote (floors_of bs).vote
+    second-greater (least_pair_by epochs b.votes) (floors_of bs).vote
     ∙ ap (λ p. greater p (option_map (λ x. x.1) (floors_of bs).vote)) (book_target b.votes)
     ∙ ap (λ q. greater (least_by (λ e. e.target) b.votes) q) (target_floor-is bs)
 

@@ -1,6 +1,14 @@
 pub mod OrderLemmas
 pub mod MemberLemmas
+pub mod BoundLemmas
 pub mod FloorLemmas
 pub mod BlockLemmas
 pub mod VoteLemmas
 pub mod StandLemmas
+pub mod UniteLemmas
+pub mod LiveLemmas
+pub mod JoinLemmas
+pub mod GainLemmas
+pub mod ExportLemmas
+pub mod PruneLemmas
+pub mod PlaceLemmas

@@ -1,6 +1,6 @@
 -- What a record that stands for a past says, and what it stands for after a message is added.
 use Rattle.std.proofs.Common.{◌≡◌, ℕ, ◌⊎◌, ◌↔◌, inl, inr, List, [], ◌∷◌, Some, refl, sym, ◌∙◌, ap, subst, arith, Contains}
-use Rattle.std.proofs.lemmas.List.Elements.{Contains-append_left, Contains-push, Contains-push_cases}
+use Rattle.std.proofs.lemmas.List.Elements.{All-contains, Contains-append_left, Contains-push, Contains-push_cases}
 use Rattle.edge_kit.specs.declared.bytes.Root.{Root}
 use Rattle.slash_defs.specs.declared.message.Message.{Message}
 use Rattle.slash_defs.specs.declared.message.Message.TheVariants as message
@@ -14,10 +14,12 @@ use Rattle.protect_record.specs.Passing.{Passes}
 use Rattle.protect_record.specs.Floors.{IsDeadBlock, IsDeadVote}
 use Rattle.protect_record.specs.Standing.{Stands}
 use Rattle.protect_record.specs.Verdicts.{IsVerdict, IsBlockVerdict, IsVoteVerdict}
-use Rattle.protect_record.specs.Changes.{HasAdded}
+use Rattle.protect_record.specs.Changes.{HasJoined, HasAdded}
 use Rattle.protect_record.specs.declared.floors.Floors.{Floors}
 use Rattle.protect_record.specs.declared.verdict.Verdict.{Verdict}
 use Rattle.protect_record.specs.declared.verdict.Verdict.TheVariants as verdict
+use Rattle.protect_record.specs.Gathering.{IsWellKept}
+use Rattle.protect_record.proofs.MemberLemmas.{All-from_contains}
 use Rattle.protect_record.proofs.BlockLemmas.{block_passes, block_passed, lives}
 use Rattle.protect_record.proofs.VoteLemmas.{vote_passes, vote_passed, vote_lives}
 
@@ -134,3 +136,28 @@ added_stands old new past (message.Vote s t root) pass added stands = record {
     at : IsPastBlock past e ⊎ ((r : Root) × (e.root ≡ Some r) × (message.Vote s t root ≡ message.Block e.slot r)) → Contains new.blocks e
     at (inl is) = subst (λ (xs : List BlockEntry). Contains xs e) (sym added.1) ((stands.blocks e).1 (is, subst (λ (f : Floors). ¬ (IsDeadBlock f e)) added.2 h.1))
     at (inr one) = no_block s t e.slot root one.0 one.2
+
+-- a record stays well kept with one more entry that passed
+pub block_kept : (floors : Floors) (blocks new : List BlockEntry) (votes : List VoteEntry) (slot : ℕ) (root : Root) → IsWellKept floors blocks votes
+    → HasJoined block_cmp blocks new (record { slot = slot; root = Some root }) → IsBlockVerdict floors.block blocks slot root verdict.Pass → IsWellKept floors new votes
+block_kept floors blocks new votes slot root kept joins pass = record {
+  blocks_in_order = joins.in_order;
+  votes_in_order = kept.votes_in_order;
+  live_blocks = All-from_contains (λ e. ¬ (IsDeadBlock floors e)) new (λ e has. live e ((joins.elements e).0 has));
+  live_votes = kept.live_votes;
+} where
+  live : (e : BlockEntry) → Contains blocks e ⊎ (e ≡ record { slot = slot; root = Some root }) → ¬ (IsDeadBlock floors e)
+  live e (inl has) = All-contains (λ x. ¬ (IsDeadBlock floors x)) blocks e kept.live_blocks has
+  live e (inr same) = lives floors.block slot e.slot pass.0 (let at : e.slot ≡ slot = ap (λ (x : BlockEntry). x.slot) same in omega (arith, at))
+
+pub vote_kept : (floors : Floors) (blocks : List BlockEntry) (votes new : List VoteEntry) (s t : ℕ) (root : Root) → IsWellKept floors blocks votes
+    → HasJoined vote_cmp votes new (record { target = t; source = s; root = Some root }) → IsVoteVerdict floors.vote votes s t root verdict.Pass → IsWellKept floors blocks new
+vote_kept floors blocks votes new s t root kept joins pass = record {
+  blocks_in_order = kept.blocks_in_order;
+  votes_in_order = joins.in_order;
+  live_blocks = kept.live_blocks;
+  live_votes = All-from_contains (λ e. ¬ (IsDeadVote floors e)) new (λ e has. live e ((joins.elements e).0 has));
+} where
+  live : (e : VoteEntry) → Contains votes e ⊎ (e ≡ record { target = t; source = s; root = Some root }) → ¬ (IsDeadVote floors e)
+  live e (inl has) = All-contains (λ x. ¬ (IsDeadVote floors x)) votes e kept.live_votes has
+  live e (inr same) = vote_lives floors.vote s t e pass.0 (inl (let at : e.target ≡ t = ap (λ (x : VoteEntry). x.target) same in omega (arith, at)))

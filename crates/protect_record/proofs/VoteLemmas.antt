@@ -51,7 +51,7 @@ source_of parts past stands = ap (λ f. option_map (λ x. x.0) f.vote) stands.fl
 target_of : (parts : Parts) (past : Past) → Stands parts past → option_map (λ x. x.1) parts.floors.vote ≡ option_map (λ x. x.1) (floors_of past.books).vote
 target_of parts past stands = ap (λ f. option_map (λ x. x.1) f.vote) stands.floors
 
-same_number : (a b : ℕ) → ¬ (a ≢ b) → a ≡ b
+pub same_number : (a b : ℕ) → ¬ (a ≢ b) → a ≡ b
 same_number a b same = at (cases_eq a b) where
   at : (a ≡ b) ⊎ (a ≡ b → ⊥) → a ≡ b
   at (inl e) = e
@@ -102,7 +102,7 @@ vote_passes parts past s t root stands pass =
       own (message.Block a r) has slash = slash
 
 -- an entry of the past that conflicts keeps the vote from passing
-refused : (past : Past) (s t : ℕ) (root : Root) (e : VoteEntry) → Passes past (message.Vote s t root) → Conflict (entry.Vote e) (message.Vote s t root) → IsPastVote past e → ⊥
+pub refused : (past : Past) (s t : ℕ) (root : Root) (e : VoteEntry) → Passes past (message.Vote s t root) → Conflict (entry.Vote e) (message.Vote s t root) → IsPastVote past e → ⊥
 refused past s t root e passes conflict (inl in_book) = All-contains (λ b. ¬ (BookRefuses b (message.Vote s t root))) past.books in_book.0 passes.0 in_book.1 (inl (e, in_book.2, conflict))
 refused past s t root e passes conflict (inr own) = All-contains (λ n. ¬ (Slashable n (message.Vote s t root))) past.own (message.Vote e.source e.target own.0) passes.1 own.2 (slash conflict) where
   slash : Conflict (entry.Vote e) (message.Vote s t root) → Slashable (message.Vote e.source e.target own.0) (message.Vote s t root)

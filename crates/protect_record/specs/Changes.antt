@@ -1,4 +1,4 @@
--- What adding a message makes of a record's parts.
+-- What recording a message makes of a record's parts.
 use Rattle.std.specs.Prelude.{◌≡◌, ◌↔◌, ◌⊎◌, ◌+◌, ◌≤◌, List, Contains, Some}
 use Rattle.std.specs.declared.cmp.Ordering.{Ordering}
 use Rattle.slash_defs.specs.declared.message.Message.{Message}

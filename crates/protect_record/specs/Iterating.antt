@@ -4,5 +4,6 @@ use Rattle.slash_defs.specs.declared.entry.Entry.{Entry}
 use Rattle.slash_defs.specs.declared.entry.Entry.TheVariants as entry
 use Rattle.protect_record.specs.declared.kept.Kept.{Kept}
 
+-- the blocks that are left, and then the votes
 abbrev pub entries_left : Kept → List Entry
 entries_left k = map entry.Block k.blocks.now ++ map entry.Vote k.votes.now

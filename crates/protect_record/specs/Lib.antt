@@ -6,5 +6,7 @@ pub mod Floors
 pub mod Standing
 pub mod Verdicts
 pub mod Changes
+pub mod Gathering
+pub mod Exporting
 pub mod Iterating
 pub mod PastLaws

@@ -7,7 +7,7 @@ use Rattle.std.specs.declared.cmp.Ordering.TheVariants.{Less}
 abbrev pub IsInOrder : {X : Type 0} → (X → X → Ordering) → List X → Type 0
 IsInOrder cmp xs = AllPairs (λ a b. cmp a b ≡ Less) xs
 
--- the first in an order of those kept that pass
+-- of those kept that pass, the one that no other comes before
 pub record IsFirst {X : Type 0} (cmp : X → X → Ordering) (P : X → Type 0) (kept : List X) (first : X) : Type 0 where
   pub is_kept : Contains kept first
   pub passes : P first

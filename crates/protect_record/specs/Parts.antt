@@ -18,7 +18,7 @@ pub record Parts : Type 0 where
 abbrev pub no_floors : Floors
 no_floors = record { block = None; vote = None }
 
--- the same floors and entries, and no less room
+-- the same floors and entries, and no less room than before
 pub record SameParts (old new : Parts) : Type 0 where
   pub floors : new.floors ≡ old.floors
   pub blocks : new.blocks ≡ old.blocks

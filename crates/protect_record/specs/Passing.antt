@@ -10,10 +10,11 @@ use Rattle.slash_defs.specs.declared.book.Book.{Book}
 use Rattle.slash_defs.specs.Slashing.{Slashable, Conflict}
 use Rattle.protect_record.specs.Pasts.{Past}
 
--- the message repeats the entry: all is equal, and the entry's root is known (EIP-3076, conditions 2 and 5)
+-- the block repeats the entry: all is equal, and the entry's root is known (EIP-3076, condition 2)
 abbrev pub IsSameBlock : BlockEntry → ℕ → Root → Type 0
 IsSameBlock e slot root = (e.slot ≡ slot) × (e.root ≡ Some root)
 
+-- the same of a vote (EIP-3076, condition 5)
 abbrev pub IsSameVote : VoteEntry → ℕ → ℕ → Root → Type 0
 IsSameVote e source target root = (e.source ≡ source) × (e.target ≡ target) × (e.root ≡ Some root)
 

@@ -12,6 +12,7 @@ pub record Past : Type 0 where
   pub books : List Book
   pub own : List Message
 
+-- nothing imported and nothing recorded
 abbrev pub no_past : Past
 no_past = record { books = []; own = [] }
 
@@ -23,12 +24,17 @@ with_own past m = record { books = past.books; own = past.own ++ m ∷ [] }
 abbrev pub with_book : Past → Book → Past
 with_book past b = record { books = past.books ++ b ∷ []; own = past.own }
 
--- an entry of the past: of any of its books, or an own message with its root
+-- one past after the other
+abbrev pub then_past : Past → Past → Past
+then_past p q = record { books = p.books ++ q.books; own = p.own ++ q.own }
+
+-- a block of the past: of any of its books (EIP-3076, `signed_blocks`), or an own one with its root
 abbrev pub IsPastBlock : Past → BlockEntry → Type 0
 IsPastBlock past e =
     ((b : Book) × Contains past.books b × Contains b.blocks e)
     ⊎ ((root : Root) × (e.root ≡ Some root) × Contains past.own (message.Block e.slot root))
 
+-- a vote of the past, likewise (EIP-3076, `signed_attestations`)
 abbrev pub IsPastVote : Past → VoteEntry → Type 0
 IsPastVote past e =
     ((b : Book) × Contains past.books b × Contains b.votes e)

@@ -50,11 +50,17 @@ abbrev pub IsVoteVerdict : Option (ℕ × ℕ) → List VoteEntry → ℕ → �
 IsVoteVerdict floors votes s t r (verdict.SourceBelow f) = IsSomeAnd floors (λ floor. (f ≡ floor.0) × (s < floor.0))
 IsVoteVerdict floors votes s t r (verdict.TargetBelow f) = IsSomeAnd floors (λ floor. (floor.0 ≤ s) × (f ≡ floor.1) × (t < floor.1))
 IsVoteVerdict floors votes s t r (verdict.DoubleVote e) = IsOverFloors floors s t × IsFirstClash clash.Double s t r votes e
-IsVoteVerdict floors votes s t r (verdict.Surrounds e) = IsOverFloors floors s t × NoneClashes clash.Double s t r votes × IsFirstClash clash.Surrounds s t r votes e
-IsVoteVerdict floors votes s t r (verdict.Surrounded e) = IsOverFloors floors s t × NoneClashes clash.Double s t r votes × NoneClashes clash.Surrounds s t r votes × IsFirstClash clash.Surrounded s t r votes e
-IsVoteVerdict floors votes s t r verdict.Pass = IsOverFloors floors s t × NoneClashes clash.Double s t r votes × NoneClashes clash.Surrounds s t r votes × NoneClashes clash.Surrounded s t r votes
+IsVoteVerdict floors votes s t r (verdict.Surrounds e) =
+    IsOverFloors floors s t × NoneClashes clash.Double s t r votes × IsFirstClash clash.Surrounds s t r votes e
+IsVoteVerdict floors votes s t r (verdict.Surrounded e) =
+    IsOverFloors floors s t × NoneClashes clash.Double s t r votes × NoneClashes clash.Surrounds s t r votes
+    × IsFirstClash clash.Surrounded s t r votes e
+IsVoteVerdict floors votes s t r verdict.Pass =
+    IsOverFloors floors s t × NoneClashes clash.Double s t r votes × NoneClashes clash.Surrounds s t r votes
+    × NoneClashes clash.Surrounded s t r votes
 IsVoteVerdict floors votes s t r v = ⊥
 
+-- of a message, by its kind; a verdict of the other kind is none
 abbrev pub IsVerdict : Parts → Message → Verdict → Type 0
 IsVerdict parts (message.Block slot root) v = IsBlockVerdict parts.floors.block parts.blocks slot root v
 IsVerdict parts (message.Vote source target root) v = IsVoteVerdict parts.floors.vote parts.votes source target root v

@@ -1,17 +1,22 @@
 //! What one key's past lets pass: the floors that imported books set and the entries that still count.
 #![tactic(auto)]
 
+mod bounds;
 mod clash;
+mod export;
 mod floors;
 mod kept;
 mod laws;
+mod living;
 mod record;
 mod sorted;
+#[cfg(test)]
+mod tests;
 mod verdict;
 mod walk;
 
 pub use floors::Floors;
 pub use kept::Kept;
-pub use laws::{covers_own, passes_less};
+pub use laws::{covers_own, join_laws, passes_less};
 pub use record::Record;
 pub use verdict::Verdict;

@@ -1,20 +1,29 @@
 //! The record of one key.
-ghost use Rattle.std.specs.Prelude.{◌≡◌, ◌≤◌, ◌↔◌, [], List, OnOk, map};
+ghost use Rattle.std.specs.Prelude.{◌≡◌, ◌≤◌, ◌↔◌, [], List, OnOk, OnErr, IfOk, map};
 ghost use Rattle.slash_defs.specs.declared.entry.Entry.TheVariants as entry;
 ghost use Rattle.protect_record.specs.Parts.{no_floors, SameParts, HasRoom};
-ghost use Rattle.protect_record.specs.Pasts.{Past, no_past, with_own};
-ghost use Rattle.protect_record.specs.Passing.{Passes};
+ghost use Rattle.protect_record.specs.Pasts.{Past, no_past, with_own, with_book, then_past};
+ghost use Rattle.protect_record.specs.Passing.{Passes, BookRefuses};
 ghost use Rattle.protect_record.specs.Standing.{Stands};
 ghost use Rattle.protect_record.specs.Verdicts.{IsVerdict};
 ghost use Rattle.protect_record.specs.Changes.{HasAdded};
+ghost use Rattle.std.specs.Option.{option_to_list};
+ghost use Rattle.protect_record.specs.Floors.{book_floors};
+ghost use Rattle.protect_record.specs.Gathering.{Gathers, IsJoin, IsMerge, IsWellKept};
+ghost use Rattle.protect_record.specs.Exporting.{export_of, prune_book, IsExportedExactly};
+ghost use Rattle.slash_defs.specs.declared.message.Message.{Message};
 ghost use Rattle.protect_record.specs.Iterating.{entries_left};
 
+use crate::bounds::{floors_of_book, greatest_slot, join_floors};
+use crate::export::{greatest_of, vote_to_prune, votes_to_export};
 use crate::floors::Floors;
 use crate::kept::Kept;
+use crate::living::{gather_blocks, gather_votes};
 use crate::sorted::insert_once;
 use crate::verdict::Verdict;
 use crate::walk::{block_verdict, vote_verdict};
-use slash_defs::{BlockEntry, Message, VoteEntry};
+use edge_kit::Items;
+use slash_defs::{BlockEntry, Book, Message, VoteEntry};
 use std::alloc::{AllocError, Global};
 use std::marker::Model;
 
@@ -29,15 +38,20 @@ pub struct Record {
 
 impl Model for Record {
     ghost use Rattle.std.specs.Prelude.{◌-◌, vec_len, vec_capacity};
-    ghost use Rattle.slash_defs.specs.FileOrder.{block_cmp, vote_cmp};
-    ghost use Rattle.protect_record.specs.Order.{IsInOrder};
     ghost use Rattle.protect_record.specs.Parts.{Parts};
+    ghost use Rattle.protect_record.specs.Gathering.{IsWellKept};
 
     ghost Value = { Parts };
 
-    ghost view = { λ r. record { floors = r.floors; blocks = r.blocks.items; votes = r.votes.items; block_room = vec_capacity r.blocks - vec_len r.blocks; vote_room = vec_capacity r.votes - vec_len r.votes } };
+    ghost view = { λ r. record {
+      floors = r.floors;
+      blocks = r.blocks.items;
+      votes = r.votes.items;
+      block_room = vec_capacity r.blocks - vec_len r.blocks;
+      vote_room = vec_capacity r.votes - vec_len r.votes;
+    } };
 
-    ghost invariant = { λ r. IsInOrder block_cmp r.blocks.items × IsInOrder vote_cmp r.votes.items };
+    ghost invariant = { λ r. IsWellKept r.floors r.blocks.items r.votes.items };
 }
 
 impl Record {
@@ -60,7 +74,8 @@ impl Record {
     /// the record stands for lets the message pass. Takes no memory.
     pub fn check(&self, message: &Message) -> Verdict
         ensures verdict { IsVerdict self.now message.now result }
-        ensures passes { (past : Past) → past.books ≡ [] → Stands self.now past → ((result ≡ Verdict.Pass) ↔ Passes past message.now) }
+        ensures passes { (past : Past) → Stands self.now past
+            → ((result ≡ Verdict.Pass) ↔ Passes past message.now) }
     {
         match *message {
             Message::Block { slot, root } => {
@@ -100,31 +115,27 @@ impl Record {
         requires passes { IsVerdict self.old message.now Verdict.Pass }
         requires room { HasRoom self.old message.now }
         ensures added { HasAdded self.old self.new message.now }
-        ensures stands { (past : Past) → past.books ≡ [] → Stands self.old past → Stands self.new (with_own past message.now) }
+        ensures stands { (past : Past) → Stands self.old past → Stands self.new (with_own past message.now) }
     {
         match *message {
             Message::Block { slot, root } => {
-                insert_once(
-                    &mut self.blocks,
-                    BlockEntry {
-                        slot,
-                        root: Some(root),
-                    },
-                );
+                let entry = BlockEntry {
+                    slot,
+                    root: Some(root),
+                };
+                insert_once(&mut self.blocks, entry);
             }
             Message::Vote {
                 source,
                 target,
                 root,
             } => {
-                insert_once(
-                    &mut self.votes,
-                    VoteEntry {
-                        target,
-                        source,
-                        root: Some(root),
-                    },
-                );
+                let entry = VoteEntry {
+                    target,
+                    source,
+                    root: Some(root),
+                };
+                insert_once(&mut self.votes, entry);
             }
         }
     }
@@ -147,5 +158,119 @@ impl Record {
             blocks: &[],
             votes: self.votes.as_slice(),
         }
+    }
+
+    /// Merges what one imported file holds for the key: its entries and its floors (EIP-3076, conditions 1 to
+    /// 5). After an error the floors and the entries are as they were.
+    ///
+    /// # Errors
+    ///
+    /// `AllocError` where memory was wanted.
+    pub fn merge_book(&mut self, book: &Book) -> Result<(), AllocError>
+        ensures merged { OnOk result (IsMerge self.old book.now self.new) }
+        ensures stands { OnOk result ((past : Past) → Stands self.old past
+            → Stands self.new (with_book past book.now)) }
+        ensures err { OnErr result (SameParts self.old self.new) }
+    {
+        let floors = floors_of_book(book);
+        self.gather(floors, book.blocks.as_slice(), book.votes.as_slice())
+    }
+
+    /// Joins another record of the key: union of the entries, greatest of each floor, dead entries dropped.
+    /// After an error the floors and the entries are as they were.
+    ///
+    /// # Errors
+    ///
+    /// `AllocError` where memory was wanted.
+    pub fn join(&mut self, other: &Record) -> Result<(), AllocError>
+        ensures joined { OnOk result (IsJoin self.old other.now self.new) }
+        ensures stands { OnOk result ((p q : Past) → Stands self.old p → Stands other.now q
+            → Stands self.new (then_past p q)) }
+        ensures err { OnErr result (SameParts self.old self.new) }
+    {
+        self.gather(
+            other.floors,
+            other.blocks.as_slice(),
+            other.votes.as_slice(),
+        )
+    }
+
+    /// Forgets what is not needed any more: merges a book of the blocks at the greatest slot and of one vote
+    /// that stands for all. No more passes than before. After an error the floors and the entries are as they
+    /// were.
+    ///
+    /// # Errors
+    ///
+    /// `AllocError` where memory was wanted.
+    pub fn prune(&mut self) -> Result<(), AllocError>
+        ensures merged { OnOk result (IsMerge self.old (prune_book self.old) self.new) }
+        ensures stands { OnOk result ((past : Past) → Stands self.old past
+            → Stands self.new (with_book past (prune_book self.old))) }
+        ensures err { OnErr result (SameParts self.old self.new) }
+    {
+        let (floors, vote) = self.pruning();
+        match vote {
+            Some(entry) => self.gather(floors, &[], &[entry]),
+            None => self.gather(floors, &[], &[]),
+        }
+    }
+
+    /// The book that is handed over with the key (EIP-3076, an element of `data`): all kept blocks, and all
+    /// kept votes where there are no vote floors or the votes are regular, else one vote that stands for all.
+    /// What it does not refuse the record lets pass; it may refuse more.
+    ///
+    /// # Errors
+    ///
+    /// `AllocError` where memory was wanted.
+    pub fn export(&self, alloc: Global) -> Result<Book, AllocError>
+        ensures value { IfOk result (λ book. book ≡ export_of self.now) }
+        ensures no_more { IfOk result (λ book. (past : Past) (m : Message) → Stands self.now past
+            → ¬ (BookRefuses book m) → Passes past m) }
+        ensures no_less { IfOk result (λ book. (past : Past) (m : Message) → Stands self.now past
+            → IsExportedExactly self.now m → Passes past m → ¬ (BookRefuses book m)) }
+    {
+        let blocks = Vec::from_slice(alloc, self.blocks.as_slice())?;
+        let votes = votes_to_export(alloc, self.floors.vote, self.votes.as_slice())?;
+        Ok(Book {
+            blocks: Items::from_vec(blocks),
+            votes: Items::from_vec(votes),
+        })
+    }
+
+    /// The floors. Takes no memory.
+    pub fn floors(&self) -> Floors
+        ensures value { result ≡ self.now.floors }
+        ensures well_kept { IsWellKept self.now.floors self.now.blocks self.now.votes }
+    {
+        self.floors
+    }
+
+    /// The floors and the vote of the book that prunes the record. Its blocks are kept already.
+    fn pruning(&self) -> (Floors, Option<VoteEntry>)
+        ensures floors { result.0 ≡ book_floors (prune_book self.now) }
+        ensures vote { (prune_book self.now).votes ≡ option_to_list result.1 }
+    {
+        let votes = self.votes.as_slice();
+        let block = greatest_slot(self.blocks.as_slice());
+        let vote = greatest_of(self.floors.vote, votes);
+        (Floors { block, vote }, vote_to_prune(vote, votes))
+    }
+
+    /// Gains floors and entries, and drops what is dead.
+    fn gather(
+        &mut self,
+        floors: Floors,
+        blocks: &[BlockEntry],
+        votes: &[VoteEntry],
+    ) -> Result<(), AllocError>
+        ensures gathered { OnOk result (Gathers self.old self.new floors blocks.now votes.now) }
+        ensures err { OnErr result (SameParts self.old self.new) }
+    {
+        self.blocks.reserve(blocks.len())?;
+        self.votes.reserve(votes.len())?;
+        self.floors = join_floors(&self.floors, &floors);
+        gather_blocks(&mut self.blocks, blocks, self.floors);
+        gather_votes(&mut self.votes, votes, self.floors);
+        Ok(())
     }
 }

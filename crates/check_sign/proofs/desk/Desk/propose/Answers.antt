@@ -2,7 +2,8 @@ use Rattle.std.proofs.Common.{◌≡◌, ◌+◌, ◌∷◌, [], ◌++◌, List,
 use Rattle.edge_kit.specs.declared.bytes.PubKey.{PubKey}
 use Rattle.protect_record.specs.Parts.{Parts}
 use Rattle.check_sign.specs.Keys.{EachKey}
-use Rattle.check_sign.specs.Machine.{State, DeskStands, StandsForPast}
+use Rattle.check_sign.specs.Machine.{State, DeskStands}
+use Rattle.protect_record.specs.Standing.{Stands}
 use Rattle.check_sign.proofs.KeyLemmas.{each_none}
 use Rattle.check_sign.proofs.MachineLemmas.{opened, restated, refused, no_room, granted, opened_one}
 use Rattle.check_sign.proofs.desk.Desk.propose.Goals as goal
@@ -11,8 +12,8 @@ pub returns-in-Unknown-clause-machine : goal.returns-in-Unknown-clause-machine
 returns-in-Unknown-clause-machine c = λ state stands.
     let s = opened c.args.self.now _ state c.self.view_is stands in
     let takes = c.in-Unknown.ensures.takes in
-    let E : List (PubKey × Parts) → Type 0 = λ l. EachKey StandsForPast l state.keys in (
-      each_none StandsForPast c.self.inside.kept.entries state.keys c.args.key s.keys takes.0,
+    let E : List (PubKey × Parts) → Type 0 = λ l. EachKey Stands l state.keys in (
+      each_none Stands c.self.inside.kept.entries state.keys c.args.key s.keys takes.0,
       restated _ state _ _ _ _ _ c.args.now _ s c.make_room-has_room.ensures.open refl c.max-self-inside.ensures (subst E (sym takes.1) s.keys),
     )
 

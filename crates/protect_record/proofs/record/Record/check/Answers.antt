@@ -4,11 +4,11 @@ use Rattle.protect_record.proofs.StandLemmas.{check_law}
 use Rattle.protect_record.proofs.record.Record.check.Goals as goal
 
 pub returns-in-Block-clause-passes : goal.returns-in-Block-clause-passes
-returns-in-Block-clause-passes c past none stands =
+returns-in-Block-clause-passes c past stands =
     let is : IsVerdict c.args.self.now c.args.message.now c.block_verdict.result = search rules in
     check_law _ past _ _ is stands
 
 pub returns-in-Vote-clause-passes : goal.returns-in-Vote-clause-passes
-returns-in-Vote-clause-passes c past none stands =
+returns-in-Vote-clause-passes c past stands =
     let is : IsVerdict c.args.self.now c.args.message.now c.vote_verdict.result = search rules in
     check_law _ past _ _ is stands

@@ -1,0 +1,169 @@
+//! The worked rows of imported books, and the order in which entries come back.
+use crate::{Floors, Record, Verdict};
+use edge_kit::{Items, Root};
+use slash_defs::{BlockEntry, Book, Entry, Message, VoteEntry};
+use std::alloc::{AllocError, Global};
+use std::test::Fail;
+
+const RA: Root = Root([0xaa; 32]);
+
+const RB: Root = Root([0xbb; 32]);
+
+fn block(slot: u64, root: Option<Root>) -> BlockEntry {
+    BlockEntry { slot, root }
+}
+
+fn vote(source: u64, target: u64, root: Option<Root>) -> VoteEntry {
+    VoteEntry {
+        target,
+        source,
+        root,
+    }
+}
+
+fn book(alloc: Global, blocks: &[BlockEntry], votes: &[VoteEntry]) -> Result<Book, AllocError> {
+    let blocks = Vec::from_slice(alloc, blocks)?;
+    let votes = Vec::from_slice(alloc, votes)?;
+    Ok(Book {
+        blocks: Items::from_vec(blocks),
+        votes: Items::from_vec(votes),
+    })
+}
+
+/// Records a message if it passes, and gives the verdict.
+fn propose(record: &mut Record, message: Message) -> Result<Verdict, AllocError> {
+    record.reserve(1, 1)?;
+    let verdict = record.check(&message);
+    if verdict != Verdict::Pass {
+        return Ok(verdict);
+    }
+    record.add(&message);
+    Ok(verdict)
+}
+
+/// Whether the record gives these entries, in this order.
+fn gives(record: &Record, want: &[Entry]) -> bool {
+    let mut at = 0;
+    for entry in record.blocks() {
+        if want.get(at) != Some(&entry) {
+            return false;
+        }
+        at = at.saturating_add(1);
+    }
+    for entry in record.votes() {
+        if want.get(at) != Some(&entry) {
+            return false;
+        }
+        at = at.saturating_add(1);
+    }
+    at == want.len()
+}
+
+#[test]
+fn blocks_are_judged_over_the_greatest_of_the_least_slots(rt: HostRuntime) -> Result<(), Fail> {
+    let alloc = rt.alloc();
+    let mut record = Record::new(alloc);
+    record.merge_book(&book(alloc, &[block(100, None)], &[])?)?;
+    record.merge_book(&book(alloc, &[block(20, None), block(10, None)], &[])?)?;
+    let rows = [
+        (50, RA, Verdict::SlotBelow(100)),
+        (100, RA, Verdict::DoubleBlock(block(100, None))),
+        (101, RA, Verdict::Pass),
+        (101, RA, Verdict::Pass),
+        (101, RB, Verdict::DoubleBlock(block(101, Some(RA)))),
+    ];
+    for (slot, root, want) in rows {
+        let found = propose(&mut record, Message::Block { slot, root })?;
+        assert_eq!(rt; found, want, "block of slot {slot}");
+    }
+    let want = [
+        Entry::Block(block(100, None)),
+        Entry::Block(block(101, Some(RA))),
+    ];
+    assert!(rt; gives(&record, &want));
+    Ok(())
+}
+
+#[test]
+fn votes_are_judged_in_the_order_of_the_table(rt: HostRuntime) -> Result<(), Fail> {
+    let alloc = rt.alloc();
+    let mut record = Record::new(alloc);
+    record.merge_book(&book(alloc, &[], &[vote(2, 10, Some(RA))])?)?;
+    record.merge_book(&book(alloc, &[], &[vote(5, 9, Some(RB))])?)?;
+    let rows = [
+        (2, 10, RA, Verdict::SourceBelow(5)),
+        (5, 9, RB, Verdict::TargetBelow(10)),
+        (5, 10, RA, Verdict::DoubleVote(vote(2, 10, Some(RA)))),
+        (5, 20, RA, Verdict::Pass),
+        (6, 19, RB, Verdict::Surrounded(vote(5, 20, Some(RA)))),
+        (7, 30, RA, Verdict::Pass),
+        (6, 31, RA, Verdict::Surrounds(vote(7, 30, Some(RA)))),
+    ];
+    for (source, target, root, want) in rows {
+        let found = propose(
+            &mut record,
+            Message::Vote {
+                source,
+                target,
+                root,
+            },
+        )?;
+        assert_eq!(rt; found, want, "vote from {source} to {target}");
+    }
+    let exported = record.export(alloc)?;
+    assert_eq!(rt; exported.votes.as_slice(), [vote(7, 30, None)].as_slice());
+    Ok(())
+}
+
+#[test]
+fn an_irregular_record_exports_one_vote(rt: HostRuntime) -> Result<(), Fail> {
+    let alloc = rt.alloc();
+    let mut record = Record::new(alloc);
+    record.merge_book(&book(alloc, &[], &[vote(5, 10, None)])?)?;
+    record.merge_book(&book(alloc, &[], &[vote(7, 9, None)])?)?;
+    let exported = record.export(alloc)?;
+    assert_eq!(rt; exported.votes.as_slice(), [vote(7, 10, None)].as_slice());
+    Ok(())
+}
+
+#[test]
+fn a_pruned_record_keeps_its_floor(rt: HostRuntime) -> Result<(), Fail> {
+    let alloc = rt.alloc();
+    let mut record = Record::new(alloc);
+    let first = Message::Block {
+        slot: 100,
+        root: RA,
+    };
+    assert_eq!(rt; propose(&mut record, first)?, Verdict::Pass);
+    record.prune()?;
+    record.merge_book(&book(alloc, &[block(50, Some(RA))], &[])?)?;
+    let early = Message::Block { slot: 50, root: RA };
+    assert_eq!(rt; propose(&mut record, early)?, Verdict::SlotBelow(100));
+    assert_eq!(rt; propose(&mut record, first)?, Verdict::Pass);
+    let floors = Floors {
+        block: Some(100),
+        vote: None,
+    };
+    assert_eq!(rt; record.floors(), floors);
+    Ok(())
+}
+
+#[test]
+fn a_long_book_comes_back_in_order(rt: HostRuntime) -> Result<(), Fail> {
+    let alloc = rt.alloc();
+    let mut falling = Vec::new(alloc);
+    let mut rising = Vec::new(alloc);
+    for number in 0..40 {
+        falling.push(vote(1, 100 - number, None))?;
+        rising.push(Entry::Vote(vote(1, 61 + number, None)))?;
+    }
+    let mut record = Record::new(alloc);
+    record.merge_book(&book(alloc, &[], falling.as_slice())?)?;
+    assert!(rt; gives(&record, rising.as_slice()));
+    let mut joined = Record::new(alloc);
+    joined.join(&record)?;
+    joined.join(&record)?;
+    assert!(rt; gives(&joined, rising.as_slice()));
+    assert_eq!(rt; joined.floors(), record.floors());
+    Ok(())
+}
