@@ -2,6 +2,7 @@
 use Rattle.std.proofs.Common.{◌≡◌, ℕ, zero, suc, ◌+◌, ◌-◌, ◌<◌, ◌≤◌, min, max, List, [], ◌∷◌, ◌++◌, length, take, drop, replicate, refl, sym, ◌∙◌, ap, arith, inl, inr, length-append, length-drop, append_assoc}
 use Rattle.std.proofs.lemmas.List.{append-nil, take_all, drop_all, drop_at, length-take, length-take-le, length-replicate, take-append-le, take-take, take-append-drop, take-replicate, drop-drop}
 use Rattle.std.proofs.lemmas.Bool.{cases_lt}
+use Rattle.std.proofs.Math.Seq.{take-append-add}
 use Rattle.edge_kit.specs.Disks.{overwrite, reach, Torn, Cut}
 
 -- a write that begins within what is there
@@ -89,3 +90,32 @@ torn_more at n m old new le torn = record {
   no_shorter = torn.no_shorter;
   no_longer = omega (arith, torn.no_longer, reach_mono at n m le);
 }
+
+take_padded : (at k : ℕ) (old : List ℕ) → at ≤ length old + k → take at (old ++ replicate k 0) ≡ take at old ++ replicate (at - length old) 0
+take_padded at k old fits = elim (cases_lt (length old) at) [
+  | inl past ↦ let split : at ≡ length old + (at - length old) = omega arith in ap (λ (i : ℕ). take i (old ++ replicate k 0)) split ∙ take-append-add old (replicate k 0) (at - length old)
+      ∙ ap (λ (l : List ℕ). old ++ l) (take-replicate {X = ℕ} (at - length old) k 0 (omega arith))
+      ∙ ap (λ (l : List ℕ). l ++ replicate (at - length old) 0) (sym (take_all at old (omega arith)))
+  | inr within ↦ let none : 0 ≡ at - length old = omega arith in take-append-le at old (replicate k 0) within ∙ sym (append-nil (take at old)) ∙ ap (λ (i : ℕ). take at old ++ replicate i 0) none
+]
+
+drop_padded : (n k : ℕ) (old : List ℕ) → k ≡ max (length old) n - length old → drop n (old ++ replicate k 0) ≡ drop n old
+drop_padded n k old fits = elim (cases_lt (length old) n) [
+  | inl past ↦ drop_all n (old ++ replicate k 0) (omega (arith, length-append old (replicate k 0), length-replicate {A = ℕ} k 0)) ∙ sym (drop_all n old (omega arith))
+  | inr within ↦ let none : k ≡ 0 = omega arith in ap (λ (i : ℕ). drop n (old ++ replicate i 0)) none ∙ ap (λ (l : List ℕ). drop n l) (append-nil old)
+]
+
+-- a write over a content that was grown to hold it
+pub overwrite_grown : (at size : ℕ) (bytes old grown : List ℕ) → 0 < length bytes → size ≡ max (length old) (at + length bytes) → grown ≡ take size old ++ replicate (size - length old) 0
+    → take at grown ++ (bytes ++ drop (at + length bytes) grown) ≡ overwrite at bytes old
+unfolding overwrite
+overwrite_grown at size [] old grown some fits is = absurd (omega arith)
+overwrite_grown at size (b ∷ bytes) old grown some fits is =
+    let n = at + length (b ∷ bytes) in
+    let zeros : List ℕ = replicate (size - length old) 0 in
+    let padded : grown ≡ old ++ zeros = is ∙ ap (λ (l : List ℕ). l ++ zeros) (take_all size old (omega arith)) in
+    let front : take at grown ≡ take at old ++ replicate (at - length old) 0 = ap (λ (l : List ℕ). take at l) padded ∙ take_padded at (size - length old) old (omega arith) in
+    let back : drop n grown ≡ drop n old = ap (λ (l : List ℕ). drop n l) padded ∙ drop_padded n (size - length old) old (omega arith) in
+    ap (λ (l : List ℕ). l ++ (b ∷ bytes ++ drop n grown)) front
+    ∙ ap (λ (l : List ℕ). (take at old ++ replicate (at - length old) 0) ++ (b ∷ bytes ++ l)) back
+    ∙ sym (append_assoc (take at old ++ replicate (at - length old) 0) (b ∷ bytes) (drop n old))
