@@ -24,7 +24,6 @@ content-append : (now : List ℕ) (steps more : List DiskStep) → content now (
 content-append now [] more = refl
 content-append now (s ∷ steps) more = content-append (after s now) steps more
 
-
 wrote_last : (base : List ℕ → Type 0) (now : List ℕ) (steps : List DiskStep) (at : ℕ) (v : Vec ℕ Global) → Follows (Torn at (length v.items)) (LeavesAfter base now steps) (LeavesAfter base now (steps ++ Wrote at v ∷ []))
 wrote_last base now [] at v c left = left
 wrote_last base now (Wrote to bytes ∷ steps) at v c left = wrote_last (λ e. (d : List ℕ) × base d × Torn to (length bytes.items) d e) (overwrite to bytes.items now) steps at v c left
@@ -87,9 +86,9 @@ pub image_left : (how : Crash) (first image : List ℕ) (steps : List DiskStep) 
 image_left how first image steps n unsynced is =
     let made = crashed how (content first (take n steps)) (drop n steps) in
     let parts : LeavesAfter (λ d. d ≡ first) first (take n steps ++ drop n steps) made =
-        left_append (λ d. d ≡ first) first (take n steps) (drop n steps) made
-        (crashed_is_left how (LeavesAfter (λ d. d ≡ first) first (take n steps)) (content first (take n steps)) (content first (take n steps)) (drop n steps) unsynced
-        (content_is_left (λ d. d ≡ first) first (take n steps) refl)) in
+    left_append (λ d. d ≡ first) first (take n steps) (drop n steps) made
+    (crashed_is_left how (LeavesAfter (λ d. d ≡ first) first (take n steps)) (content first (take n steps)) (content first (take n steps)) (drop n steps) unsynced
+    (content_is_left (λ d. d ≡ first) first (take n steps) refl)) in
     let all : LeavesAfter (λ d. d ≡ first) first steps made = subst (λ (l : List DiskStep). LeavesAfter (λ d. d ≡ first) first l made) (take-append-drop n steps) parts in
     subst (λ (l : List ℕ). LeavesAt first steps (length steps) l) (sym is) (whole first steps made all)
 
@@ -110,9 +109,9 @@ elapses_same first steps = record { later = omega arith; past_stays = λ k c le 
 pub elapses_wrote : (first : List ℕ) (steps later : List DiskStep) (at : ℕ) (v : Vec ℕ Global) (bytes : List ℕ) → later ≡ steps ++ Wrote at v ∷ [] → v.items ≡ bytes → Elapses (Torn at (length bytes)) (length steps) (length later) (LeavesAt first steps) (LeavesAt first later)
 elapses_wrote first steps later at v bytes is same =
     let made : Elapses (Torn at (length v.items)) (length steps) (length (steps ++ Wrote at v ∷ [])) (LeavesAt first steps) (LeavesAt first (steps ++ Wrote at v ∷ [])) =
-        elapses_push (Torn at (length v.items)) first steps (Wrote at v) (λ c left. let from = wrote_last (λ d. d ≡ first) first steps at v c left in (from.0, whole first steps from.0 from.1, from.2)) in
+    elapses_push (Torn at (length v.items)) first steps (Wrote at v) (λ c left. let from = wrote_last (λ d. d ≡ first) first steps at v c left in (from.0, whole first steps from.0 from.1, from.2)) in
     let sized : Elapses (Torn at (length bytes)) (length steps) (length (steps ++ Wrote at v ∷ [])) (LeavesAt first steps) (LeavesAt first (steps ++ Wrote at v ∷ [])) =
-        subst (λ (l : List ℕ). Elapses (Torn at (length l)) (length steps) (length (steps ++ Wrote at v ∷ [])) (LeavesAt first steps) (LeavesAt first (steps ++ Wrote at v ∷ []))) same made in
+    subst (λ (l : List ℕ). Elapses (Torn at (length l)) (length steps) (length (steps ++ Wrote at v ∷ [])) (LeavesAt first steps) (LeavesAt first (steps ++ Wrote at v ∷ []))) same made in
     subst (λ (l : List DiskStep). Elapses (Torn at (length bytes)) (length steps) (length l) (LeavesAt first steps) (LeavesAt first l)) (sym is) sized
 
 pub elapses_cut : (first : List ℕ) (steps later : List DiskStep) (n : ℕ) → later ≡ steps ++ Shortened n ∷ [] → Elapses (Cut n) (length steps) (length later) (LeavesAt first steps) (LeavesAt first later)

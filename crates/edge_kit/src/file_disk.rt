@@ -104,11 +104,7 @@ fn fault(faults: &mut u64) -> Failed
 }
 
 // The file, opened where it isn't yet.
-fn taken<R: Files>(
-    file: &mut Option<R::File>,
-    files: &R,
-    path: &str,
-) -> io::Result<R::File> {
+fn taken<R: Files>(file: &mut Option<R::File>, files: &R, path: &str) -> io::Result<R::File> {
     match file.take() {
         Some(file) => Ok(file),
         None => open_file(files, path),
@@ -182,5 +178,39 @@ impl<R: Files + Drop> Disk for FileDisk<R> {
             Ok(value) => Ok(value),
             Err(_) => Err(fault(&mut self.faults)),
         }
+    }
+}
+
+#[cfg(test)]
+mod tests {
+    use super::*;
+    use std::fs;
+    use std::test::Fail;
+
+    #[test]
+    fn a_file_is_a_disk(rt: HostRuntime) -> Result<(), Fail> {
+        let name = "edge_kit_file_disk.tmp";
+        let _ = fs::remove_file(&rt, name);
+        let mut disk = FileDisk::new(&rt, String::from_str(rt.alloc(), name)?);
+        assert_eq!(rt; disk.len(), Ok(0));
+        assert_eq!(rt; disk.write_at(0, b"abc"), Ok(()));
+        assert_eq!(rt; disk.write_at(5, b"z"), Ok(()));
+        assert_eq!(rt; disk.sync(), Ok(()));
+        let mut buf = [9u8; 8];
+        assert_eq!(rt; disk.read(0, &mut buf), Ok(6));
+        assert_eq!(rt; buf, [97, 98, 99, 0, 0, 122, 9, 9]);
+        assert_eq!(rt; disk.cut(9), Ok(()));
+        assert_eq!(rt; disk.cut(2), Ok(()));
+        drop(disk);
+        let mut again = FileDisk::new(&rt, String::from_str(rt.alloc(), name)?);
+        assert_eq!(rt; again.read(1, &mut buf), Ok(1));
+        assert_eq!(rt; buf[0], b'b');
+        assert_eq!(rt; again.len(), Ok(2));
+        fs::remove_file(&rt, name)?;
+        let nowhere = String::from_str(rt.alloc(), "no/such/directory/file")?;
+        let mut absent = FileDisk::new(&rt, nowhere);
+        assert_eq!(rt; absent.sync(), Err(Failed));
+        assert_eq!(rt; absent.faults, 1);
+        Ok(())
     }
 }

@@ -9,5 +9,4 @@ ghost use Rattle.edge_kit.specs.Images.{Change, LeftBy, IsImage};
 pub fn images_law()
     ensures only { (synced : List ℕ) (changes : List Change) (c : List ℕ) → LeftBy synced changes c → IsImage synced changes c }
     ensures each { (synced : List ℕ) (changes : List Change) (c : List ℕ) → IsImage synced changes c → LeftBy synced changes c }
-{
-}
+{}

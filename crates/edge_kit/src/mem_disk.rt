@@ -254,11 +254,7 @@ fn keep(steps: &mut Vec<DiskStep>, step: DiskStep)
 }
 
 // Makes a change, and puts it behind the others with room for a sync. Where memory runs out nothing changes.
-fn change(
-    steps: &mut Vec<DiskStep>,
-    held: &mut Vec<u8>,
-    step: DiskStep,
-) -> Result<(), AllocError>
+fn change(steps: &mut Vec<DiskStep>, held: &mut Vec<u8>, step: DiskStep) -> Result<(), AllocError>
     ensures steps { OnOk result (steps.new.items ≡ steps.old.items ++ step ∷ []) }
     ensures held { OnOk result (held.new.items ≡ after step held.old.items) }
     ensures room { OnOk result (vec_len steps.new < vec_capacity steps.new) }
