@@ -147,25 +147,30 @@ records_stop (suc fuel) offset bytes k fits enough e =
             | inl last ↦ absurd (differ (x.0 ∷ []) (sym (last_step fuel offset bytes x.0 x.1 some.1 last) ∙ e))
             | inr more ↦
                 let later = records_stop fuel (offset + (length bytes - length x.1)) x.1 k one.takes.rest_fits (omega (arith, some_bytes x.0)) (prepend_err x.0 (records_at fuel (offset + (length bytes - length x.1)) x.1) k (sym (next_step fuel offset bytes x.0 x.1 some.1 more) ∙ e)) in
-                let stop = later.2 in
-                (length (item_bytes x.0) + later.0, omega (arith, later.1), record {
-                  before = x.0 ∷ stop.before;
-                  rest = stop.rest;
-                  split = one.takes.parts ∙ ap (λ (l : List ℕ). item_bytes x.0 ++ l) stop.split ∙ sym (append_assoc (item_bytes x.0) (spelling stop.before) stop.rest) ∙ ap (λ (l : List ℕ). l ++ stop.rest) (sym (spelling-cons x.0 stop.before));
-                  at = omega (arith, stop.at, ap length (spelling-cons x.0 stop.before), length-append (item_bytes x.0) (spelling stop.before));
-                  records = (one.is_one, stop.records);
-                  fits = (one.fits, stop.fits);
-                  within = λ filled. some_left stop.before x.1 stop.rest stop.split stop.within more;
-                  none = stop.none;
-                  rest_fits = stop.rest_fits;
-                })
+                let stop = later.2 in (
+                  length (item_bytes x.0) + later.0,
+                  omega (arith, later.1),
+                  record {
+                    before = x.0 ∷ stop.before;
+                    rest = stop.rest;
+                    split = one.takes.parts ∙ ap (λ (l : List ℕ). item_bytes x.0 ++ l) stop.split ∙ sym (append_assoc (item_bytes x.0) (spelling stop.before) stop.rest) ∙ ap (λ (l : List ℕ). l ++ stop.rest) (sym (spelling-cons x.0 stop.before));
+                    at = omega (arith, stop.at, ap length (spelling-cons x.0 stop.before), length-append (item_bytes x.0) (spelling stop.before));
+                    records = (one.is_one, stop.records);
+                    fits = (one.fits, stop.fits);
+                    within = λ filled. some_left stop.before x.1 stop.rest stop.split stop.within more;
+                    none = stop.none;
+                    rest_fits = stop.rest_fits;
+                  },
+                )
           ]
     ]
   where
     plus : offset ≡ offset + 0
     plus = omega arith
+
     differ : (l : List JournalItem) → ◌≡◌ {A = Result (List JournalItem) ℕ} (Ok l) (Err k) → ⊥
     differ l same = cc
+
     some_left : (before : List JournalItem) (bytes rest : List ℕ) → bytes ≡ spelling before ++ rest → ((before ≡ [] → ⊥) → 0 < length rest) → 0 < length bytes → 0 < length rest
     some_left [] bytes rest split within more = omega (arith, ap length split)
     some_left (item ∷ before) bytes rest split within more = within (λ same. cc)
@@ -181,7 +186,7 @@ records_stopped (suc fuel) offset (item ∷ before) rest enough records fits wit
     let grouped : spelling (item ∷ before) ++ rest ≡ item_bytes item ++ left = ap (λ (l : List ℕ). l ++ rest) (spelling-cons item before) ∙ append_assoc (item_bytes item) (spelling before) rest in
     let more : 0 < length left = omega (arith, within (λ same. absurd (filled same)), length-append (spelling before) rest) in
     let place : offset + (length (item_bytes item ++ left) - length left) + length (spelling before) ≡ offset + length (spelling (item ∷ before)) =
-        omega (arith, length-append (item_bytes item) left, ap length (spelling-cons item before), length-append (item_bytes item) (spelling before)) in
+    omega (arith, length-append (item_bytes item) left, ap length (spelling-cons item before), length-append (item_bytes item) (spelling before)) in
     ap (λ (l : List ℕ). records_at (suc fuel) offset l) grouped
     ∙ next_step fuel offset (item_bytes item ++ left) item left (record_again item left fits.0 records.0) more
     ∙ ap (λ (r : Result (List JournalItem) ℕ). prepend item r) (records_stopped fuel (offset + (length (item_bytes item ++ left) - length left)) before rest (omega arith) records.1 fits.1 (λ some. within (λ same. absurd (filled same))) none)
@@ -209,8 +214,10 @@ so_far_none payload fuel = ap (λ (n : ℕ). records_at n 0 payload) none ∙ ap
   where
     none : 0 + fuel ≡ fuel
     none = omega arith
+
     still : 0 ≡ length payload - length payload
     still = omega arith
+
     front_none : (r : Result (List JournalItem) ℕ) → with_front [] r ≡ r
     front_none (Ok items) = refl
     front_none (Err offset) = refl
@@ -323,8 +330,10 @@ first_bad_is payload k fits e =
   where
     differ : (l : List JournalItem) → ◌≡◌ {A = Result (List JournalItem) ℕ} (Ok l) (Err k) → ⊥
     differ l same = cc
+
     missing : (item : JournalItem) (behind : List ℕ) → ◌≡◌ {A = Option (JournalItem × List ℕ)} (Some (item, behind)) None → ⊥
     missing item behind same = cc
+
     absent : (item : JournalItem) → ◌≡◌ {A = Option JournalItem} (Some item) None → ⊥
     absent item same = cc
 
@@ -350,10 +359,13 @@ first_bad_only payload k fits bad =
   where
     place : 0 + length (spelling bad.before) ≡ k
     place = omega (arith, bad.place)
+
     both : (item : JournalItem) → is_record item ≡ true → is_record item ≡ false → ⊥
     both item is isnt = cc
+
     absent : (item : JournalItem) → ◌≡◌ {A = Option JournalItem} None (Some item) → ⊥
     absent item same = cc
+
     alone : (before : List JournalItem) (rest : List ℕ) (item : JournalItem) → payload ≡ spelling before ++ rest → AllRecords before
         → ((i : JournalItem) (behind : List ℕ) → Fits i → rest ≡ item_bytes i ++ behind → (is_record i ≡ false) × (before ≡ [] → behind ≡ [] → ⊥)) → IsState payload item → state_at payload ≡ Some item → ⊥
     alone [] rest item split records unread state some = (unread item [] state.fits (sym split ∙ state.whole ∙ sym (append-nil (item_bytes item)))).1 refl refl

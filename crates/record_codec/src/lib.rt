@@ -8,3 +8,6 @@ mod writing;
 pub use item::{BadAt, JournalItem};
 pub use reading::{check_batch, decode};
 pub use writing::encode;
+
+#[cfg(test)]
+mod tests;

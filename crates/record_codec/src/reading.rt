@@ -160,10 +160,7 @@ fn state_at(bytes: &[u8]) -> Option<JournalItem>
 
 /// The items of a payload, or the place of the first item that can't be read. States of a key stand alone:
 /// one with a byte before or after it can't be read, nor can the first item of an empty payload.
-pub fn decode(
-    alloc: Global,
-    payload: &[u8],
-) -> Result<Result<Vec<JournalItem>, BadAt>, AllocError>
+pub fn decode(alloc: Global, payload: &[u8]) -> Result<Result<Vec<JournalItem>, BadAt>, AllocError>
     ensures exact { IfOk result (λ read. seen read ≡ batch_of payload.now) }
     // What is read is one batch, and the payload is its one spelling.
     ensures found { IfOk result (λ read. IfOk read (λ items. IsBatch items.items × AllByRecursion Fits items.items × (payload.now ≡ spelling items.items))) }
