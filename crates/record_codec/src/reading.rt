@@ -1,5 +1,5 @@
 //! Bytes are read as a batch.
-ghost use Rattle.std.specs.Prelude.{◌≡◌, ◌<◌, ℕ, List, length, IfOk, IfErr, Ok, Err, Some, None, MatchResult};
+ghost use Rattle.std.specs.Prelude.{◌≡◌, ◌<◌, ◌≤◌, ℕ, List, length, IfOk, IfErr, Ok, Err, Some, None, MatchResult};
 ghost use Rattle.std.specs.List.{AllByRecursion};
 ghost use Rattle.record_codec.specs.declared.item.JournalItem.{JournalItem};
 ghost use Rattle.record_codec.specs.Spelling.{IsBatch, Fits, spelling, IsFirstBad};
@@ -208,7 +208,8 @@ fn records(alloc: Global, payload: &[u8]) -> Result<Result<Vec<JournalItem>, Bad
 /// Whether a payload is one batch; else the place of the first item that can't be read. Takes no memory.
 #[tactic(auto, unfolding(crate::specs::Reading::batch_of))]
 pub fn check_batch(payload: &[u8]) -> Result<(), BadAt>
-    ensures { MatchResult result (λ done. bad_at payload.now ≡ None) (λ bad. bad_at payload.now ≡ Some bad.offset) }
+    ensures within { IfErr result (λ bad. bad.offset ≤ length payload.now) }
+    ensures bad { MatchResult result (λ done. bad_at payload.now ≡ None) (λ bad. bad_at payload.now ≡ Some bad.offset) }
 {
     if let Some(_state) = state_at(payload) {
         return Ok(());
@@ -217,7 +218,8 @@ pub fn check_batch(payload: &[u8]) -> Result<(), BadAt>
 }
 
 fn check_records(payload: &[u8]) -> Result<(), BadAt>
-    ensures { (fuel : ℕ) → length payload.now < fuel → MatchResult result (λ done. fault_in (records_of fuel 0 payload.now) ≡ None) (λ bad. fault_in (records_of fuel 0 payload.now) ≡ Some bad.offset) }
+    ensures within { IfErr result (λ bad. bad.offset ≤ length payload.now) }
+    ensures bad { (fuel : ℕ) → length payload.now < fuel → MatchResult result (λ done. fault_in (records_of fuel 0 payload.now) ≡ None) (λ bad. fault_in (records_of fuel 0 payload.now) ≡ Some bad.offset) }
 {
     let mut rest = payload;
     'items: loop {

@@ -14,10 +14,10 @@ items-preserved c =
     let more : 0 < length c.in-Some.behind.now = search (rules, tests) in
     counted_more c.args.payload.now c.items.rest.now c.in-Some._item c.in-Some.behind.now c.items.invariant (sym c.in-Some.ensures) more
 
-pub returns-in_default : goal.returns-in_default
-returns-in_default c = counted_bad c.args.payload.now c.items.rest.now c.items.invariant (sym c.in_default.ensures)
+pub returns-in_default-clause-bad : goal.returns-in_default-clause-bad
+returns-in_default-clause-bad c = counted_bad c.args.payload.now c.items.rest.now c.items.invariant (sym c.in_default.ensures)
 
-pub returns-then-is_empty : goal.returns-then-is_empty
-returns-then-is_empty c =
+pub returns-then-is_empty-clause-bad : goal.returns-then-is_empty-clause-bad
+returns-then-is_empty-clause-bad c =
     let last : length c.in-Some.behind.now ≡ 0 = eqb-true _ _ (sym c.is_empty.ensures ∙ c.if-is_empty.true) in
     counted_well c.args.payload.now c.items.rest.now c.in-Some._item c.in-Some.behind.now c.items.invariant (sym c.in-Some.ensures) last

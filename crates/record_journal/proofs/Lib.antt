@@ -1,0 +1,5 @@
+mod Made
+mod Steps
+mod Beginning
+mod Parsing
+mod Moments

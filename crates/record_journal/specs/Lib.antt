@@ -1,0 +1,5 @@
+pub mod Frames
+pub mod Parsed
+pub mod Next
+pub mod Journals
+pub mod Opened
