@@ -1,4 +1,5 @@
 mod Made
+mod Header
 mod Steps
 mod Beginning
 mod Parsing

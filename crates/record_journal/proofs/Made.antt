@@ -1,5 +1,5 @@
 -- What well-made journals stand for.
-use Rattle.std.proofs.Common.{◌≡◌, ◌≢◌, ℕ, zero, suc, ◌+◌, ◌<◌, ◌≤◌, ◌^◌, None, List, [], ◌∷◌, ◌++◌, length, take, drop, refl, sym, ◌∙◌, ap, arith, length-append, append_assoc}
+use Rattle.std.proofs.Common.{◌≡◌, ◌≢◌, ℕ, zero, suc, ◌+◌, ◌<◌, ◌≤◌, ◌^◌, true, None, List, [], ◌∷◌, ◌++◌, length, take, drop, refl, sym, ◌∙◌, ap, arith, length-append, append_assoc}
 use Rattle.std.proofs.lemmas.List.{take_at, drop_at}
 use Rattle.std.proofs.lemmas.Bool.{eq-eqb, ne_eqb, le-ltb}
 use Rattle.std.proofs.lemmas.Nat.{from_le_bytes-to_le_bytes_4}
@@ -54,7 +54,7 @@ no_difference : (ms rest : List ℕ) (at : ℕ) → difference ms (ms ++ rest) a
 no_difference [] rest at = refl
 no_difference (m ∷ ms) rest at = rw (eq-eqb m m refl) (no_difference ms rest (at + 1))
 
-same_bytes : (bs : List ℕ) → bytes_eq bs bs ≡ true
+pub same_bytes : (bs : List ℕ) → bytes_eq bs bs ≡ true
 same_bytes [] = refl
 same_bytes (b ∷ bs) = rw (eq-eqb b b refl) (same_bytes bs)
 
@@ -74,7 +74,7 @@ opened_made root tail rooted some =
     (ap (λ (l : List ℕ). take 32 l) (drop_at magic (root ++ tail) 8 length-magic) ∙ take_at root tail 32 rooted)
     (ap (λ (l : List ℕ). drop 40 l) (sym (append_assoc magic root tail)) ∙ drop_at (magic ++ root) tail 40 (omega (arith, length-append magic root, length-magic)))
 
-reading_open : (root rest : List ℕ) → 0 < length rest → reading root (1 ∷ rest) ≡ opened root rest
+pub reading_open : (root rest : List ℕ) → 0 < length rest → reading root (1 ∷ rest) ≡ opened root rest
 unfolding reading
 reading_open root [] some = absurd (omega arith)
 reading_open root (b ∷ rest) some = refl

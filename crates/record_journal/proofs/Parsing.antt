@@ -50,10 +50,10 @@ module _ (size after : List ℕ) (n : ℕ) (four : length size ≡ 4) (is : n �
 
   pub payload_bad : (fuel total place bad : ℕ) (byte : Option ℕ) → length after + 5 ≤ total → n < length after → 0 < n → bad_at (take n after) ≡ Some bad → place ≡ total - length after + bad → byte ≡ slice_get (take n after) bad
       → frames_of (suc fuel) total (1 ∷ (size ++ after)) ≡ Damaged place byte
-  payload_bad fuel total place bad byte within fits some is at first =
+  payload_bad fuel total place bad byte within fits some found at first =
       let behind : take n (drop 4 (size ++ after)) ≡ take n after = ap (λ (l : List ℕ). take n l) (drop_at size after 4 four) in
       let there : total - length (size ++ after) + 4 + bad ≡ place = omega (arith, long, at) in
-      frames_bad fuel total n bad (size ++ after) (take n after) (size_first size after n four is) (omega (arith, long)) some behind is
+      frames_bad fuel total n bad (size ++ after) (take n after) (size_first size after n four is) (omega (arith, long)) some behind found
       ∙ ap (λ (k : ℕ). Damaged k (slice_get (take n after) bad)) there
       ∙ ap (λ (o : Option ℕ). Damaged place o) (sym first)
 

@@ -1,5 +1,3 @@
 pub mod Frames
 pub mod Parsed
 pub mod Next
-pub mod Journals
-pub mod Opened

@@ -1,5 +1,5 @@
 //! The frames of a journal's bytes.
-ghost use Rattle.std.specs.Prelude.{◌≡◌, ◌≤◌, ◌+◌, ◌++◌, ◌∷◌, ◌<◌, length, IfOk};
+ghost use Rattle.std.specs.Prelude.{◌≡◌, ◌≤◌, ◌+◌, ◌++◌, ◌∷◌, ◌<◌, length, slice_get, IfOk};
 ghost use Rattle.record_journal.specs.Next.{IsNext, IsFrames};
 
 use record_codec::check_batch;
@@ -50,10 +50,20 @@ fn next_payload(total: u64, size: [u8; 4], after: &[u8]) -> Next
         return Next::Damaged(total, None);
     }
     if let Err(bad) = check_batch(&after[..length]) {
-        let byte = after[..length].get(bad.offset as usize).copied();
+        let byte = byte_at(&after[..length], bad.offset as usize);
         return Next::Damaged(place + bad.offset, byte);
     }
     Next::Frame(length)
+}
+
+fn byte_at(bytes: &[u8], at: usize) -> Option<u8>
+    ensures { result ≡ slice_get bytes.now at }
+{
+    if at < bytes.len() {
+        Some(bytes[at])
+    } else {
+        None
+    }
 }
 
 // The payloads from a gate on and the place of the closed gate, or what can't be read.

@@ -24,16 +24,16 @@ fn first_difference(wanted: &[u8], bytes: &[u8], at: u64) -> Option<(u64, u8)>
     requires { at + length wanted.now < 2 ^ 64 }
     ensures { result ≡ difference wanted.now bytes.now at }
 {
-    match (wanted, bytes) {
-        ([want, wanted @ ..], [byte, bytes @ ..]) => {
-            if want == byte {
-                first_difference(wanted, bytes, at + 1)
-            } else {
-                Some((at, *byte))
-            }
-        }
-        _ => None,
+    let [want, wanted @ ..] = wanted else {
+        return None;
+    };
+    let [byte, bytes @ ..] = bytes else {
+        return None;
+    };
+    if want != byte {
+        return Some((at, *byte));
     }
+    first_difference(wanted, bytes, at + 1)
 }
 
 // What a whole file stands for.
