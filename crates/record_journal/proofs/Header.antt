@@ -49,11 +49,11 @@ module _ (root rest : List ℕ) where
   header_made ps at size rooted same long is made ends =
       let eight : take 8 rest ≡ magic = ap (λ (n : ℕ). take n rest) (sym length-magic) ∙ same_front magic rest 1 (omega (arith, length-magic)) same in
       let parts : rest ≡ magic ++ (root ++ drop 40 rest) =
-          sym (take-append-drop 8 rest)
-          ∙ ap (λ (l : List ℕ). l ++ drop 8 rest) eight
-          ∙ ap (λ (l : List ℕ). magic ++ l) (sym (take-append-drop 32 (drop 8 rest)) ∙ ap (λ (l : List ℕ). l ++ drop 32 (drop 8 rest)) is ∙ ap (λ (l : List ℕ). root ++ l) (drop-drop 32 8 rest)) in
+      sym (take-append-drop 8 rest)
+      ∙ ap (λ (l : List ℕ). l ++ drop 8 rest) eight
+      ∙ ap (λ (l : List ℕ). magic ++ l) (sym (take-append-drop 32 (drop 8 rest)) ∙ ap (λ (l : List ℕ). l ++ drop 32 (drop 8 rest)) is ∙ ap (λ (l : List ℕ). root ++ l) (drop-drop 32 8 rest)) in
       let front_is : length (front root ps) ≡ 41 + at =
-          omega (arith, ap length (front_then root ps []), length-append (front root ps) [], length-append magic (root ++ (frames ps ++ [])), length-append root (frames ps ++ []), length-append (frames ps) [], length-magic, rooted, made.place) in
+      omega (arith, ap length (front_then root ps []), length-append (front root ps) [], length-append magic (root ++ (frames ps ++ [])), length-append root (frames ps ++ []), length-append (frames ps) [], length-magic, rooted, made.place) in
       record {
         gate = made.gate;
         behind = made.behind;

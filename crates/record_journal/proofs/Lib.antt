@@ -4,3 +4,4 @@ mod Steps
 mod Beginning
 mod Parsing
 mod Moments
+mod Appending

@@ -10,6 +10,9 @@ use Rattle.record_journal.proofs.Made.{same_bytes}
 use Rattle.record_journal.proofs.Header.{header_differs, header_short, header_other, header_damaged, header_made}
 use Rattle.record_journal.proofs.parse.parse_open.Goals as goal
 
+true_false : true ≡ false → ⊥
+true_false e = cc
+
 pub returns-in-Some : goal.returns-in-Some
 unfolding magic
 returns-in-Some c = header_differs c.args.root.now c.args.rest.now c.in-Some.offset c.in-Some.byte c.requires (sym c.in-Some.ensures)
@@ -21,8 +24,10 @@ returns-then-rest-lt41 c = header_short c.args.root.now c.args.rest.now _ c.requ
 pub returns-then-ne : goal.returns-then-ne
 unfolding magic
 returns-then-ne c =
-    let differs : bytes_eq c.copy_from_slice.new.self c.args.root.now ≡ false = search rules in
-    header_other c.args.root.now c.args.rest.now c.copy_from_slice.new.self (sym c.in_default.ensures) c.if-rest-lt41.false (sym c.copy_from_slice.ensures.after) differs
+    let differs : bytes_eq c.copy_from_slice.new.self c.args.root.now ≡ false = search rules in (
+      header_other c.args.root.now c.args.rest.now c.copy_from_slice.new.self (sym c.in_default.ensures) c.if-rest-lt41.false (sym c.copy_from_slice.ensures.after) differs,
+      λ same. absurd (true_false (sym (ap (λ (l : List ℕ). bytes_eq l c.args.root.now) same ∙ same_bytes c.args.root.now) ∙ differs)),
+    )
 
 pub returns-in-Damaged : goal.returns-in-Damaged
 unfolding magic
