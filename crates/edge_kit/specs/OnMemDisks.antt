@@ -25,6 +25,10 @@ disk_failing d = d.failing.items
 abbrev pub disk_stop : MemDisk → Option ℕ
 disk_stop d = d.stop
 
+-- how often it has failed
+abbrev pub disk_faults : MemDisk → ℕ
+disk_faults d = d.faults
+
 -- whether the next call works
 abbrev pub works : MemDisk → Bool
 works d = is_working (turn_of (disk_calls d) (disk_failing d) (disk_stop d))

@@ -65,7 +65,7 @@ pub struct MemDisk {
 }
 
 impl MemDisk {
-    ghost use Rattle.edge_kit.specs.OnMemDisks.{disk_bytes, disk_steps, disk_calls, disk_failing, disk_stop, image_of, Leaves};
+    ghost use Rattle.edge_kit.specs.OnMemDisks.{disk_bytes, disk_steps, disk_calls, disk_failing, disk_stop, disk_faults, image_of, Leaves};
 
     /// A disk of these bytes, all of them synced. The calls of these numbers fail. At the call `stop` it
     /// stops: a write or cut is still made and not synced, a sync isn't done; that call fails, and each later
@@ -81,6 +81,7 @@ impl MemDisk {
         ensures calls { IfOk result (λ d. disk_calls d ≡ 0) }
         ensures failing { IfOk result (λ d. disk_failing d ≡ failing.items) }
         ensures stop { IfOk result (λ d. disk_stop d ≡ stop) }
+        ensures faults { IfOk result (λ d. disk_faults d ≡ 0) }
     {
         Ok(MemDisk {
             alloc,
@@ -123,6 +124,7 @@ impl MemDisk {
         ensures steps { disk_steps self.new ≡ disk_steps self.old }
         ensures calls { disk_calls self.new ≡ disk_calls self.old }
         ensures failing { disk_failing self.new ≡ disk_failing self.old }
+        ensures faults { disk_faults self.new ≡ disk_faults self.old }
     {
         self.stop = stop;
     }

@@ -1,5 +1,5 @@
 //! A journal: a header, frames of payloads with an open gate each, and a closed gate.
-ghost use Rattle.std.specs.Prelude.{◌≡◌, ◌⊎◌, ◌≤◌, List, ℕ, None, Some, map, IfOk, IfErr, MatchResult};
+ghost use Rattle.std.specs.Prelude.{◌≡◌, ◌⊎◌, ◌≤◌, List, ℕ, None, Some, map, IfOk, IfErr, MatchResult, is_some};
 ghost use Rattle.edge_kit.specs.Causes.{Rose};
 ghost use Rattle.edge_kit.specs.Disks.{LeavesOnly};
 ghost use Rattle.record_codec.specs.Reading.{bad_at};
@@ -101,6 +101,13 @@ impl<D: Disk> Journal<D> {
         ensures { result ≡ self.now.size }
     {
         self.log.size
+    }
+
+    /// Whether the disk failed in an append since the journal was opened.
+    pub fn failed(&self) -> bool
+        ensures { result ≡ is_some self.now.torn }
+    {
+        self.log.torn.is_some()
     }
 
     /// The disk as it is.

@@ -11,3 +11,6 @@ mod parse;
 pub use journal::Journal;
 pub use log::AppendFault;
 pub use open::OpenFault;
+
+#[cfg(test)]
+mod tests;
