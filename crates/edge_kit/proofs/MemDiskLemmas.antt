@@ -92,6 +92,11 @@ image_left how first image steps n unsynced is =
     let all : LeavesAfter (λ d. d ≡ first) first steps made = subst (λ (l : List DiskStep). LeavesAfter (λ d. d ≡ first) first l made) (take-append-drop n steps) parts in
     subst (λ (l : List ℕ). LeavesAt first steps (length steps) l) (sym is) (whole first steps made all)
 
+-- what a read sees is left
+pub held_left : (first : List ℕ) (steps : List DiskStep) (held c : List ℕ) → held ≡ content first steps → c ≡ held → LeavesAt first steps (length steps) c
+held_left first steps held c current is =
+    whole first steps c (subst (λ (l : List ℕ). LeavesAfter (λ d. d ≡ first) first steps l) (sym (is ∙ current)) (content_is_left (λ d. d ≡ first) first steps refl))
+
 -- ---- one call
 
 elapses_push : (step : List ℕ → List ℕ → Type 0) (first : List ℕ) (steps : List DiskStep) (e : DiskStep)

@@ -28,10 +28,12 @@ pub trait Disk {
         ensures time { Elapses Same (moment self.old) (moment self.new) (leaves self.old) (leaves self.new) }
         ensures cause { HasCause (faults self.old) (faults self.new) result };
 
-    /// Fills the buffer up to the disk's end, and gives the number of bytes. Takes no memory.
+    /// Fills the buffer up to the disk's end, and gives the number of bytes. What it sees is one of the
+    /// contents that a crash now may leave. Takes no memory.
     fn read(&mut self, at: u64, buf: &mut [u8]) -> Result<usize, Failed>
         ensures bound { IfOk result (λ n. n ≤ length buf.new) }
         ensures bytes { IfOk result (λ n. (c : List ℕ) → shows self.old c → ReadsAt c at buf.new n) }
+        ensures image { OnOk result ((c : List ℕ) → shows self.old c → leaves self.old (moment self.old) c) }
         ensures shows { Alike (shows self.old) (shows self.new) }
         ensures time { Elapses Same (moment self.old) (moment self.new) (leaves self.old) (leaves self.new) }
         ensures cause { HasCause (faults self.old) (faults self.new) result };

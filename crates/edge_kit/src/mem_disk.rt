@@ -297,6 +297,7 @@ impl Disk for MemDisk {
     fn read(&mut self, at: u64, buf: &mut [u8]) -> Result<usize, Failed>
         ensures bound { IfOk result (λ n. n ≤ length buf.new) }
         ensures bytes { IfOk result (λ n. (c : List ℕ) → Shows self.old c → ReadsAt c at buf.new n) }
+        ensures image { OnOk result ((c : List ℕ) → Shows self.old c → Left self.old (moment_of self.old) c) }
         ensures shows { Alike (Shows self.old) (Shows self.new) }
         ensures time { Elapses Same (moment_of self.old) (moment_of self.new) (Left self.old) (Left self.new) }
         ensures cause { HasCause self.old.faults self.new.faults result }

@@ -5,3 +5,4 @@ mod Beginning
 mod Parsing
 mod Moments
 mod Appending
+mod Laws

@@ -1,9 +1,10 @@
 -- What the bytes of a journal stand for (format of version 1, `docs/FORMATS.md`).
-use Rattle.std.specs.Prelude.{◌≡◌, ◌≢◌, ◌⊎◌, ℕ, zero, suc, ◌+◌, ◌-◌, ◌^◌, ◌<◌, true, Option, Some, None, List, [], ◌∷◌, ◌++◌, length, take, drop, slice_get, nat_eq, nat_le, nat_lt, if◌then◌else◌}
+use Rattle.std.specs.Prelude.{◌≡◌, ◌≢◌, ◌⊎◌, ℕ, zero, suc, ◌+◌, ◌-◌, ◌^◌, ◌<◌, ◌≤◌, true, Option, Some, None, List, [], ◌∷◌, ◌++◌, length, take, drop, slice_get, nat_eq, nat_le, nat_lt, if◌then◌else◌}
 use Rattle.std.specs.List.{AllByRecursion}
 use Rattle.std.specs.Int.{w32, to_le_bytes, from_le_bytes}
 use Rattle.std.specs.Str.{bytes_eq}
 use Rattle.edge_kit.specs.Disks.{LeavesOnly}
+use Rattle.edge_kit.specs.Images.{Change, Wrote, Shortened}
 use Rattle.record_codec.specs.Reading.{bad_at}
 
 -- VKHJRN01
@@ -109,6 +110,12 @@ pub record Staged (root : List ℕ) (ps : List (List ℕ)) (p : List ℕ) (size 
   pub rooted : length root ≡ 32
   pub payloads : AllByRecursion IsPayload ps
   pub payload : IsPayload p
+
+-- changes of a disk behind the first so many bytes
+abbrev pub AllBehind : ℕ → List Change → Type 0
+AllBehind size [] = Unit {0}
+AllBehind size (Wrote at n ∷ earlier) = (size ≤ at) × AllBehind size earlier
+AllBehind size (Shortened len ∷ earlier) = (size ≤ len) × AllBehind size earlier
 
 -- the payloads that a file opens to: one that isn't begun has none
 abbrev pub begun : Reading → Option (List (List ℕ))
