@@ -1,9 +1,9 @@
 //! The validator client: the real objects, and the top call.
 #![tactic(auto)]
 
-use edge_kit::{Clock, Disk, Disks, Door, Reading, Writing};
+use edge_kit::{Clock, Disks, Door, MemDisk, Reading, Writing};
 use signer_link::MemSigner;
-use std::alloc::AllocError;
+use std::alloc::{AllocError, Global};
 use std::process::ExitCode;
 use std::rt::Env;
 use std::{env, io};
@@ -12,10 +12,6 @@ use validator_cli::{Node, Status, run_validator};
 /// What no command uses yet.
 #[derive(Clone, Copy, Drop)]
 struct Unused;
-
-impl Disk for Unused {
-    ghost faults = { λ _. 0 };
-}
 
 impl Door for Unused {
     ghost faults = { λ _. 0 };
@@ -41,9 +37,20 @@ fn words<R: Env + AllocGlobal>(rt: &R) -> Result<Vec<String>, AllocError> {
     Ok(words)
 }
 
+/// Two empty disks in memory, which end with the run.
+fn memory_disks(alloc: Global) -> Result<Disks<MemDisk>, AllocError> {
+    Ok(Disks {
+        first: MemDisk::new(alloc, Vec::new(alloc), Vec::new(alloc), None)?,
+        second: MemDisk::new(alloc, Vec::new(alloc), Vec::new(alloc), None)?,
+    })
+}
+
 fn main(rt: HostRuntime) -> ExitCode {
     let alloc = rt.alloc();
     let Ok(words) = words(&rt) else {
+        return ExitCode::from(Status::OutOfMemory.code());
+    };
+    let Ok(disks) = memory_disks(alloc) else {
         return ExitCode::from(Status::OutOfMemory.code());
     };
     let mut input = Reading::new(rt.reader());
@@ -53,10 +60,7 @@ fn main(rt: HostRuntime) -> ExitCode {
         &rt,
         alloc,
         words.as_slice(),
-        Disks {
-            first: Unused,
-            second: Unused,
-        },
+        disks,
         MemSigner::new(alloc, Vec::new(alloc), Vec::new(alloc)),
         nodes,
         Unused,

@@ -1,5 +1,5 @@
 //! What stands for the outside in a test.
-use edge_kit::{Clock, Disk, Disks, Door, MemSink, MemSource, PubKey};
+use edge_kit::{Clock, Disks, Door, MemDisk, MemSink, MemSource, PubKey};
 use signer_link::MemSigner;
 use std::alloc::{AllocError, Global};
 use std::sync::Wait;
@@ -9,10 +9,6 @@ use validator_cli::{Node, Status, run_validator};
 /// What no command uses yet.
 #[derive(Clone, Copy, Drop)]
 pub struct Unused;
-
-impl Disk for Unused {
-    ghost faults = { λ _. 0 };
-}
 
 impl Door for Unused {
     ghost faults = { λ _. 0 };
@@ -72,8 +68,8 @@ pub fn run<T: Threads + Wait + Sync>(
         alloc,
         texts.as_slice(),
         Disks {
-            first: Unused,
-            second: Unused,
+            first: MemDisk::new(alloc, Vec::new(alloc), Vec::new(alloc), None)?,
+            second: MemDisk::new(alloc, Vec::new(alloc), Vec::new(alloc), None)?,
         },
         MemSigner::new(alloc, lacking, signs),
         nodes,

@@ -1,0 +1,20 @@
+use Rattle.std.proofs.Common.{◌≡◌, ap, refl, rules, arith, length}
+use Rattle.std.proofs.lemmas.List.{length_push}
+use Rattle.edge_kit.specs.declared.mem_disk.DiskStep.TheVariants.{Synced}
+use Rattle.edge_kit.proofs.MemDiskLemmas.{current_after, durable_synced, unsynced_synced, elapses_synced}
+use Rattle.edge_kit.proofs.mem_disk.MemDiskDisk.sync.Goals as goal
+
+pub invariant_of-self-2 : goal.invariant_of-self-2
+invariant_of-self-2 c =
+    let d = c.args.self.now in
+    let all : c.len-self.result ≡ length c.keep.new.steps.items = search rules in
+    record {
+      current = current_after d.first.items d.steps.items c.keep.new.steps.items d.held.items d.held.items Synced d.current c.keep.ensures.steps refl;
+      within = omega (arith, all);
+      durable = durable_synced d.first.items d.steps.items c.keep.new.steps.items c.len-self.result all c.keep.ensures.steps;
+      changes = unsynced_synced c.keep.new.steps.items c.len-self.result all;
+      room = λ some. absurd (omega (arith, all));
+    }
+
+pub returns-clause-time : goal.returns-clause-time
+returns-clause-time c = elapses_synced c.args.self.now.first.items c.args.self.now.steps.items c.keep.new.steps.items c.keep.ensures.steps

@@ -1,0 +1,216 @@
+//! A file of the system as a disk. It tells nothing of its content.
+ghost use Rattle.std.specs.Prelude.{◌≡◌, ◌≤◌, ◌<◌, length, IfOk, OnErr};
+ghost use Rattle.edge_kit.specs.Causes.{Rose};
+
+use crate::disk::Disk;
+use crate::traits::Failed;
+use std::fs::{File, Files, OpenFile, OpenOptions};
+use std::io;
+use std::io::{ErrorKind, Read, Seek, SeekFrom, Write};
+use std::path::Path;
+
+/// The file of a path, with a count of its failures. It is opened at the first call, created where it is
+/// absent, and its directory is synced then, so that a sync keeps its name too.
+#[derive(Drop)]
+pub struct FileDisk<R: Files + Drop> {
+    files: R,
+    path: String,
+    file: Option<R::File>,
+    faults: u64,
+}
+
+impl<R: Files + Drop> FileDisk<R> {
+    /// The file of a path, not opened yet.
+    pub fn new(files: R, path: String) -> Self
+        ensures { result.faults ≡ 0 }
+    {
+        FileDisk {
+            files,
+            path,
+            file: None,
+            faults: 0,
+        }
+    }
+}
+
+// Opens a file for reading and writing, creates it where it is absent, and syncs its directory.
+fn open_file<R: Files>(files: &R, path: &str) -> io::Result<R::File> {
+    let file = OpenOptions::new()
+        .read(true)
+        .write(true)
+        .create(true)
+        .open(files, path)?;
+    let directory = match Path::new(path).parent() {
+        Some(parent) if !parent.as_str().is_empty() => File::open(files, parent)?,
+        _ => File::open(files, ".")?,
+    };
+    directory.sync_all()?;
+    Ok(file)
+}
+
+// Reads until the buffer is full or the file ends.
+fn read_full<F: Read + Seek>(file: &mut F, at: u64, buf: &mut [u8]) -> io::Result<usize>
+    ensures { IfOk result (λ n. n ≤ length buf.new) }
+{
+    file.seek(SeekFrom::Start(at))?;
+    let mut filled = 0;
+    'filling: for _ in 0..u64::MAX {
+        if filled == buf.len() {
+            return Ok(filled);
+        }
+        match file.read(&mut buf[filled..]) {
+            Ok(0) => return Ok(filled),
+            Ok(count) => filled += count,
+            Err(e) if e.kind() == ErrorKind::Interrupted => {}
+            Err(e) => return Err(e),
+        }
+    }
+    Ok(filled)
+}
+
+// Writes all the bytes.
+fn write_full<F: Write + Seek>(file: &mut F, at: u64, bytes: &[u8]) -> io::Result<()> {
+    file.seek(SeekFrom::Start(at))?;
+    let mut done = 0;
+    'writing: for _ in 0..u64::MAX {
+        if done == bytes.len() {
+            return Ok(());
+        }
+        match file.write(&bytes[done..]) {
+            Ok(0) => return Err(io::Error::from(ErrorKind::WriteZero)),
+            Ok(count) => done += count,
+            Err(e) if e.kind() == ErrorKind::Interrupted => {}
+            Err(e) => return Err(e),
+        }
+    }
+    Err(io::Error::from(ErrorKind::WriteZero))
+}
+
+// Cuts a file that is longer.
+fn cut_to<F: Seek + OpenFile>(file: &mut F, len: u64) -> io::Result<()> {
+    if len < file.seek(SeekFrom::End(0))? {
+        file.set_len(len)?;
+    }
+    Ok(())
+}
+
+// Counts a fault.
+fn fault(faults: &mut u64) -> Failed
+    ensures rose { Rose faults.old faults.new }
+    ensures later { faults.old ≤ faults.new }
+{
+    *faults = faults.saturating_add(1);
+    Failed
+}
+
+// The file, opened where it isn't yet.
+fn taken<R: Files>(file: &mut Option<R::File>, files: &R, path: &str) -> io::Result<R::File> {
+    match file.take() {
+        Some(file) => Ok(file),
+        None => open_file(files, path),
+    }
+}
+
+impl<R: Files + Drop> Disk for FileDisk<R> {
+    ghost shows = { λ d c. ⊥ };
+
+    ghost moment = { λ d. 0 };
+
+    ghost leaves = { λ d k c. ⊥ };
+
+    ghost faults = { λ d. d.faults };
+
+    fn len(&mut self) -> Result<u64, Failed> {
+        let Ok(mut file) = taken(&mut self.file, &self.files, &self.path) else {
+            return Err(fault(&mut self.faults));
+        };
+        let done = file.seek(SeekFrom::End(0));
+        self.file = Some(file);
+        match done {
+            Ok(value) => Ok(value),
+            Err(_) => Err(fault(&mut self.faults)),
+        }
+    }
+
+    fn read(&mut self, at: u64, buf: &mut [u8]) -> Result<usize, Failed> {
+        let Ok(mut file) = taken(&mut self.file, &self.files, &self.path) else {
+            return Err(fault(&mut self.faults));
+        };
+        let done = read_full(&mut file, at, buf);
+        self.file = Some(file);
+        match done {
+            Ok(value) => Ok(value),
+            Err(_) => Err(fault(&mut self.faults)),
+        }
+    }
+
+    fn write_at(&mut self, at: u64, bytes: &[u8]) -> Result<(), Failed> {
+        let Ok(mut file) = taken(&mut self.file, &self.files, &self.path) else {
+            return Err(fault(&mut self.faults));
+        };
+        let done = write_full(&mut file, at, bytes);
+        self.file = Some(file);
+        match done {
+            Ok(value) => Ok(value),
+            Err(_) => Err(fault(&mut self.faults)),
+        }
+    }
+
+    fn cut(&mut self, len: u64) -> Result<(), Failed> {
+        let Ok(mut file) = taken(&mut self.file, &self.files, &self.path) else {
+            return Err(fault(&mut self.faults));
+        };
+        let done = cut_to(&mut file, len);
+        self.file = Some(file);
+        match done {
+            Ok(value) => Ok(value),
+            Err(_) => Err(fault(&mut self.faults)),
+        }
+    }
+
+    fn sync(&mut self) -> Result<(), Failed> {
+        let Ok(file) = taken(&mut self.file, &self.files, &self.path) else {
+            return Err(fault(&mut self.faults));
+        };
+        let done = file.sync_all();
+        self.file = Some(file);
+        match done {
+            Ok(value) => Ok(value),
+            Err(_) => Err(fault(&mut self.faults)),
+        }
+    }
+}
+
+#[cfg(test)]
+mod tests {
+    use super::*;
+    use std::fs;
+    use std::test::Fail;
+
+    #[test]
+    fn a_file_is_a_disk(rt: HostRuntime) -> Result<(), Fail> {
+        let name = "edge_kit_file_disk.tmp";
+        let _ = fs::remove_file(&rt, name);
+        let mut disk = FileDisk::new(&rt, String::from_str(rt.alloc(), name)?);
+        assert_eq!(rt; disk.len(), Ok(0));
+        assert_eq!(rt; disk.write_at(0, b"abc"), Ok(()));
+        assert_eq!(rt; disk.write_at(5, b"z"), Ok(()));
+        assert_eq!(rt; disk.sync(), Ok(()));
+        let mut buf = [9u8; 8];
+        assert_eq!(rt; disk.read(0, &mut buf), Ok(6));
+        assert_eq!(rt; buf, [97, 98, 99, 0, 0, 122, 9, 9]);
+        assert_eq!(rt; disk.cut(9), Ok(()));
+        assert_eq!(rt; disk.cut(2), Ok(()));
+        drop(disk);
+        let mut again = FileDisk::new(&rt, String::from_str(rt.alloc(), name)?);
+        assert_eq!(rt; again.read(1, &mut buf), Ok(1));
+        assert_eq!(rt; buf[0], b'b');
+        assert_eq!(rt; again.len(), Ok(2));
+        fs::remove_file(&rt, name)?;
+        let nowhere = String::from_str(rt.alloc(), "no/such/directory/file")?;
+        let mut absent = FileDisk::new(&rt, nowhere);
+        assert_eq!(rt; absent.sync(), Err(Failed));
+        assert_eq!(rt; absent.faults, 1);
+        Ok(())
+    }
+}

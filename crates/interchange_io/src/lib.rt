@@ -1,0 +1,20 @@
+//! EIP-3076 interchange files of format version 5, read and written.
+#![tactic(auto)]
+
+mod entries;
+mod fault;
+mod gathered;
+mod laws;
+mod member;
+mod reading;
+mod sorted;
+mod writing;
+
+pub use fault::{ReadFault, VersionText};
+pub use laws::{united_books, written_order};
+pub use member::Member;
+pub use reading::{FILE_LIMIT, read};
+pub use writing::write;
+
+#[cfg(test)]
+mod tests;

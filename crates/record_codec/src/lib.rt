@@ -1,0 +1,13 @@
+//! The payloads of a journal: batches of items, each with one spelling in bytes.
+#![tactic(auto)]
+
+mod item;
+mod reading;
+mod writing;
+
+pub use item::{BadAt, JournalItem};
+pub use reading::{check_batch, decode};
+pub use writing::encode;
+
+#[cfg(test)]
+mod tests;

@@ -1,0 +1,129 @@
+use super::*;
+use edge_kit::{PubKey, Root};
+use slash_defs::{BlockEntry, VoteEntry};
+use std::alloc::{AllocError, Global};
+use std::test::Fail;
+
+const KEY: PubKey = PubKey([0x11; 48]);
+
+const ROOT: Root = Root([0xaa; 32]);
+
+fn joined(alloc: Global, parts: &[&[u8]]) -> Result<Vec<u8>, AllocError> {
+    let mut bytes = Vec::new(alloc);
+    for part in parts {
+        bytes.extend_from_slice(part)?;
+    }
+    Ok(bytes)
+}
+
+#[test]
+fn a_block_without_a_root_has_58_bytes(rt: HostRuntime) -> Result<(), Fail> {
+    let entry = BlockEntry {
+        slot: 1,
+        root: None,
+    };
+    let bytes = encode(rt.alloc(), &[JournalItem::Block { key: KEY, entry }])?;
+    let parts: [&[u8]; 4] = [&[1], &[0x11; 48], &[1, 0, 0, 0, 0, 0, 0, 0], &[0]];
+    assert_eq!(rt; bytes.len(), 58);
+    assert_eq!(rt; bytes, joined(rt.alloc(), &parts)?);
+    Ok(())
+}
+
+#[test]
+fn each_item_has_one_spelling(rt: HostRuntime) -> Result<(), Fail> {
+    let slot_9 = [9, 0, 0, 0, 0, 0, 0, 0];
+    let most = [0xff; 8];
+    let two = [2, 0, 0, 0, 0, 0, 0, 0];
+    let rooted = BlockEntry {
+        slot: 9,
+        root: Some(ROOT),
+    };
+    let vote = VoteEntry {
+        source: 2,
+        target: 9,
+        root: None,
+    };
+    let table: [(u8, [&[u8]; 4], JournalItem); 7] = [
+        (
+            1,
+            [&slot_9, &[1], &[0xaa; 32], &[]],
+            JournalItem::Block {
+                key: KEY,
+                entry: rooted,
+            },
+        ),
+        (
+            2,
+            [&two, &slot_9, &[0], &[]],
+            JournalItem::Vote {
+                key: KEY,
+                entry: vote,
+            },
+        ),
+        (
+            3,
+            [&[0], &[0], &[], &[]],
+            JournalItem::Floors {
+                key: KEY,
+                block: None,
+                vote: None,
+            },
+        ),
+        (
+            3,
+            [&[1], &most, &[0], &[]],
+            JournalItem::Floors {
+                key: KEY,
+                block: Some(u64::MAX),
+                vote: None,
+            },
+        ),
+        (
+            3,
+            [&[0], &[1], &two, &slot_9],
+            JournalItem::Floors {
+                key: KEY,
+                block: None,
+                vote: Some((2, 9)),
+            },
+        ),
+        (4, [&[], &[], &[], &[]], JournalItem::Activate { key: KEY }),
+        (5, [&[], &[], &[], &[]], JournalItem::Close { key: KEY }),
+    ];
+    for (tag, parts, item) in table {
+        let mut bytes = joined(rt.alloc(), &[&[tag], &KEY.0])?;
+        bytes.extend_from_slice(&joined(rt.alloc(), &parts)?)?;
+        assert_eq!(rt; check_batch(&bytes), Ok(()), "tag {tag}");
+        let Ok(items) = decode(rt.alloc(), &bytes)? else {
+            return Err(Fail::from("not read"));
+        };
+        assert_eq!(rt; items.as_slice(), [item].as_slice());
+        assert_eq!(rt; encode(rt.alloc(), &items)?, bytes);
+    }
+    Ok(())
+}
+
+#[test]
+fn the_first_item_that_cant_be_read_is_named(rt: HostRuntime) -> Result<(), Fail> {
+    let block = joined(rt.alloc(), &[&[1], &KEY.0, &[7; 8], &[0]])?;
+    let state = joined(rt.alloc(), &[&[4], &KEY.0])?;
+    let table: [([&[u8]; 2], u64); 10] = [
+        ([&[], &[]], 0),
+        ([&[0], &KEY.0], 0),
+        ([&[6], &KEY.0], 0),
+        ([&block[..57], &[]], 0),
+        ([&block[..57], &[2]], 0),
+        ([&block, &[1]], 58),
+        ([&block, &block[..57]], 58),
+        ([&block, &state], 58),
+        ([&state, &block], 0),
+        ([&state, &[0]], 0),
+    ];
+    for (parts, offset) in table {
+        let bytes = joined(rt.alloc(), &parts)?;
+        assert_eq!(rt; check_batch(&bytes), Err(BadAt { offset }));
+        let read = decode(rt.alloc(), &bytes)?;
+        assert_eq!(rt; read.err(), Some(BadAt { offset }));
+    }
+    Ok(())
+}
