@@ -1,19 +1,19 @@
 -- From a desk that stands for a state to the desk after a call.
-use Rattle.std.proofs.Common.{◌≡◌, ℕ, ◌+◌, max, Bool, true, false, cond, List, [], ◌∷◌, ◌++◌, length, Option, Some, None, refl, sym, ◌∙◌, ap, subst, arith, inl, inr}
-use Rattle.std.specs.Prelude.{IsSome, IsSomeAnd}
+use Rattle.std.proofs.Common.{◌≡◌, ℕ, ◌+◌, max, List, [], ◌∷◌, ◌++◌, Option, Some, refl, sym, ◌∙◌, ap, subst}
+use Rattle.std.specs.Prelude.{IsSomeAnd}
 use Rattle.edge_kit.specs.declared.bytes.PubKey.{PubKey}
 use Rattle.slash_defs.specs.declared.message.Message.{Message}
 use Rattle.protect_record.specs.Parts.{Parts, SameParts}
-use Rattle.protect_record.specs.Pasts.{Past, no_past, with_own}
+use Rattle.protect_record.specs.Pasts.{Past, with_own}
 use Rattle.protect_record.specs.Passing.{Passes}
 use Rattle.protect_record.specs.Standing.{Stands}
 use Rattle.protect_record.specs.Verdicts.{IsVerdict}
 use Rattle.protect_record.specs.declared.verdict.Verdict.{Verdict}
 use Rattle.protect_record.specs.declared.verdict.Verdict.TheVariants as verdict
-use Rattle.check_sign.specs.Keys.{kept_of, with_key, with_kept, EachKey}
+use Rattle.check_sign.specs.Keys.{kept_of, with_kept, EachKey}
 use Rattle.check_sign.specs.Contents.{Contents}
 use Rattle.check_sign.specs.Taking.{Judged, Grew}
-use Rattle.check_sign.specs.Machine.{State, DeskStands, IsRefusal, past_of, grown, grant_for}
+use Rattle.check_sign.specs.Machine.{State, DeskStands, IsRefusal, past_of, grown}
 use Rattle.check_sign.specs.declared.event.DeskEvent.{DeskEvent}
 use Rattle.check_sign.specs.declared.open_grant.OpenGrant.{OpenGrant}
 use Rattle.check_sign.proofs.KeyLemmas.{each_found, each_refit, each_changed}

@@ -1,5 +1,5 @@
 -- What a desk holds, as contracts see it, and which state of the machine it stands for.
-use Rattle.std.specs.Prelude.{◌≡◌, ℕ, List, []}
+use Rattle.std.specs.Prelude.{ℕ, List}
 use Rattle.edge_kit.specs.declared.bytes.PubKey.{PubKey}
 use Rattle.protect_record.specs.Parts.{Parts}
 use Rattle.check_sign.specs.declared.open_grant.OpenGrant.{OpenGrant}

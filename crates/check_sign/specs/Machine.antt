@@ -1,5 +1,5 @@
 -- The desk as a machine: its state, which replies it may give, and the state and the events after a reply.
-use Rattle.std.specs.Prelude.{◌≡◌, ◌≢◌, ℕ, ◌+◌, ◌<◌, ◌≤◌, ◌==◌, ◌^◌, max, if◌then◌else◌, length, List, [], ◌∷◌, ◌++◌, Contains, Option, Some, None, IsSome, IsSomeAnd}
+use Rattle.std.specs.Prelude.{◌≡◌, ◌≢◌, ℕ, ◌+◌, ◌<◌, ◌≤◌, ◌==◌, max, if◌then◌else◌, length, List, [], ◌∷◌, ◌++◌, Contains, Option, Some, None, IsSome, IsSomeAnd}
 use Rattle.edge_kit.specs.declared.bytes.PubKey.{PubKey}
 use Rattle.slash_defs.specs.declared.message.Message.{Message}
 use Rattle.protect_record.specs.Parts.{Parts}
@@ -17,7 +17,6 @@ use Rattle.check_sign.specs.declared.call.DeskCall.TheVariants as call
 use Rattle.check_sign.specs.declared.call.DeskReply.{DeskReply}
 use Rattle.check_sign.specs.declared.call.DeskReply.TheVariants as reply
 use Rattle.check_sign.specs.declared.event.DeskEvent.{DeskEvent}
-use Rattle.check_sign.specs.declared.event.Event.{Event}
 use Rattle.check_sign.specs.declared.event.Event.TheVariants as event
 
 -- how many keys a desk keeps at most

@@ -1,5 +1,5 @@
 -- What becomes of the kept records where a proposal comes.
-use Rattle.std.specs.Prelude.{◌≡◌, ◌≢◌, List, [], None, Some}
+use Rattle.std.specs.Prelude.{◌≡◌, ◌≢◌, List, None, Some}
 use Rattle.edge_kit.specs.declared.bytes.PubKey.{PubKey}
 use Rattle.slash_defs.specs.declared.message.Message.{Message}
 use Rattle.protect_record.specs.Parts.{Parts, SameParts}

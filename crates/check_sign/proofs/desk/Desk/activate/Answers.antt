@@ -1,11 +1,8 @@
-use Rattle.std.proofs.Common.{◌≡◌, ◌+◌, ◌<◌, ◌≤◌, List, true, false, None, length, refl, sym, ◌∙◌, ap, subst, rules, arith}
-use Rattle.std.specs.Prelude.{is_some}
+use Rattle.std.proofs.Common.{List, refl, sym, ◌∙◌, subst, arith}
 use Rattle.edge_kit.specs.declared.bytes.PubKey.{PubKey}
 use Rattle.protect_record.specs.Parts.{Parts}
 use Rattle.protect_record.specs.Pasts.{no_past}
-use Rattle.check_sign.specs.Contents.{Contents}
 use Rattle.check_sign.specs.Keys.{EachKey, with_key}
-use Rattle.check_sign.specs.Machine.{State, DeskStands}
 use Rattle.protect_record.specs.Standing.{Stands}
 use Rattle.check_sign.proofs.KeyLemmas.{each_absent, each_present, each_length, each_new}
 use Rattle.check_sign.proofs.MachineLemmas.{opened, restated}

@@ -1,8 +1,7 @@
-use Rattle.std.proofs.Common.{◌≡◌, ◌+◌, ◌∷◌, [], ◌++◌, List, None, Some, refl, sym, ◌∙◌, ap, subst, rules, arith}
+use Rattle.std.proofs.Common.{List, Some, refl, sym, ap, subst}
 use Rattle.edge_kit.specs.declared.bytes.PubKey.{PubKey}
 use Rattle.protect_record.specs.Parts.{Parts}
 use Rattle.check_sign.specs.Keys.{EachKey}
-use Rattle.check_sign.specs.Machine.{State, DeskStands}
 use Rattle.protect_record.specs.Standing.{Stands}
 use Rattle.check_sign.proofs.KeyLemmas.{each_none}
 use Rattle.check_sign.proofs.MachineLemmas.{opened, restated, refused, no_room, granted, opened_one}
