@@ -1,5 +1,5 @@
 -- One call more in the list of a disk in memory.
-use Rattle.std.proofs.Common.{◌≡◌, ℕ, ◌+◌, ◌-◌, ◌/◌, ◌<◌, ◌≤◌, true, List, [], ◌∷◌, ◌++◌, length, get_or, take, drop, Vec, refl, sym, ◌∙◌, ap, subst, arith, take-append-drop}
+use Rattle.std.proofs.Common.{◌≡◌, ℕ, ◌+◌, ◌/◌, ◌<◌, ◌≤◌, true, List, [], ◌∷◌, ◌++◌, length, get_or, take, drop, Vec, refl, sym, ◌∙◌, ap, subst, arith, take-append-drop}
 use Rattle.std.proofs.lemmas.List.{take_all, drop_all, length-take, take-append-le, drop-append-le, length_push, take_more}
 use Rattle.std.specs.List.{list_all}
 use Rattle.std.specs.declared.alloc.Global.{Global}

@@ -2,13 +2,12 @@
 use Rattle.std.proofs.Common.{◌≡◌, ◌⊎◌, inl, inr, ⊎_elim, ℕ, ◌+◌, ◌-◌, ◌^◌, ◌<◌, ◌≤◌, None, Some, Option, List, [], ◌∷◌, ◌++◌, length, refl, sym, ◌∙◌, ap, subst, arith, length-append}
 use Rattle.std.specs.List.{AllByRecursion}
 use Rattle.record_codec.specs.Reading.{bad_at, batch_of, records_at, record_at, state_at}
-use Rattle.edge_kit.specs.Disks.{Torn, overwrite, Elapses, Holds, LeavesOnly}
+use Rattle.edge_kit.specs.Disks.{Holds, LeavesOnly}
 use Rattle.edge_kit.proofs.Moments.{leaves_end, leaves_weaker}
-use Rattle.record_journal.specs.Frames.{Kept, reading, IsPayload, body, front, WellMade, IsBeforeOrAfter}
+use Rattle.record_journal.specs.Frames.{Kept, IsPayload, body, front, WellMade, IsBeforeOrAfter}
 use Rattle.record_journal.specs.Journals.{Journaled, MayRead, Stands}
 use Rattle.record_journal.proofs.Made.{reading_made, length-body}
 use Rattle.record_journal.proofs.Steps.{front_push, all_push}
-use Rattle.record_journal.proofs.Moments.{first, both, ended}
 
 none_bad : bad_at [] ≡ Some 0
 unfolding batch_of records_at record_at state_at

@@ -1,4 +1,4 @@
-use Rattle.std.proofs.Common.{◌≡◌, ◌+◌, ◌∙◌, ap, sym, subst, arith, rules, List, ℕ, Vec, length, map, Some}
+use Rattle.std.proofs.Common.{◌≡◌, ◌+◌, ◌∙◌, ap, sym, subst, rules, List, ℕ, Vec, length, map, Some}
 use Rattle.std.specs.declared.alloc.Global.{Global}
 use Rattle.record_journal.specs.declared.parse.Found.{Found}
 use Rattle.record_journal.specs.Frames.{begun, front}

@@ -1,5 +1,4 @@
-use Rattle.std.proofs.Common.{◌≡◌, ap, refl, rules, arith, length}
-use Rattle.std.proofs.lemmas.List.{length_push}
+use Rattle.std.proofs.Common.{◌≡◌, refl, rules, arith, length}
 use Rattle.edge_kit.specs.declared.mem_disk.DiskStep.TheVariants.{Synced}
 use Rattle.edge_kit.proofs.MemDiskLemmas.{current_after, durable_synced, unsynced_synced, elapses_synced}
 use Rattle.edge_kit.proofs.mem_disk.MemDiskDisk.sync.Goals as goal

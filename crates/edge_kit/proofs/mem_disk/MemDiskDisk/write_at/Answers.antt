@@ -1,8 +1,8 @@
-use Rattle.std.proofs.Common.{◌≡◌, sym, ap, refl, ◌∙◌, rules, arith, length, List, ℕ}
+use Rattle.std.proofs.Common.{◌≡◌, ap, refl, ◌∙◌, rules, arith, length, List, ℕ}
 use Rattle.std.proofs.lemmas.List.{length_push}
-use Rattle.edge_kit.specs.declared.mem_disk.DiskStep.TheVariants.{Wrote, Shortened}
+use Rattle.edge_kit.specs.declared.mem_disk.DiskStep.TheVariants.{Wrote}
 use Rattle.edge_kit.specs.Disks.{overwrite}
-use Rattle.edge_kit.proofs.MemDiskLemmas.{current_after, durable_stays, unsynced_stays, elapses_wrote, elapses_cut}
+use Rattle.edge_kit.proofs.MemDiskLemmas.{current_after, durable_stays, unsynced_stays, elapses_wrote}
 use Rattle.edge_kit.proofs.mem_disk.MemDiskDisk.write_at.Goals as goal
 
 pub invariant_of-self-in-Stops : goal.invariant_of-self-in-Stops
