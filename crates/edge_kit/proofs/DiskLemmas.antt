@@ -1,6 +1,6 @@
 -- Writes on lists of bytes.
-use Rattle.std.proofs.Common.{◌≡◌, ℕ, zero, suc, ◌+◌, ◌-◌, ◌<◌, ◌≤◌, min, max, List, [], ◌∷◌, ◌++◌, length, take, drop, replicate, refl, sym, ◌∙◌, ap, arith, inl, inr, length-append, length-drop, append_assoc}
-use Rattle.std.proofs.lemmas.List.{append-nil, take_all, drop_all, drop_at, length-take, length-take-le, length-replicate, take-append-le, take-take, take-append-drop, take-replicate, drop-drop}
+use Rattle.std.proofs.Common.{◌≡◌, ℕ, zero, suc, ◌+◌, ◌-◌, ◌<◌, ◌≤◌, max, List, [], ◌∷◌, ◌++◌, length, take, drop, replicate, refl, sym, ◌∙◌, ap, arith, inl, inr, length-append, length-drop, append_assoc}
+use Rattle.std.proofs.lemmas.List.{append-nil, take_all, drop_all, drop_at, length-take, length-replicate, take-append-le, take-take, take-append-drop, take-replicate, drop-drop}
 use Rattle.std.proofs.lemmas.Bool.{cases_lt}
 use Rattle.std.proofs.Math.Seq.{take-append-add}
 use Rattle.edge_kit.specs.Disks.{overwrite, reach, Torn, Cut}

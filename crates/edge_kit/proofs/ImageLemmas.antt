@@ -1,11 +1,11 @@
 -- The images of a disk between two syncs: change by change and byte by byte.
-use Rattle.std.proofs.Common.{◌≡◌, ◌⊎◌, ℕ, suc, ◌+◌, ◌-◌, ◌<◌, ◌≤◌, ◌&&◌, min, max, Bool, true, false, cond, ltb, leb, List, [], ◌∷◌, length, take, drop, map, get_or, refl, sym, ◌∙◌, ap, arith, inl, inr, ⊎_elim}
+use Rattle.std.proofs.Common.{◌≡◌, ◌⊎◌, ℕ, suc, ◌+◌, ◌-◌, ◌<◌, ◌≤◌, min, max, cond, ltb, leb, List, [], ◌∷◌, length, take, drop, map, get_or, refl, sym, ◌∙◌, ap, arith, inl, inr, ⊎_elim}
 use Rattle.std.specs.List.{range_with_len}
 use Rattle.std.proofs.lemmas.List.{get_or-take, get_or-drop, length-map, length-take, length-drop, same_lists, get_or_default, get_or_past, drop_all}
 use Rattle.std.proofs.lemmas.List.FromFn.{length-range_with_len, get_or-map-range_with_len}
 use Rattle.std.proofs.lemmas.Bool.{cases_lt, le-leb, lt-leb, le-ltb, lt-ltb}
-use Rattle.edge_kit.specs.Disks.{Torn, Cut, reach}
-use Rattle.edge_kit.specs.Images.{Change, Wrote, Shortened, LeftBy, step_of, length_after, length_now, shortest, longest, IsWritten, IsImage}
+use Rattle.edge_kit.specs.Disks.{Torn, Cut}
+use Rattle.edge_kit.specs.Images.{Change, Wrote, Shortened, LeftBy, length_now, shortest, longest, IsImage}
 use Rattle.edge_kit.proofs.DiskLemmas.{reach_le}
 
 -- the length now is between the shortest and the longest

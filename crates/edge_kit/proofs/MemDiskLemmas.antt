@@ -1,5 +1,5 @@
 -- One call more in the list of a disk in memory.
-use Rattle.std.proofs.Common.{◌≡◌, ℕ, ◌+◌, ◌-◌, ◌/◌, ◌<◌, ◌≤◌, true, List, [], ◌∷◌, ◌++◌, length, get_or, take, drop, Vec, refl, sym, ◌∙◌, ap, subst, arith, take-append-drop}
+use Rattle.std.proofs.Common.{◌≡◌, ℕ, ◌+◌, ◌/◌, ◌<◌, ◌≤◌, true, List, [], ◌∷◌, ◌++◌, length, get_or, take, drop, Vec, refl, sym, ◌∙◌, ap, subst, arith, take-append-drop}
 use Rattle.std.proofs.lemmas.List.{take_all, drop_all, length-take, take-append-le, drop-append-le, length_push, take_more}
 use Rattle.std.specs.List.{list_all}
 use Rattle.std.specs.declared.alloc.Global.{Global}
@@ -9,6 +9,7 @@ use Rattle.edge_kit.specs.declared.mem_disk.Crash.{Crash}
 use Rattle.edge_kit.specs.declared.mem_disk.Crash.TheVariants as crash
 use Rattle.edge_kit.specs.Disks.{Torn, Cut, Same, Follows, Elapses, overwrite}
 use Rattle.edge_kit.specs.MemDisks.{after, crashed_after, content, crashed, is_change, LeavesAfter, LeavesAt}
+use Rattle.edge_kit.specs.OnMemDisks.{steps_with_sync}
 use Rattle.edge_kit.proofs.Moments.{torn_nothing}
 use Rattle.edge_kit.proofs.DiskLemmas.{written_is_torn, cut_is_done, cut_nothing, torn_more}
 
@@ -158,6 +159,16 @@ unsynced_stays steps later n step within is change unsynced = ap (λ (l : List D
 
 pub unsynced_synced : (later : List DiskStep) (n : ℕ) → n ≡ length later → list_all is_change (drop n later) ≡ true
 unsynced_synced later n all = ap (list_all is_change) (drop_all n later (omega arith))
+
+pub since_push : (steps later : List DiskStep) (n : ℕ) (step : DiskStep) → n ≤ length steps → later ≡ steps ++ step ∷ [] → drop n later ≡ drop n steps ++ step ∷ []
+since_push steps later n step within is = ap (λ (l : List DiskStep). drop n l) is ∙ drop-append-le n steps (step ∷ []) within
+
+pub sync_kept : (changes steps later : List DiskStep) → 0 < length changes → later ≡ steps ++ Synced ∷ [] → later ≡ steps_with_sync changes steps
+sync_kept [] steps later some is = absurd (omega arith)
+sync_kept (change ∷ changes) steps later some is = is
+
+pub sync_left_out : (steps : List DiskStep) (n : ℕ) → n ≡ length steps → steps ≡ steps_with_sync (drop n steps) steps
+sync_left_out steps n all = ap (λ (l : List DiskStep). steps_with_sync l steps) (sym (drop_all n steps (omega arith)))
 
 -- after a sync of all that there is
 pub left_synced : (first held : List ℕ) (steps : List DiskStep) (n : ℕ) (c : List ℕ) → held ≡ content first steps → n ≡ length steps → Durable first steps n → LeavesAt first steps (length steps) c → c ≡ held

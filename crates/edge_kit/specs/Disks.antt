@@ -1,5 +1,5 @@
 -- Disks by their meaning: what a read sees, and what a crash at each moment may leave.
-use Rattle.std.specs.Prelude.{◌≡◌, ◌⊎◌, ℕ, zero, suc, ◌+◌, ◌-◌, ◌<◌, ◌≤◌, min, max, List, [], ◌∷◌, ◌++◌, length, take, drop, replicate, slice_index}
+use Rattle.std.specs.Prelude.{◌≡◌, ℕ, zero, suc, ◌+◌, ◌-◌, ◌<◌, ◌≤◌, min, max, List, [], ◌∷◌, ◌++◌, length, take, drop, replicate}
 
 -- old with these bytes at the offset: zeros fill a gap behind its end, and no bytes change nothing (POSIX, pwrite)
 unfoldable pub overwrite : ℕ → List ℕ → List ℕ → List ℕ

@@ -1,5 +1,5 @@
 -- A disk in memory, by the list of its writes, cuts and syncs.
-use Rattle.std.specs.Prelude.{◌≡◌, ℕ, ◌+◌, ◌/◌, ◌==◌, ◌||◌, nat_lt, nat_eq, Bool, true, false, List, [], ◌∷◌, length, take, drop, Option, Some, None, if◌then◌else◌}
+use Rattle.std.specs.Prelude.{◌≡◌, ℕ, ◌/◌, ◌==◌, nat_lt, Bool, true, false, List, [], ◌∷◌, length, take, Option, Some, None, if◌then◌else◌}
 use Rattle.std.specs.List.{list_any}
 use Rattle.edge_kit.specs.declared.mem_disk.DiskStep.{DiskStep}
 use Rattle.edge_kit.specs.declared.mem_disk.DiskStep.TheVariants.{Wrote, Shortened, Synced}

@@ -1,7 +1,8 @@
 -- What contracts see of a disk in memory.
-use Rattle.std.specs.Prelude.{◌≡◌, ℕ, ◌+◌, ◌-◌, ◌^◌, min, List, length, take, drop, Option, Bool}
+use Rattle.std.specs.Prelude.{◌≡◌, ℕ, ◌+◌, ◌-◌, ◌^◌, min, List, [], ◌∷◌, ◌++◌, length, take, drop, Option, Bool}
 use Rattle.edge_kit.specs.declared.mem_disk.MemDisk.{MemDisk}
 use Rattle.edge_kit.specs.declared.mem_disk.DiskStep.{DiskStep}
+use Rattle.edge_kit.specs.declared.mem_disk.DiskStep.TheVariants.{Synced}
 use Rattle.edge_kit.specs.declared.mem_disk.Crash.{Crash}
 use Rattle.edge_kit.specs.MemDisks.{content, crashed, LeavesAt, turn_of, is_working}
 
@@ -52,6 +53,24 @@ moment d = length d.steps.items
 -- what a crash at a moment might have left
 abbrev pub Left : MemDisk → ℕ → List ℕ → Type 0
 Left d k c = LeavesAt d.first.items d.steps.items k c
+
+-- the changes since the last sync
+abbrev pub unsynced : MemDisk → List DiskStep
+unsynced d = drop d.synced d.steps.items
+
+-- a change is kept behind the others
+pub record KeepsChange (old new : MemDisk) (step : DiskStep) : Type 0 where
+  pub steps : disk_steps new ≡ disk_steps old ++ step ∷ []
+  pub since : unsynced new ≡ unsynced old ++ step ∷ []
+
+-- a sync is kept where something was changed since the last
+abbrev pub steps_with_sync : List DiskStep → List DiskStep → List DiskStep
+steps_with_sync [] steps = steps
+steps_with_sync (change ∷ changes) steps = steps ++ Synced ∷ []
+
+pub record KeepsSync (old new : MemDisk) : Type 0 where
+  pub steps : disk_steps new ≡ steps_with_sync (unsynced old) (disk_steps old)
+  pub since : unsynced new ≡ []
 
 -- one call has come, and the list of failing calls and the stop stay
 pub record IsCalled (old new : MemDisk) : Type 0 where

@@ -65,7 +65,7 @@ pub struct MemDisk {
 }
 
 impl MemDisk {
-    ghost use Rattle.edge_kit.specs.OnMemDisks.{disk_bytes, disk_steps, disk_calls, disk_failing, disk_stop, disk_faults, image_of, Leaves};
+    ghost use Rattle.edge_kit.specs.OnMemDisks.{disk_bytes, disk_steps, disk_calls, disk_failing, disk_stop, disk_faults, unsynced, image_of, Leaves};
 
     /// A disk of these bytes, all of them synced. The calls of these numbers fail. At the call `stop` it
     /// stops: a write or cut is still made and not synced, a sync isn't done; that call fails, and each later
@@ -77,7 +77,7 @@ impl MemDisk {
         stop: Option<u64>,
     ) -> Result<Self, AllocError>
         ensures bytes { IfOk result (λ d. disk_bytes d ≡ bytes.items) }
-        ensures synced { IfOk result (λ d. disk_steps d ≡ []) }
+        ensures synced { IfOk result (λ d. (disk_steps d ≡ []) × (unsynced d ≡ [])) }
         ensures calls { IfOk result (λ d. disk_calls d ≡ 0) }
         ensures failing { IfOk result (λ d. disk_failing d ≡ failing.items) }
         ensures stop { IfOk result (λ d. disk_stop d ≡ stop) }
@@ -270,7 +270,7 @@ fn change(steps: &mut Vec<DiskStep>, held: &mut Vec<u8>, step: DiskStep) -> Resu
 }
 
 impl Disk for MemDisk {
-    ghost use Rattle.edge_kit.specs.OnMemDisks.{works, Shows, moment as moment_of, Left, IsCalled};
+    ghost use Rattle.edge_kit.specs.OnMemDisks.{works, Shows, moment as moment_of, Left, KeepsChange, KeepsSync, IsCalled};
 
     ghost shows = { λ d c. c ≡ d.held.items };
 
@@ -321,6 +321,7 @@ impl Disk for MemDisk {
         ensures shows { OnOk result (Follows (λ d c. c ≡ overwrite at bytes.now d) (Shows self.old) (Shows self.new)) }
         ensures time { Elapses (Torn at (length bytes.now)) (moment_of self.old) (moment_of self.new) (Left self.old) (Left self.new) }
         ensures cause { HasCause self.old.faults self.new.faults result }
+        ensures kept { OnOk result ((v : _) × (v.items ≡ bytes.now) × KeepsChange self.old self.new (Wrote at v)) }
         ensures works { OnOk result (works self.old ≡ true) }
         ensures called { IsCalled self.old self.new }
     {
@@ -344,6 +345,7 @@ impl Disk for MemDisk {
         ensures shows { OnOk result (Follows (λ d c. c ≡ take len d) (Shows self.old) (Shows self.new)) }
         ensures time { Elapses (Cut len) (moment_of self.old) (moment_of self.new) (Left self.old) (Left self.new) }
         ensures cause { HasCause self.old.faults self.new.faults result }
+        ensures kept { OnOk result (KeepsChange self.old self.new (Shortened len)) }
         ensures works { OnOk result (works self.old ≡ true) }
         ensures called { IsCalled self.old self.new }
     {
@@ -365,6 +367,7 @@ impl Disk for MemDisk {
         ensures shows { Alike (Shows self.old) (Shows self.new) }
         ensures time { Elapses Same (moment_of self.old) (moment_of self.new) (Left self.old) (Left self.new) }
         ensures cause { HasCause self.old.faults self.new.faults result }
+        ensures kept { OnOk result (KeepsSync self.old self.new) }
         ensures works { is_ok result ≡ works self.old }
         ensures called { IsCalled self.old self.new }
     {

@@ -1,8 +1,8 @@
 -- A batch that is read is the batch that was written, what was written is read again, and the first item that
 -- can't be read is named.
-use Rattle.std.proofs.Common.{◌≡◌, ◌⊎◌, ℕ, zero, suc, ◌+◌, ◌-◌, ◌<◌, ◌≤◌, Bool, true, false, cond, eqb, List, [], ◌∷◌, ◌++◌, length, Option, Some, None, Result, Ok, Err, refl, sym, ap, subst, ◌∙◌, append_assoc, arith, inl, inr, length-append}
-use Rattle.std.specs.List.{flat_map, AllByRecursion}
-use Rattle.std.proofs.lemmas.Bool.{eqb-true, eq-eqb, ne_eqb}
+use Rattle.std.proofs.Common.{◌≡◌, ◌⊎◌, ℕ, zero, suc, ◌+◌, ◌-◌, ◌<◌, ◌≤◌, true, false, cond, eqb, List, [], ◌∷◌, ◌++◌, length, Option, Some, None, Result, Ok, Err, refl, sym, ap, subst, ◌∙◌, append_assoc, arith, inl, inr, length-append}
+use Rattle.std.specs.List.{AllByRecursion}
+use Rattle.std.proofs.lemmas.Bool.{eq-eqb, ne_eqb}
 use Rattle.std.proofs.lemmas.List.{append-nil, nil_from_length}
 use Rattle.std.proofs.lemmas.List.Concat.{flat_map-cons}
 use Rattle.record_codec.specs.declared.item.JournalItem.{JournalItem}
@@ -14,8 +14,8 @@ use Rattle.std.specs.Global.{Vec}
 use Rattle.std.specs.declared.alloc.AllocError.{AllocError}
 use Rattle.record_codec.specs.declared.item.BadAt.{BadAt}
 use Rattle.record_codec.specs.Seen.{seen}
-use Rattle.record_codec.proofs.Fields.{AreBytes, some_is}
-use Rattle.record_codec.proofs.Items.{Reads, record_takes, record_again, IsState, state_takes, state_again, state_none, record_none, some_bytes}
+use Rattle.record_codec.proofs.Fields.{AreBytes}
+use Rattle.record_codec.proofs.Items.{record_takes, record_again, IsState, state_takes, state_again, state_none, some_bytes}
 
 abbrev pub AllRecords : List JournalItem → Type 0
 AllRecords items = AllByRecursion (λ i. is_record i ≡ true) items

@@ -1,11 +1,8 @@
 -- The one spelling of a batch: numbers are 8 bytes, the lowest first, and a flag is 0 or 1.
-use Rattle.std.specs.Prelude.{◌≡◌, ℕ, ◌^◌, ◌<◌, ◌⊎◌, ◌++◌, Bool, true, false, List, [], ◌∷◌, length, slice_index, Option, Some, None}
+use Rattle.std.specs.Prelude.{◌≡◌, ℕ, ◌^◌, ◌<◌, ◌++◌, Bool, true, false, List, [], ◌∷◌, length, slice_index, Option, Some, None}
 use Rattle.std.specs.List.{flat_map, AllByRecursion}
 use Rattle.std.specs.Int.{w64, to_le_bytes}
-use Rattle.edge_kit.specs.declared.bytes.PubKey.{PubKey}
 use Rattle.edge_kit.specs.declared.bytes.Root.{Root}
-use Rattle.slash_defs.specs.declared.entry.BlockEntry.{BlockEntry}
-use Rattle.slash_defs.specs.declared.entry.VoteEntry.{VoteEntry}
 use Rattle.record_codec.specs.declared.item.JournalItem.{JournalItem}
 use Rattle.record_codec.specs.declared.item.JournalItem.TheVariants.{Block, Vote, Floors, Activate, Close}
 

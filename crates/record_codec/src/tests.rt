@@ -106,15 +106,16 @@ fn each_item_has_one_spelling(rt: HostRuntime) -> Result<(), Fail> {
 #[test]
 fn the_first_item_that_cant_be_read_is_named(rt: HostRuntime) -> Result<(), Fail> {
     let block = joined(rt.alloc(), &[&[1], &KEY.0, &[7; 8], &[0]])?;
+    let cut = joined(rt.alloc(), &[&[1], &KEY.0, &[7; 8]])?;
     let state = joined(rt.alloc(), &[&[4], &KEY.0])?;
     let table: [([&[u8]; 2], u64); 10] = [
         ([&[], &[]], 0),
         ([&[0], &KEY.0], 0),
         ([&[6], &KEY.0], 0),
-        ([&block[..57], &[]], 0),
-        ([&block[..57], &[2]], 0),
+        ([&cut, &[]], 0),
+        ([&cut, &[2]], 0),
         ([&block, &[1]], 58),
-        ([&block, &block[..57]], 58),
+        ([&block, &cut], 58),
         ([&block, &state], 58),
         ([&state, &block], 0),
         ([&state, &[0]], 0),

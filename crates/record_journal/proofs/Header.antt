@@ -1,10 +1,9 @@
 -- What stands behind a header's open gate.
-use Rattle.std.proofs.Common.{◌≡◌, ◌≢◌, ℕ, zero, suc, ◌+◌, ◌<◌, ◌≤◌, Bool, true, false, cond, eqb, Some, None, Option, List, [], ◌∷◌, ◌++◌, length, take, drop, refl, sym, ◌∙◌, ap, arith, length-append, append_assoc, take-append-drop}
-use Rattle.std.proofs.lemmas.List.{length-take-le, length-drop, drop-drop}
+use Rattle.std.proofs.Common.{◌≡◌, ℕ, ◌+◌, ◌<◌, ◌≤◌, Bool, true, false, cond, eqb, Some, None, Option, List, [], ◌∷◌, ◌++◌, length, take, drop, refl, sym, ◌∙◌, ap, arith, length-append, take-append-drop}
+use Rattle.std.proofs.lemmas.List.{length-drop, drop-drop}
 use Rattle.std.proofs.lemmas.Bool.{le-ltb, lt-ltb, eqb-true}
-use Rattle.std.specs.List.{AllByRecursion}
 use Rattle.std.specs.Str.{bytes_eq}
-use Rattle.record_journal.specs.Frames.{Reading, Damaged, Genesis, Kept, NotBegun, difference, behind_magic, magic, frames_of, opened, reading, IsPayload, frames, front, WellMade}
+use Rattle.record_journal.specs.Frames.{Damaged, Genesis, difference, magic, frames_of, opened, reading, frames, front, WellMade}
 use Rattle.record_journal.specs.Next.{AllFrames}
 use Rattle.record_journal.proofs.Made.{reading_open, length-magic, front_then}
 

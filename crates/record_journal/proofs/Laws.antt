@@ -1,17 +1,16 @@
 -- What reads as a journal is one, and stays one in every image.
-use Rattle.std.proofs.Common.{◌≡◌, ◌≢◌, ◌⊎◌, inl, inr, ℕ, zero, suc, ◌+◌, ◌-◌, ◌^◌, ◌<◌, ◌≤◌, ◌&&◌, Bool, true, false, cond, eqb, ltb, Some, None, Option, List, [], ◌∷◌, ◌++◌, length, get_or, take, drop, refl, sym, ◌∙◌, ap, subst, arith, length-append, append_assoc, take-append-drop, slice_get}
+use Rattle.std.proofs.Common.{◌≡◌, ◌≢◌, ◌⊎◌, inl, inr, ℕ, zero, suc, ◌+◌, ◌-◌, ◌^◌, ◌<◌, ◌≤◌, ◌&&◌, Bool, true, false, cond, eqb, ltb, Some, None, Option, List, [], ◌∷◌, ◌++◌, length, get_or, take, drop, refl, sym, ◌∙◌, ap, subst, arith, length-append, append_assoc, take-append-drop}
 use Rattle.std.proofs.lemmas.List.{length-take, length-take-le, length-drop, drop-drop, take_at, get_or-take, get_or-drop, get_or_past}
 use Rattle.std.proofs.lemmas.Bool.{cases_lt, eqb-true, eqb-false, ltb-false}
 use Rattle.std.proofs.lemmas.Nat.{le_bytes_4}
 use Rattle.std.specs.List.{AllByRecursion}
 use Rattle.std.specs.Str.{bytes_eq}
 use Rattle.std.specs.Int.{w32, from_le_bytes}
-use Rattle.edge_kit.specs.Disks.{Torn, Cut}
 use Rattle.edge_kit.specs.Images.{Change, Wrote, Shortened, LeftBy}
 use Rattle.record_codec.specs.Reading.{bad_at}
 use Rattle.record_journal.specs.Frames.{Reading, Damaged, Genesis, Kept, NotBegun, prepend, judged, size_bytes, size_of, frames_of, difference, behind_magic, magic, opened, reading, IsPayload, body, frames, front, WellMade, Closed, AllBehind}
 use Rattle.record_journal.specs.Next.{AllFrames}
-use Rattle.record_journal.proofs.Made.{reading_made, reading_shut, reading_open}
+use Rattle.record_journal.proofs.Made.{reading_made, reading_shut}
 use Rattle.record_journal.proofs.Header.{header_made}
 
 abbrev AreBytes : List ℕ → Type 0
@@ -73,8 +72,8 @@ one_frame n rest behind qs fits long is some room batch later =
     let four : size_bytes n ≡ take 4 rest = le_bytes_4 (take 4 rest) n (length-take-le 4 rest long) (AreBytes-take 4 rest fits) is in
     let small : n < 2 ^ 32 = omega (arith, is, four_fit (take 4 rest) (AreBytes-take 4 rest fits)) in
     let parts : rest ≡ size_bytes n ++ (p ++ drop (4 + n) rest) =
-        sym (take-append-drop 4 rest) ∙ ap (λ (l : List ℕ). l ++ drop 4 rest) (sym four)
-        ∙ ap (λ (l : List ℕ). size_bytes n ++ l) (sym (take-append-drop n (drop 4 rest)) ∙ ap (λ (l : List ℕ). p ++ l) (drop-drop n 4 rest)) in
+    sym (take-append-drop 4 rest) ∙ ap (λ (l : List ℕ). l ++ drop 4 rest) (sym four)
+    ∙ ap (λ (l : List ℕ). size_bytes n ++ l) (sym (take-append-drop n (drop 4 rest)) ∙ ap (λ (l : List ℕ). p ++ l) (drop-drop n 4 rest)) in
     record {
       gate = later.gate;
       behind = later.behind;
@@ -127,6 +126,7 @@ no_header None root rest ps e =
   where
     differ : (kept : List ℕ) (qs : List (List ℕ)) → Genesis kept ≡ Kept qs → ⊥
     differ kept qs same = cc
+
     same_bytes_are : (a b : List ℕ) → bytes_eq a b ≡ true → a ≡ b
     same_bytes_are [] [] e = refl
     same_bytes_are [] (y ∷ b) e = absurd cc
@@ -199,13 +199,16 @@ frames_begun (suc fuel) total (gate ∷ rest) e =
   where
     kept_differs : (ps : List (List ℕ)) → Kept ps ≡ NotBegun → ⊥
     kept_differs ps same = cc
+
     damaged_differs : (offset : ℕ) (byte : Option ℕ) → Damaged offset byte ≡ NotBegun → ⊥
     damaged_differs offset byte same = cc
+
     prepend_begun : (q : List ℕ) (r : Reading) → (r ≡ NotBegun → ⊥) → prepend q r ≡ NotBegun → ⊥
     prepend_begun q (Kept qs) not same = cc
     prepend_begun q NotBegun not same = not refl
     prepend_begun q (Damaged offset byte) not same = cc
     prepend_begun q (Genesis kept) not same = cc
+
     judged_begun : (place : ℕ) (o : Option ℕ) (q : List ℕ) (r : Reading) → (r ≡ NotBegun → ⊥) → judged place o q r ≡ NotBegun → ⊥
     judged_begun place None q r not same = prepend_begun q r not same
     judged_begun place (Some bad) q r not same = cc
@@ -223,6 +226,7 @@ header_begun None root rest e =
   where
     damaged_differs : (offset : ℕ) (byte : Option ℕ) → Damaged offset byte ≡ NotBegun → ⊥
     damaged_differs offset byte same = cc
+
     genesis_differs : (kept : List ℕ) → Genesis kept ≡ NotBegun → ⊥
     genesis_differs kept same = cc
 

@@ -17,6 +17,11 @@ pub record Journaled (D : Type 0) : Type 0 where
   pub size : ℕ
   pub torn : Option (List ℕ)
 
+-- the offset behind the closed gate: 42 without payloads, and each adds its length and 5
+abbrev pub journal_size : List (List ℕ) → ℕ
+journal_size [] = 42
+journal_size (p ∷ ps) = journal_size ps + (length p + 5)
+
 -- a file stands for the journal's payloads, or for these and the torn one
 abbrev pub MayRead : {D : Type 0} → Journaled D → List ℕ → Type 0
 MayRead journal file = (reading journal.root file ≡ Kept journal.payloads) ⊎ IsSomeAnd journal.torn (λ p. reading journal.root file ≡ Kept (journal.payloads ++ p ∷ []))
@@ -25,7 +30,8 @@ MayRead journal file = (reading journal.root file ≡ Kept journal.payloads) ⊎
 pub record Stands {D : Type 0} (shows : D → List ℕ → Type 0) (moment : D → ℕ) (leaves : D → ℕ → List ℕ → Type 0) (journal : Journaled D) : Type 0 where
   pub whole : journal.torn ≡ None → Holds shows moment leaves journal.disk (WellMade journal.root journal.payloads journal.size)
   pub left : (c : List ℕ) → leaves journal.disk (moment journal.disk) c → MayRead journal c
-  pub sized : length (front journal.root journal.payloads) + 1 ≡ journal.size
+  pub ends : length (front journal.root journal.payloads) + 1 ≡ journal.size
+  pub sized : journal.size ≡ journal_size journal.payloads
   pub made : AllByRecursion IsPayload journal.payloads
 
 -- a payload fits its length field, and the frame of 5 bytes more the journal

@@ -1,5 +1,5 @@
 -- The parts of a journal as contracts see them.
-use Rattle.std.specs.Prelude.{ℕ, List, map}
+use Rattle.std.specs.Prelude.{map}
 use Rattle.std.specs.Option.{option_map}
 use Rattle.record_journal.specs.declared.log.Log.{Log}
 use Rattle.record_journal.specs.Journals.{Journaled}

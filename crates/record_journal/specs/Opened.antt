@@ -1,5 +1,5 @@
 -- How the opening of a journal may end.
-use Rattle.std.specs.Prelude.{◌≡◌, ◌≢◌, ℕ, List, length, ⊤}
+use Rattle.std.specs.Prelude.{◌≡◌, ◌≢◌, ℕ, List, ⊤}
 use Rattle.record_journal.specs.declared.open.OpenFault.{OpenFault}
 use Rattle.record_journal.specs.declared.open.OpenFault.TheVariants as fault
 use Rattle.record_journal.specs.Frames.{Damaged, Genesis, reading}

@@ -4,7 +4,7 @@ ghost use Rattle.edge_kit.specs.Causes.{Rose};
 ghost use Rattle.edge_kit.specs.Disks.{LeavesOnly};
 ghost use Rattle.record_codec.specs.Reading.{bad_at};
 ghost use Rattle.record_journal.specs.Frames.{Keeps, reading, begun};
-ghost use Rattle.record_journal.specs.Journals.{MayRead, Appended};
+ghost use Rattle.record_journal.specs.Journals.{MayRead, Appended, journal_size};
 ghost use Rattle.record_journal.specs.Opened.{Read, FaultIs};
 
 use crate::log::{AppendFault, Log};
@@ -44,6 +44,7 @@ impl<D: Disk> Journal<D> {
         // The payloads are those of the bytes.
         ensures read { IfOk result (λ j. Read D.shows disk (λ bytes. begun (reading genesis.0 bytes) ≡ Some j.payloads)) }
         ensures root { IfOk result (λ j. j.root ≡ genesis.0) }
+        ensures size { IfOk result (λ j. j.size ≡ journal_size j.payloads) }
         ensures whole { IfOk result (λ j. j.torn ≡ None) }
         // Each later crash leaves a file of the payloads that were read, until one is appended.
         ensures left { IfOk result (λ j. (c : List ℕ) → D.leaves j.disk (D.moment j.disk) c → MayRead j c) }
@@ -83,6 +84,7 @@ impl<D: Disk> Journal<D> {
         // A crash at any moment of the call leaves the payloads from before it or from after it.
         ensures any_moment { LeavesOnly D.moment D.leaves self.old.disk self.new.disk (λ c. MayRead self.old c ⊎ MayRead self.new c) }
         ensures left { (c : List ℕ) → D.leaves self.new.disk (D.moment self.new.disk) c → MayRead self.new c }
+        ensures size { self.new.size ≡ journal_size self.new.payloads }
         ensures later { D.faults self.old.disk ≤ D.faults self.new.disk }
     {
         self.log.append(alloc, payload)
@@ -98,7 +100,8 @@ impl<D: Disk> Journal<D> {
 
     /// The size in bytes, up to and with the closed gate: 42 without payloads, and each adds its length and 5.
     pub fn size(&self) -> u64
-        ensures { result ≡ self.now.size }
+        ensures size { result ≡ self.now.size }
+        ensures payloads { result ≡ journal_size self.now.payloads }
     {
         self.log.size
     }

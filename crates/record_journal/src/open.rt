@@ -4,6 +4,7 @@ ghost use Rattle.std.specs.List.{AllByRecursion};
 ghost use Rattle.edge_kit.specs.Causes.{Rose};
 ghost use Rattle.edge_kit.specs.Disks.{Alike, Holds, Same, Elapses};
 ghost use Rattle.record_journal.specs.Frames.{Closed, Keeps, WellMade, IsPayload, front, reading, begun};
+ghost use Rattle.record_journal.specs.Journals.{journal_size};
 ghost use Rattle.record_journal.specs.Parsed.{IsFound};
 ghost use Rattle.record_journal.specs.Opened.{Read, FaultIs, IsOutside};
 
@@ -122,7 +123,8 @@ pub fn settle<D: Disk>(
     root: &[u8; 32],
 ) -> Result<(Vec<Vec<u8>>, u64), OpenFault>
     ensures done { IfOk result (λ kept. Holds D.shows D.moment D.leaves disk.new (WellMade root.now (map (λ v. v.items) kept.0.items) kept.1)) }
-    ensures sized { IfOk result (λ kept. length (front root.now (map (λ v. v.items) kept.0.items)) + 1 ≡ kept.1) }
+    ensures ends { IfOk result (λ kept. length (front root.now (map (λ v. v.items) kept.0.items)) + 1 ≡ kept.1) }
+    ensures sized { IfOk result (λ kept. kept.1 ≡ journal_size (map (λ v. v.items) kept.0.items)) }
     ensures made { IfOk result (λ kept. AllByRecursion IsPayload (map (λ v. v.items) kept.0.items)) }
     ensures read { IfOk result (λ kept. Read D.shows disk.old (λ bytes. begun (reading root.now bytes) ≡ Some (map (λ v. v.items) kept.0.items))) }
     ensures any_moment { Keeps D.moment D.leaves root.now disk.old disk.new }

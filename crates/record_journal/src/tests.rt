@@ -29,6 +29,7 @@ fn each_way_of_damage_is_named(rt: HostRuntime) -> Result<(), Fail> {
     let other = joined(alloc, &[&[1], b"VKHJRN01", &OTHER.0])?;
     let block = joined(alloc, &[&[1], &KEY.0, &[7; 8], &[0]])?;
     let state = joined(alloc, &[&[4], &KEY.0])?;
+    let cut = joined(alloc, &[&[4], &[0x11; 47]])?;
     let table: [([&[u8]; 5], u64, Option<u8>); 13] = [
         ([&[1], b"V", &[], &[], &[]], 2, None),
         ([&[1], b"VX", &[], &[], &[]], 2, Some(b'X')),
@@ -38,7 +39,7 @@ fn each_way_of_damage_is_named(rt: HostRuntime) -> Result<(), Fail> {
         ([&header, &[1], &[49, 0, 0], &[], &[]], 45, None),
         ([&header, &[1], &[0, 0, 0, 0], &[0], &[]], 42, Some(0)),
         ([&header, &[1], &[0, 0, 0, 0], &[], &[]], 42, Some(0)),
-        ([&header, &[1], &[49, 0, 0, 0], &state[..48], &[]], 94, None),
+        ([&header, &[1], &[49, 0, 0, 0], &cut, &[]], 94, None),
         ([&header, &[1], &[49, 0, 0, 0], &state, &[]], 95, None),
         ([&header, &[1], &[1, 0, 0, 0], &[9], &[0]], 46, Some(9)),
         (

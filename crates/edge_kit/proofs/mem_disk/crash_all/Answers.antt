@@ -1,4 +1,4 @@
-use Rattle.std.proofs.Common.{◌∙◌, ap, sym, List, ℕ, arith}
+use Rattle.std.proofs.Common.{◌∙◌, ap, sym, List, ℕ}
 use Rattle.edge_kit.specs.MemDisks.{crashed_after}
 use Rattle.edge_kit.proofs.MemDiskLemmas.{crashed_more}
 use Rattle.edge_kit.proofs.mem_disk.crash_all.Goals as goal

@@ -1,4 +1,4 @@
-use Rattle.std.proofs.Common.{◌∙◌, ap, sym, List, ℕ, arith}
+use Rattle.std.proofs.Common.{◌∙◌, ap, sym, List, ℕ}
 use Rattle.edge_kit.specs.MemDisks.{after}
 use Rattle.edge_kit.proofs.MemDiskLemmas.{content_more}
 use Rattle.edge_kit.proofs.mem_disk.make_all.Goals as goal

@@ -1,4 +1,4 @@
-use Rattle.std.proofs.Common.{◌≡◌, ℕ, sym, ◌∙◌, arith, rules, tests, length, ◌<◌}
+use Rattle.std.proofs.Common.{◌≡◌, sym, ◌∙◌, arith, rules, tests, length, ◌<◌}
 use Rattle.std.proofs.lemmas.Bool.{eqb-true}
 use Rattle.record_codec.proofs.Batches.{shorter, counted_none, counted_more, counted_bad, counted_well}
 use Rattle.record_codec.proofs.reading.check_records.Goals as goal

@@ -1,4 +1,4 @@
-use Rattle.std.proofs.Common.{◌≡◌, ℕ, ◌+◌, ◌-◌, ◌≤◌, length}
+use Rattle.std.proofs.Common.{length}
 use Rattle.record_codec.proofs.Batches.{Counted}
 use Rattle.record_codec.proofs.reading.check_records.Given as goal
 

@@ -1,4 +1,4 @@
-use Rattle.std.proofs.Common.{◌≡◌, take, length, ap, ◌∙◌, subst, arith, List}
+use Rattle.std.proofs.Common.{◌≡◌, take, ap, ◌∙◌, subst, List}
 use Rattle.std.proofs.lemmas.List.{take_all}
 use Rattle.record_codec.specs.declared.item.JournalItem.{JournalItem}
 use Rattle.record_codec.specs.Spelling.{spelling}

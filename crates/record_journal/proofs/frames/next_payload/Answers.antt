@@ -1,4 +1,4 @@
-use Rattle.std.proofs.Common.{◌≡◌, length, take, slice_get, refl, arith, rules, sym, ◌∙◌}
+use Rattle.std.proofs.Common.{◌≡◌, length, take, slice_get, refl, arith, rules}
 use Rattle.record_journal.proofs.Parsing.{payload_short, payload_zero, payload_bad, payload_whole}
 use Rattle.record_journal.proofs.frames.next_payload.Goals as goal
 

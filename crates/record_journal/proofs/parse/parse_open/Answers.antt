@@ -1,10 +1,9 @@
-use Rattle.std.proofs.Common.{◌≡◌, ◌≤◌, ◌<◌, ◌∙◌, ℕ, List, Option, Some, None, Bool, true, false, length, take, drop, map, Vec, sym, ap, refl, subst, rules, arith, ◌+◌, ◌-◌}
-use Rattle.std.proofs.lemmas.List.{take_rest, length-drop}
+use Rattle.std.proofs.Common.{◌≡◌, ◌<◌, ◌∙◌, ℕ, List, true, false, length, take, drop, map, Vec, sym, ap, refl, subst, rules, ◌+◌, ◌-◌}
+use Rattle.std.proofs.lemmas.List.{take_rest}
 use Rattle.std.specs.Str.{bytes_eq}
 use Rattle.std.specs.declared.alloc.Global.{Global}
 use Rattle.record_journal.specs.declared.frames.Frames.{Frames}
-use Rattle.record_journal.specs.declared.frames.Frames.TheVariants as found
-use Rattle.record_journal.specs.Frames.{difference, magic, frames_of, Damaged}
+use Rattle.record_journal.specs.Frames.{magic, frames_of, Damaged}
 use Rattle.record_journal.specs.Next.{IsFrames, AllFrames}
 use Rattle.record_journal.proofs.Made.{same_bytes}
 use Rattle.record_journal.proofs.Header.{header_differs, header_short, header_other, header_damaged, header_made}

@@ -1,8 +1,8 @@
-use Rattle.std.proofs.Common.{◌≡◌, sym, ap, refl, ◌∙◌, rules, arith, length, List, ℕ}
+use Rattle.std.proofs.Common.{◌≡◌, ap, refl, ◌∙◌, rules, arith, length, List, ℕ}
 use Rattle.std.proofs.lemmas.List.{length_push}
-use Rattle.edge_kit.specs.declared.mem_disk.DiskStep.TheVariants.{Wrote, Shortened}
+use Rattle.edge_kit.specs.declared.mem_disk.DiskStep.TheVariants.{Wrote}
 use Rattle.edge_kit.specs.Disks.{overwrite}
-use Rattle.edge_kit.proofs.MemDiskLemmas.{current_after, durable_stays, unsynced_stays, elapses_wrote, elapses_cut}
+use Rattle.edge_kit.proofs.MemDiskLemmas.{current_after, durable_stays, unsynced_stays, since_push, elapses_wrote}
 use Rattle.edge_kit.proofs.mem_disk.MemDiskDisk.write_at.Goals as goal
 
 pub invariant_of-self-in-Stops : goal.invariant_of-self-in-Stops
@@ -39,3 +39,8 @@ pub returns-clause-shows : goal.returns-clause-shows
 returns-clause-shows c =
     let same : c.in-Ok.kept.items ≡ c.args.bytes.now = search rules in
     λ b shown. (c.args.self.now.held.items, refl, shown ∙ c.in-Ok-change.ensures.held ∙ ap (λ (l : List ℕ). overwrite c.args.at l c.args.self.now.held.items) same)
+
+pub returns-clause-kept : goal.returns-clause-kept
+returns-clause-kept c =
+    let same : c.in-Ok.kept.items ≡ c.args.bytes.now = search rules in
+    (c.in-Ok.kept, same, record { steps = c.in-Ok-change.ensures.steps; since = since_push c.args.self.now.steps.items c.change.new.steps.items c.args.self.now.synced (Wrote c.args.at c.in-Ok.kept) c.args.self.now.within c.in-Ok-change.ensures.steps })

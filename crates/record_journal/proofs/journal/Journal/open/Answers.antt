@@ -6,6 +6,7 @@ pub invariant_of-result : goal.invariant_of-result
 invariant_of-result g c = record {
   whole = λ none. c.in-Ok.ensures.done;
   left = λ f left. inl (reading_made c.args.genesis.0 _ _ f (c.in-Ok.ensures.done.left f left));
+  ends = c.in-Ok.ensures.ends;
   sized = c.in-Ok.ensures.sized;
   made = c.in-Ok.ensures.made;
 }

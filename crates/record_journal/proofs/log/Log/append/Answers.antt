@@ -1,4 +1,4 @@
-use Rattle.std.proofs.Common.{◌≡◌, ◌+◌, ◌++◌, ◌∷◌, [], ℕ, List, None, Vec, length, map, arith, rules, ap, sym, ◌∙◌}
+use Rattle.std.proofs.Common.{◌≡◌, ◌+◌, ◌++◌, ◌∷◌, [], ℕ, List, None, Vec, length, map, arith, rules, ap, ◌∙◌}
 use Rattle.std.proofs.lemmas.List.{map_push}
 use Rattle.std.specs.declared.alloc.Global.{Global}
 use Rattle.record_journal.specs.Frames.{body}
@@ -31,7 +31,7 @@ returns-in_default-write_synced-2-clause-any_moment g c =
     let same : map (λ v. v.items) c.reserve.new.self.items ≡ j.payloads = ap (λ (l : List (Vec ℕ Global)). map (λ v. v.items) l) c.in-Ok-reserve.ensures.items in
     let payload = payload_is c.args.payload.items c.requires.batch (omega arith) in
     torn_moments g.D.Disk.shows g.D.Disk.moment g.D.Disk.leaves j c.args.payload.items c.write_synced-2.new.disk (map (λ v. v.items) c.reserve.new.self.items) same
-    (both g.D.Disk.shows g.D.Disk.moment g.D.Disk.leaves j.root j.payloads c.args.payload.items j.size j.disk c.write_synced.new.disk c.write_synced-2.new.disk _ _ is payload (omega (arith, c.requires.stands.sized)) (c.requires.stands.whole none)
+    (both g.D.Disk.shows g.D.Disk.moment g.D.Disk.leaves j.root j.payloads c.args.payload.items j.size j.disk c.write_synced.new.disk c.write_synced-2.new.disk _ _ is payload (omega (arith, c.requires.stands.ends)) (c.requires.stands.whole none)
     c.write_synced.ensures.time c.in-Ok-write_synced.ensures.done c.write_synced-2.ensures.time)
 
 pub returns-in_default-write_synced-2-clause-stands : goal.returns-in_default-write_synced-2-clause-stands
@@ -42,7 +42,7 @@ returns-in_default-write_synced-2-clause-stands g c =
     let same : map (λ v. v.items) c.reserve.new.self.items ≡ j.payloads = ap (λ (l : List (Vec ℕ Global)). map (λ v. v.items) l) c.in-Ok-reserve.ensures.items in
     let payload = payload_is c.args.payload.items c.requires.batch (omega arith) in
     torn_stands g.D.Disk.shows g.D.Disk.moment g.D.Disk.leaves j c.args.payload.items c.write_synced-2.new.disk (map (λ v. v.items) c.reserve.new.self.items) same c.requires.stands
-    (both g.D.Disk.shows g.D.Disk.moment g.D.Disk.leaves j.root j.payloads c.args.payload.items j.size j.disk c.write_synced.new.disk c.write_synced-2.new.disk _ _ is payload (omega (arith, c.requires.stands.sized)) (c.requires.stands.whole none)
+    (both g.D.Disk.shows g.D.Disk.moment g.D.Disk.leaves j.root j.payloads c.args.payload.items j.size j.disk c.write_synced.new.disk c.write_synced-2.new.disk _ _ is payload (omega (arith, c.requires.stands.ends)) (c.requires.stands.whole none)
     c.write_synced.ensures.time c.in-Ok-write_synced.ensures.done c.write_synced-2.ensures.time)
 
 pub returns-clause-any_moment : goal.returns-clause-any_moment
@@ -54,7 +54,7 @@ returns-clause-any_moment g c =
     let list_is : map (λ v. v.items) c.push.new.self.items ≡ j.payloads ++ c.args.payload.items ∷ [] = ap (λ (l : List (Vec ℕ Global)). map (λ v. v.items) l) added ∙ map_push (λ (v : Vec ℕ Global). v.items) c.args.self.now.payloads.items c.args.payload in
     let payload = payload_is c.args.payload.items c.requires.batch (omega arith) in
     more_moments g.D.Disk.shows g.D.Disk.moment g.D.Disk.leaves j c.args.payload.items c.write_synced-2.new.disk (map (λ v. v.items) c.push.new.self.items) (c.args.self.now.size + (c.len-length.result + 5)) j.torn list_is
-    (both g.D.Disk.shows g.D.Disk.moment g.D.Disk.leaves j.root j.payloads c.args.payload.items j.size j.disk c.write_synced.new.disk c.write_synced-2.new.disk _ _ is payload (omega (arith, c.requires.stands.sized)) (c.requires.stands.whole none)
+    (both g.D.Disk.shows g.D.Disk.moment g.D.Disk.leaves j.root j.payloads c.args.payload.items j.size j.disk c.write_synced.new.disk c.write_synced-2.new.disk _ _ is payload (omega (arith, c.requires.stands.ends)) (c.requires.stands.whole none)
     c.write_synced.ensures.time c.in-Ok-write_synced.ensures.done c.write_synced-2.ensures.time)
 
 pub returns-clause-stands : goal.returns-clause-stands
@@ -68,5 +68,5 @@ returns-clause-stands g c =
     let size_now = c.args.self.now.size + (c.len-length.result + 5) in
     let ends : size_now ≡ j.size + (length c.args.payload.items + 5) = omega arith in
     more_stands g.D.Disk.shows g.D.Disk.moment g.D.Disk.leaves j c.args.payload.items c.write_synced-2.new.disk (map (λ v. v.items) c.push.new.self.items) size_now j.torn list_is ends payload c.requires.stands
-    (ended g.D.Disk.shows g.D.Disk.moment g.D.Disk.leaves j.root j.payloads c.args.payload.items j.size j.disk c.write_synced.new.disk c.write_synced-2.new.disk _ _ (map (λ v. v.items) c.push.new.self.items) size_now is payload (omega (arith, c.requires.stands.sized)) (c.requires.stands.whole none)
+    (ended g.D.Disk.shows g.D.Disk.moment g.D.Disk.leaves j.root j.payloads c.args.payload.items j.size j.disk c.write_synced.new.disk c.write_synced-2.new.disk _ _ (map (λ v. v.items) c.push.new.self.items) size_now is payload (omega (arith, c.requires.stands.ends)) (c.requires.stands.whole none)
     c.in-Ok-write_synced.ensures.done c.in-Ok-write_synced-2.ensures.done list_is (omega arith))
