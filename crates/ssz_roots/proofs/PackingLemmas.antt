@@ -1,9 +1,8 @@
 -- Bytes, bits and numbers as chunks.
-use Rattle.std.proofs.Common.{◌≡◌, ℕ, zero, suc, ◌+◌, ◌-◌, ◌*◌, ◌/◌, ◌%◌, ◌^◌, ◌<◌, ◌≤◌, min, Bool, true, false, cond, List, [], ◌∷◌, ◌++◌, length, take, drop, map, replicate, get_or, Some, refl, sym, ap, ◌∙◌, append_assoc, inl, inr, arith, rules, length-append, length-take, length-drop}
-use Rattle.std.specs.List.{range_with_len, flat_map}
+use Rattle.std.proofs.Common.{◌≡◌, ℕ, zero, suc, ◌+◌, ◌-◌, ◌*◌, ◌^◌, ◌<◌, min, Bool, cond, List, [], ◌∷◌, ◌++◌, length, take, drop, replicate, get_or, Some, refl, sym, ap, ◌∙◌, append_assoc, inl, inr, arith, length-append, length-take, length-drop}
 use Rattle.std.specs.Prelude.{slice_get}
 use Rattle.std.specs.Int.{w64, to_le_bytes, div_ceil}
-use Rattle.std.proofs.lemmas.List.{append-nil, places, same_lists, get_or-drop, drop-replicate, take_min, take_at, drop_at, map_push, drop_all, drop-drop, take_all, get_or_default, length_push, take_more, length-take-le, length-replicate, get_or-replicate, get_or_append_left, get_or-append_right, get_or-take}
+use Rattle.std.proofs.lemmas.List.{append-nil, same_lists, get_or-drop, drop-replicate, take_min, take_at, drop_at, map_push, drop_all, drop-drop, take_all, get_or_default, take_more, length-take-le, length-replicate, get_or-replicate, get_or_append_left, get_or-append_right, get_or-take}
 use Rattle.std.proofs.lemmas.List.FromFn.{length-map-range_with_len, get_or-map-range_with_len}
 use Rattle.std.proofs.lemmas.Option.{slice_get-get_or, slice_get_within, get_or_from_slice_get}
 use Rattle.std.proofs.lemmas.Bool.{cases_lt}

@@ -1,8 +1,7 @@
 -- Trees over padded chunks.
-use Rattle.std.proofs.Common.{◌≡◌, ℕ, zero, suc, ◌+◌, ◌-◌, ◌*◌, ◌^◌, ◌<◌, ◌≤◌, List, [], ◌∷◌, ◌++◌, length, take, drop, replicate, get_or, refl, sym, ap, ◌∙◌, inl, inr, arith, rules, sub-one, add-one, drop-cons}
-use Rattle.std.proofs.lemmas.List.{places, same_lists, take-take, drop-take, drop-drop, take-replicate, drop-replicate, nil_from_length, drop_all, get_or-drop, get_or-take, take_all}
+use Rattle.std.proofs.Common.{◌≡◌, ℕ, zero, suc, ◌+◌, ◌-◌, ◌^◌, ◌<◌, ◌≤◌, List, [], ◌++◌, length, take, drop, replicate, get_or, refl, ap, ◌∙◌, inl, inr, arith, rules, sub-one, add-one, drop-cons}
+use Rattle.std.proofs.lemmas.List.{places, same_lists, take-take, drop-take, drop-drop, take-replicate, drop-replicate, drop_all, take_all}
 use Rattle.std.proofs.lemmas.Bool.{cases_eq, cases_lt, le-leb, lt-leb, cond-true, cond-false}
-use Rattle.std.proofs.lemmas.Nat.{pow_pos}
 use Rattle.std.proofs.Math.Nat.{pow-succ', pow-le-pow_right}
 use Rattle.sha2.specs.Sha256.{sha256}
 use Rattle.ssz_roots.specs.Trees.{zero_chunk, depth_from, depth_of, padded, tree_root, merkle_root}

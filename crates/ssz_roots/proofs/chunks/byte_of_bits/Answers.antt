@@ -1,4 +1,4 @@
-use Rattle.std.proofs.Common.{◌≡◌, ◌+◌, ◌^◌, ◌<◌, ◌*◌, false, cond, ap, ◌∙◌, arith}
+use Rattle.std.proofs.Common.{◌^◌, ◌<◌, false, arith}
 use Rattle.std.proofs.lemmas.Nat.{pow_below}
 use Rattle.ssz_roots.proofs.PackingLemmas.{bits_value-take_more}
 use Rattle.ssz_roots.proofs.TreeLemmas.{width_more}

@@ -1,4 +1,4 @@
-use Rattle.std.proofs.Common.{refl, ap, ◌∙◌, arith}
+use Rattle.std.proofs.Common.{refl, ◌∙◌, arith}
 use Rattle.ssz_roots.specs.Packing.{number_bytes}
 use Rattle.ssz_roots.proofs.PackingLemmas.{number_fill, numbers_fill}
 use Rattle.ssz_roots.proofs.chunks.chunk_of_numbers.Goals as goal

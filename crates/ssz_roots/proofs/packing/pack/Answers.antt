@@ -1,4 +1,3 @@
-use Rattle.std.proofs.Common.{arith}
 use Rattle.ssz_roots.specs.Packing.{packed}
 use Rattle.ssz_roots.proofs.PackingLemmas.{chunks_push}
 use Rattle.ssz_roots.proofs.packing.pack.Goals as goal

@@ -1,4 +1,4 @@
-use Rattle.std.proofs.Common.{◌∙◌, arith}
+use Rattle.std.proofs.Common.{◌∙◌}
 use Rattle.ssz_roots.proofs.TreeLemmas.{merkle_root-is}
 use Rattle.ssz_roots.proofs.tree.chunks_root.Goals as goal
 

@@ -1,4 +1,4 @@
-use Rattle.std.proofs.Common.{ℕ, ◌+◌, ◌-◌, ◌^◌, ◌<◌, ◌≤◌, sym, arith}
+use Rattle.std.proofs.Common.{◌+◌, ◌^◌, ◌≤◌, sym, arith}
 use Rattle.std.proofs.Math.Pow.{pow_mono}
 use Rattle.ssz_roots.proofs.TreeLemmas.{depth_of-is, below_width, width_more}
 use Rattle.ssz_roots.proofs.tree.depth_for.Goals as goal

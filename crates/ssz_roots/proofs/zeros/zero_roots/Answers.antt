@@ -1,4 +1,4 @@
-use Rattle.std.proofs.Common.{◌≡◌, ◌<◌, ◌-◌, [], length, sym, refl, ◌∙◌, inl, inr, arith, get_or-set_other, get_or-set_same, length-set}
+use Rattle.std.proofs.Common.{◌≡◌, ◌<◌, ◌-◌, [], length, sym, refl, inl, inr, arith, get_or-set_other, get_or-set_same, length-set}
 use Rattle.edge_kit.specs.declared.bytes.Root.{Root}
 use Rattle.std.proofs.lemmas.Bool.{cases_eq}
 use Rattle.ssz_roots.proofs.TreeLemmas.{zero_root-zero, zero_root-step}

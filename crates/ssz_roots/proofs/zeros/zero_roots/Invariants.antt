@@ -1,4 +1,4 @@
-use Rattle.std.proofs.Common.{◌≡◌, ℕ, ◌<◌, length}
+use Rattle.std.proofs.Common.{◌≡◌, length}
 use Rattle.ssz_roots.specs.Zeros.{AreZeroRoots}
 use Rattle.ssz_roots.proofs.zeros.zero_roots.Given as goal
 

@@ -1,6 +1,6 @@
 use Rattle.std.proofs.Common.{◌*◌, Some, sym, ap, ◌∙◌, arith}
 use Rattle.std.proofs.lemmas.List.{take_rest}
-use Rattle.ssz_roots.specs.Packing.{chunk_from, bit_bytes, number_bytes}
+use Rattle.ssz_roots.specs.Packing.{chunk_from, bit_bytes}
 use Rattle.ssz_roots.proofs.PackingLemmas.{bits_begin, bit_chunk_at}
 use Rattle.ssz_roots.proofs.chunks.RefSliceBoolChunks.chunk.Goals as goal
 

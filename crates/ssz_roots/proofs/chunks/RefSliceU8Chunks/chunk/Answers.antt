@@ -1,6 +1,6 @@
 use Rattle.std.proofs.Common.{◌*◌, Some, sym, ap, ◌∙◌, arith}
 use Rattle.std.proofs.lemmas.List.{take_rest}
-use Rattle.ssz_roots.specs.Packing.{chunk_from, bit_bytes, number_bytes}
+use Rattle.ssz_roots.specs.Packing.{chunk_from}
 use Rattle.ssz_roots.proofs.PackingLemmas.{bytes_begin, slice_get-packed}
 use Rattle.ssz_roots.proofs.chunks.RefSliceU8Chunks.chunk.Goals as goal
 

@@ -1,0 +1,13 @@
+use Rattle.std.proofs.Common.{◌≡◌, ◌∷◌, length, sym, ap, ◌∙◌, arith}
+use Rattle.ssz_roots.proofs.PackingLemmas.{merkle_root-one}
+use Rattle.phase0_types.specs.Roots.{root_of}
+use Rattle.phase0_types.specs.Containers.{beacon_block, beacon_block_header}
+use Rattle.phase0_blocks.specs.Blocks.{beacon_block_value}
+use Rattle.phase0_types.specs.Headers.{beacon_block_header_value}
+use Rattle.phase0_blocks.proofs.block.BeaconBlock.header.Goals as goal
+
+pub returns-clause-same_root : goal.returns-clause-same_root
+unfolding root_of beacon_block beacon_block_header beacon_block_value beacon_block_header_value
+returns-clause-same_root c =
+    let whole : length c.root.result.0 ≡ 32 = omega arith in
+    rw (merkle_root-one c.root.result.0 whole, c.root.ensures)

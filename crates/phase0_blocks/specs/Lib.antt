@@ -1,0 +1,4 @@
+pub mod Signed
+pub mod Votes
+pub mod Operations
+pub mod Blocks

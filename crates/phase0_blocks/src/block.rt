@@ -1,0 +1,156 @@
+//! Blocks.
+ghost use Rattle.std.specs.Prelude.{◌≡◌};
+ghost use Rattle.phase0_blocks.specs.Blocks.{beacon_block_body_value, beacon_block_value};
+ghost use Rattle.phase0_types.specs.Containers.{beacon_block, beacon_block_body, beacon_block_header};
+ghost use Rattle.phase0_types.specs.Headers.{beacon_block_header_value};
+ghost use Rattle.phase0_types.specs.Names.{beacon_block_body_names, beacon_block_names};
+ghost use Rattle.phase0_types.specs.Roots.{root_of};
+
+use crate::operation::{AttesterSlashing, Deposit, ProposerSlashing};
+use crate::signed::SignedVoluntaryExit;
+use crate::vote::Attestation;
+use edge_kit::{Root, Sig};
+use phase0_types::{
+    BeaconBlockHeader, BoundedList, Container, Eth1Data, Member, ReadResult, Shaped,
+    container_root, object_at, read_field,
+};
+use serde_json::{Value, json};
+use std::alloc::{AllocError, Global};
+
+/// What a block carries (consensus-specs, `BeaconBlockBody`).
+#[derive(Drop, Debug)]
+pub struct BeaconBlockBody {
+    pub randao_reveal: Sig,
+    pub eth1_data: Eth1Data,
+    pub graffiti: [u8; 32],
+    pub proposer_slashings: BoundedList<ProposerSlashing, 16>,
+    pub attester_slashings: BoundedList<AttesterSlashing, 2>,
+    pub attestations: BoundedList<Attestation, 128>,
+    pub deposits: BoundedList<Deposit, 16>,
+    pub voluntary_exits: BoundedList<SignedVoluntaryExit, 16>,
+}
+
+#[tactic(auto, unfolding(phase0_types::specs::Roots::root_of, phase0_types::specs::Reading::read_at, phase0_types::specs::Writing::write, phase0_types::specs::Fitting::Fits, phase0_types::specs::Containers::beacon_block_body, crate::specs::Blocks::beacon_block_body_value))]
+impl Shaped for BeaconBlockBody {
+    ghost shape = { beacon_block_body };
+
+    ghost value = { beacon_block_body_value };
+
+    fn root(&self) -> Root {
+        container_root(&[
+            self.randao_reveal.root(),
+            self.eth1_data.root(),
+            self.graffiti.root(),
+            self.proposer_slashings.root(),
+            self.attester_slashings.root(),
+            self.attestations.root(),
+            self.deposits.root(),
+            self.voluntary_exits.root(),
+        ])
+    }
+
+    fn read_at(alloc: Global, place: Option<Member>, json: &Value) -> ReadResult<Self> {
+        object_at!(place, json);
+        Ok(Ok(BeaconBlockBody {
+            randao_reveal: read_field!(alloc, Member::RandaoReveal, json),
+            eth1_data: read_field!(alloc, Member::Eth1Data, json),
+            graffiti: read_field!(alloc, Member::Graffiti, json),
+            proposer_slashings: read_field!(alloc, Member::ProposerSlashings, json),
+            attester_slashings: read_field!(alloc, Member::AttesterSlashings, json),
+            attestations: read_field!(alloc, Member::Attestations, json),
+            deposits: read_field!(alloc, Member::Deposits, json),
+            voluntary_exits: read_field!(alloc, Member::VoluntaryExits, json),
+        }))
+    }
+
+    fn to_json(&self, alloc: Global) -> Result<Value, AllocError> {
+        json!(in alloc; {
+            "randao_reveal": self.randao_reveal.to_json(alloc)?,
+            "eth1_data": self.eth1_data.to_json(alloc)?,
+            "graffiti": self.graffiti.to_json(alloc)?,
+            "proposer_slashings": self.proposer_slashings.to_json(alloc)?,
+            "attester_slashings": self.attester_slashings.to_json(alloc)?,
+            "attestations": self.attestations.to_json(alloc)?,
+            "deposits": self.deposits.to_json(alloc)?,
+            "voluntary_exits": self.voluntary_exits.to_json(alloc)?
+        })
+    }
+
+    ghost names = { beacon_block_body_names };
+}
+
+impl Container for BeaconBlockBody {}
+
+/// A block (consensus-specs, `BeaconBlock`).
+#[derive(Drop, Debug)]
+pub struct BeaconBlock {
+    pub slot: u64,
+    pub proposer_index: u64,
+    pub parent_root: Root,
+    pub state_root: Root,
+    pub body: BeaconBlockBody,
+}
+
+#[tactic(auto, unfolding(phase0_types::specs::Roots::root_of, phase0_types::specs::Reading::read_at, phase0_types::specs::Writing::write, phase0_types::specs::Fitting::Fits, phase0_types::specs::Containers::beacon_block, crate::specs::Blocks::beacon_block_value))]
+impl Shaped for BeaconBlock {
+    ghost shape = { beacon_block };
+
+    ghost value = { beacon_block_value };
+
+    fn root(&self) -> Root {
+        container_root(&[
+            self.slot.root(),
+            self.proposer_index.root(),
+            self.parent_root.root(),
+            self.state_root.root(),
+            self.body.root(),
+        ])
+    }
+
+    fn read_at(alloc: Global, place: Option<Member>, json: &Value) -> ReadResult<Self> {
+        object_at!(place, json);
+        Ok(Ok(BeaconBlock {
+            slot: read_field!(alloc, Member::Slot, json),
+            proposer_index: read_field!(alloc, Member::ProposerIndex, json),
+            parent_root: read_field!(alloc, Member::ParentRoot, json),
+            state_root: read_field!(alloc, Member::StateRoot, json),
+            body: read_field!(alloc, Member::Body, json),
+        }))
+    }
+
+    fn to_json(&self, alloc: Global) -> Result<Value, AllocError> {
+        json!(in alloc; {
+            "slot": self.slot.to_json(alloc)?,
+            "proposer_index": self.proposer_index.to_json(alloc)?,
+            "parent_root": self.parent_root.to_json(alloc)?,
+            "state_root": self.state_root.to_json(alloc)?,
+            "body": self.body.to_json(alloc)?
+        })
+    }
+
+    ghost names = { beacon_block_names };
+}
+
+impl Container for BeaconBlock {}
+
+impl BeaconBlock {
+    /// Its header, with the body's root in place of the body. The two have one root.
+    pub fn header(&self) -> BeaconBlockHeader
+        ensures slot { result.slot ≡ self.now.slot }
+        ensures proposer_index { result.proposer_index ≡ self.now.proposer_index }
+        ensures parent_root { result.parent_root ≡ self.now.parent_root }
+        ensures state_root { result.state_root ≡ self.now.state_root }
+        ensures body_root { result.body_root.0
+            ≡ root_of beacon_block_body (beacon_block_body_value self.now.body) }
+        ensures same_root { root_of beacon_block_header (beacon_block_header_value result)
+            ≡ root_of beacon_block (beacon_block_value self.now) }
+    {
+        BeaconBlockHeader {
+            slot: self.slot,
+            proposer_index: self.proposer_index,
+            parent_root: self.parent_root,
+            state_root: self.state_root,
+            body_root: self.body.root(),
+        }
+    }
+}

@@ -1,0 +1,4 @@
+pub mod BitLemmas
+pub mod TextLemmas
+pub mod RoundTrip
+pub mod ItemLemmas

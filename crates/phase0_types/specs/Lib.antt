@@ -1,0 +1,13 @@
+pub mod Members
+pub mod Shapes
+pub mod Values
+pub mod Roots
+pub mod Faults
+pub mod Reading
+pub mod Writing
+pub mod Fitting
+pub mod Containers
+pub mod Names
+pub mod Forks
+pub mod Headers
+pub mod Attestations

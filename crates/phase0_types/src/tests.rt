@@ -1,0 +1,115 @@
+//! Roots against those that another program computed, and JSON with faults.
+use crate::{
+    BeaconBlockHeader, Checkpoint, Eth1Data, Fork, ForkData, Member, ReadFault, Shaped, SigningData,
+};
+use edge_kit::{Root, read_hex};
+use serde_json::Value;
+use std::process::Abort;
+use std::test::Fail;
+
+/// The root that a text of 64 hex digits writes.
+fn root_of(rt: &impl Abort, text: &str) -> Root {
+    Root(read_hex::<32>(text).expect(rt, "a root"))
+}
+
+const ZERO: Root = Root([0; 32]);
+
+#[test]
+fn roots_of_small_containers(rt: HostRuntime) {
+    let checkpoint = Checkpoint {
+        epoch: 0,
+        root: ZERO,
+    };
+    let eth1_data = Eth1Data {
+        deposit_root: ZERO,
+        deposit_count: 0,
+        block_hash: ZERO,
+    };
+    let header = BeaconBlockHeader {
+        slot: 0,
+        proposer_index: 0,
+        parent_root: ZERO,
+        state_root: ZERO,
+        body_root: ZERO,
+    };
+    let fork = Fork {
+        previous_version: [1, 0, 0, 0],
+        current_version: [2, 0, 0, 0],
+        epoch: 5,
+    };
+    let fork_data = ForkData {
+        current_version: [2, 0, 0, 0],
+        genesis_validators_root: Root([0xcc; 32]),
+    };
+    let signing_data = SigningData {
+        object_root: Root([0xdd; 32]),
+        domain: [0xee; 32],
+    };
+    let table = [
+        (
+            checkpoint.root(),
+            "0xf5a5fd42d16a20302798ef6ed309979b43003d2320d9f0e8ea9831a92759fb4b",
+        ),
+        (
+            eth1_data.root(),
+            "0xdb56114e00fdd4c1f85c892bf35ac9a89289aaecb1ebd0a96cde606a748b5d71",
+        ),
+        (
+            header.root(),
+            "0xc78009fdf07fc56a11f122370658a353aaa542ed63e44c4bc15ff4cd105ab33c",
+        ),
+        (
+            fork.root(),
+            "0x48bf63b1741e8c9b1902d2f16e60f4f7398c2b10ee7c0de3569ee7808b810029",
+        ),
+        (
+            fork_data.root(),
+            "0x3ac87e2bf74e75512d0cafeef9434d72483b7b7a3483b6a2a808e382c5dda4ff",
+        ),
+        (
+            signing_data.root(),
+            "0x76d3d65e76606ae16124bd6ab8361570c994ebbaaf8a862d02a2b7c05b53813b",
+        ),
+    ];
+    for (root, text) in table {
+        assert_eq!(rt; root, root_of(&rt, text));
+    }
+}
+
+#[test]
+fn checkpoints_with_faults(rt: HostRuntime) -> Result<(), Fail> {
+    let alloc = rt.alloc();
+    let table = [
+        ("[]", ReadFault::Json),
+        ("{}", ReadFault::Missing(Member::Epoch)),
+        (
+            r#"{"epoch":1,"root":"0x"}"#,
+            ReadFault::Missing(Member::Epoch),
+        ),
+        (
+            r#"{"epoch":null,"root":"0x"}"#,
+            ReadFault::Missing(Member::Epoch),
+        ),
+        (
+            r#"{"epoch":"-1","root":"0x"}"#,
+            ReadFault::BadNumber(Member::Epoch),
+        ),
+        (
+            r#"{"epoch":"18446744073709551616"}"#,
+            ReadFault::BadNumber(Member::Epoch),
+        ),
+        (
+            r#"{"epoch":"18446744073709551615"}"#,
+            ReadFault::Missing(Member::Root),
+        ),
+        (
+            r#"{"epoch":"1","root":"0x11"}"#,
+            ReadFault::BadHex(Member::Root),
+        ),
+    ];
+    for (text, fault) in table {
+        let json = Value::from_str(alloc, text)?;
+        assert_eq!(rt; Checkpoint::read_value(alloc, &json)?, Err(fault), "{text}");
+    }
+    Ok(())
+}
