@@ -22,6 +22,10 @@ fn disk_of(alloc: Global, bytes: Vec<u8>, stop: Option<u64>) -> Result<MemDisk, 
     MemDisk::new(alloc, bytes, Vec::new(alloc), stop)
 }
 
+fn disk_with(alloc: Global, parts: [&[u8]; 5]) -> Result<MemDisk, AllocError> {
+    disk_of(alloc, joined(alloc, &parts)?, None)
+}
+
 #[test]
 fn each_way_of_damage_is_named(rt: HostRuntime) -> Result<(), Fail> {
     let alloc = rt.alloc();
@@ -50,7 +54,7 @@ fn each_way_of_damage_is_named(rt: HostRuntime) -> Result<(), Fail> {
         ([&header, &[1], &[98, 0, 0, 0], &state, &state], 144, None),
     ];
     for (parts, offset, byte) in table {
-        let disk = disk_of(alloc, joined(alloc, &parts)?, None)?;
+        let disk = disk_with(alloc, parts)?;
         let Err((fault, _disk)) = Journal::open(alloc, disk, ROOT) else {
             return Err(Fail::from("opened"));
         };
@@ -83,7 +87,7 @@ fn what_stands_behind_a_closed_gate_is_ignored(rt: HostRuntime) -> Result<(), Fa
         ([&header, &[1], &[49, 0, 0, 0], &state, &[0, 1, 2]], 1, 96),
     ];
     for (parts, count, size) in table {
-        let disk = disk_of(alloc, joined(alloc, &parts)?, None)?;
+        let disk = disk_with(alloc, parts)?;
         let Ok(journal) = Journal::open(alloc, disk, ROOT) else {
             return Err(Fail::from("not opened"));
         };

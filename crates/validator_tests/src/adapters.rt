@@ -1,0 +1,85 @@
+//! Readers as sources, and writers as sinks.
+use edge_kit::{Failed, Reading, Sink, Source, Writing};
+use std::io;
+use std::io::{Read, Write};
+
+/// Takes or gives at most so many bytes at a call, and fails at every third.
+#[derive(Drop)]
+struct Halting<T> {
+    inner: T,
+    step: usize,
+    calls: u8,
+}
+
+impl<T> Halting<T> {
+    fn turn(&mut self, len: usize) -> io::Result<usize> {
+        self.calls = self.calls % 3 + 1;
+        if self.calls == 3 {
+            return Err(io::Error::from(io::ErrorKind::WouldBlock));
+        }
+        Ok(len.min(self.step))
+    }
+}
+
+impl<T: Read> Read for Halting<T> {
+    fn read(&mut self, buf: &mut [u8]) -> io::Result<usize> {
+        let len = self.turn(buf.len())?.min(buf.len());
+        self.inner.read(&mut buf[..len])
+    }
+}
+
+impl<T: Write> Write for Halting<T> {
+    fn write(&mut self, buf: &[u8]) -> io::Result<usize> {
+        let len = self.turn(buf.len())?.min(buf.len());
+        self.inner.write(&buf[..len])
+    }
+
+    fn flush(&mut self) -> io::Result<()> {
+        Ok(())
+    }
+}
+
+#[test]
+fn a_reader_is_a_source(rt: HostRuntime) {
+    let bytes: &[u8] = b"abcdefg";
+    let (step, calls) = (3, 0);
+    let mut source = Reading::new(Halting {
+        inner: bytes,
+        step,
+        calls,
+    });
+    let mut piece = [0; 4];
+    let wanted: [(Result<usize, Failed>, &[u8]); 5] = [
+        (Ok(3), b"abc"),
+        (Ok(3), b"def"),
+        (Err(Failed), b""),
+        (Ok(1), b"g"),
+        (Ok(0), b""),
+    ];
+    for (result, front) in wanted {
+        assert!(rt; source.read(&mut piece) == result);
+        assert!(rt; piece.starts_with(front));
+    }
+}
+
+#[test]
+fn a_writer_is_a_sink(rt: HostRuntime) {
+    let mut held = [0; 5];
+    let (step, calls) = (3, 0);
+    {
+        let inner: &mut [u8] = &mut held;
+        let mut sink = Writing::new(Halting { inner, step, calls });
+        let wanted: [(&[u8], Result<usize, Failed>); 6] = [
+            (b"abcd", Ok(3)),
+            (b"", Ok(0)),
+            (b"d", Err(Failed)),
+            (b"def", Ok(2)),
+            (b"f", Err(Failed)),
+            (b"f", Err(Failed)),
+        ];
+        for (piece, result) in wanted {
+            assert!(rt; sink.write(piece) == result);
+        }
+    }
+    assert!(rt; held == *b"abcde");
+}
