@@ -2,6 +2,7 @@
 use crate::outside::{Faults, no_faults, run};
 use crate::sessions::SESSIONS;
 use edge_kit::PubKey;
+use std::alloc::{AllocError, Global};
 use std::test::Fail;
 use validator_cli::{Limit, Status};
 
@@ -124,19 +125,25 @@ fn a_key_that_the_signer_lacks_is_unsigned(rt: HostRuntime) -> Result<(), Fail> 
     Ok(())
 }
 
+/// A line of so many letters, without its newline.
+fn letters(alloc: Global, count: usize) -> Result<Vec<u8>, AllocError> {
+    vec![in alloc; b'a'; count]
+}
+
 #[test]
 fn a_line_over_the_limit_ends_the_session(rt: HostRuntime) -> Result<(), Fail> {
     let alloc = rt.alloc();
-    let long = vec![in alloc; b'a'; 16_777_217]?;
+    let long = letters(alloc, 16_777_217)?;
     let (status, written) = run(&rt, rt.alloc(), &WORDS, long.as_slice(), no_faults(alloc))?;
     assert_eq!(rt; status, Status::InputTooLong(Limit::Line));
     assert_eq!(rt; status.code(), 9);
     assert!(rt; written.as_slice() == b"validator: input too long: limit 16777216\n".as_slice());
+    let longest = letters(alloc, 16_777_216)?;
     let (status, written) = run(
         &rt,
         rt.alloc(),
         &WORDS,
-        &long[..16_777_216],
+        longest.as_slice(),
         no_faults(alloc),
     )?;
     assert_eq!(rt; status, Status::Done);
