@@ -1,15 +1,15 @@
 #!/bin/sh
 # Speed and peak memory of reading and writing back two large interchange files, beside Python's json.load of the
 # same files in the same run: one of 10,000 keys with 100 entries each, one of a single key with 1,000,000 entries.
-# Run it at the top of the repository. The first argument, if any, divides the numbers of keys and entries.
+# Run it at the top of the repository. A program that is built is measured as it stands, else it is built first. The first argument, if any, divides the numbers of keys and entries.
 set -eu
 part=${1:-1}
 here=$(pwd)
 work=$(mktemp -d)
 trap 'rm -rf "$work"' EXIT
 
-(cd crates/interchange_bench && rt run <stdin >"$work/build" 2>&1) || { cat "$work/build"; exit 1; }
 program=crates/interchange_bench/out/interchange_bench
+[ -x "$program" ] || (cd crates/interchange_bench && rt run <stdin >"$work/build" 2>&1) || { cat "$work/build"; exit 1; }
 
 python3 - "$work" "$part" <<'PY'
 import json, sys

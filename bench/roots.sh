@@ -2,12 +2,12 @@
 # Hashes per second for the root of a phase 0 block whose lists are all full, beside Python's hashlib doing the same
 # number of hashes of 64 bytes in the same run, and the number of SHA-256 calls for the root. The number is counted by
 # a walk in Python over the same trees, which also computes the root that the program has to print.
-# Run it at the top of the repository.
+# Run it at the top of the repository. A program that is built is measured as it stands, else it is built first.
 set -eu
 work=$(mktemp -d)
 trap 'rm -rf "$work"' EXIT
 
-(cd crates/roots_bench && rt run <stdin >"$work/build" 2>&1) || { cat "$work/build"; exit 1; }
+[ -x crates/roots_bench/out/roots_bench ] || (cd crates/roots_bench && rt run <stdin >"$work/build" 2>&1) || { cat "$work/build"; exit 1; }
 
 python3 - "$work" crates/roots_bench/out/roots_bench <<'PY'
 import hashlib, json, subprocess, sys, time

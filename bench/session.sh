@@ -1,12 +1,13 @@
 #!/usr/bin/env bash
 # Runs the built program on a generated session and prints requests per second and peak memory.
+# A program that is built is measured as it stands, else it is built first.
 # Usage: bench/session.sh [KEYS] [BLOCKS]: so many keys are activated, and so many blocks of growing slots proposed in turn.
 set -eu
 cd "$(dirname "$0")/.."
 keys=${1:-1000}
 blocks=${2:-200000}
-(cd crates/validator && rt run -- session --genesis "0x$(printf '0%.0s' {1..64})" < /dev/null > /dev/null 2>&1) || true
 program=crates/validator/out/validator
+[ -x "$program" ] || (cd crates/validator && rt run -- session --genesis "0x$(printf '0%.0s' {1..64})" < /dev/null > /dev/null 2>&1) || true
 [ -x "$program" ] || { echo "the program is not built: run 'rt run' in crates/validator" >&2; exit 1; }
 work=$(mktemp -d)
 trap 'rm -rf "$work"' EXIT
