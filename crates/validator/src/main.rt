@@ -1,6 +1,9 @@
 //! The validator client: the real objects, and the top call.
 #![tactic(auto)]
 
+ghost use Rattle.std.specs.Prelude.{◌≡◌, [], IfOk};
+ghost use Rattle.edge_kit.specs.OnMemDisks.{disk_bytes};
+
 use edge_kit::{Clock, Disks, Door, MemDisk, Reading, Writing};
 use signer_link::MemSigner;
 use std::alloc::{AllocError, Global};
@@ -38,7 +41,9 @@ fn words<R: Env + AllocGlobal>(rt: &R) -> Result<Vec<String>, AllocError> {
 }
 
 /// Two empty disks in memory, which end with the run.
-fn memory_disks(alloc: Global) -> Result<Disks<MemDisk>, AllocError> {
+fn memory_disks(alloc: Global) -> Result<Disks<MemDisk>, AllocError>
+    ensures { IfOk result (λ disks. (disk_bytes disks.first ≡ []) × (disk_bytes disks.second ≡ [])) }
+{
     Ok(Disks {
         first: MemDisk::new(alloc, Vec::new(alloc), Vec::new(alloc), None)?,
         second: MemDisk::new(alloc, Vec::new(alloc), Vec::new(alloc), None)?,

@@ -98,18 +98,29 @@ fn faults_end_the_session_with_their_status(rt: HostRuntime) -> Result<(), Fail>
         ),
     ];
     for (reads, writes, signs, room, wanted, output) in cases {
-        let faults = Faults {
-            reads: Vec::from_slice(alloc, reads)?,
-            writes: Vec::from_slice(alloc, writes)?,
-            signs: Vec::from_slice(alloc, signs)?,
-            lacking: Vec::new(alloc),
-            room,
-        };
+        let faults = faults_of(alloc, reads, writes, signs, room)?;
         let (status, written) = run(&rt, rt.alloc(), &WORDS, input.as_bytes(), faults)?;
         assert_eq!(rt; status, wanted);
         assert!(rt; written.as_slice() == output.as_bytes(), "{output}");
     }
     Ok(())
+}
+
+/// Faults at these calls, and so much room.
+fn faults_of(
+    alloc: Global,
+    reads: &[u64],
+    writes: &[u64],
+    signs: &[u64],
+    room: usize,
+) -> Result<Faults, AllocError> {
+    Ok(Faults {
+        reads: Vec::from_slice(alloc, reads)?,
+        writes: Vec::from_slice(alloc, writes)?,
+        signs: Vec::from_slice(alloc, signs)?,
+        lacking: Vec::new(alloc),
+        room,
+    })
 }
 
 #[test]
