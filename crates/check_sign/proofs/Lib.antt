@@ -1,3 +1,3 @@
-pub mod KeyLemmas
 pub mod MachineLemmas
 pub mod GrantLemmas
+pub mod ExportLemmas

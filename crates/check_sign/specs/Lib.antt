@@ -1,4 +1,4 @@
-pub mod Keys
 pub mod Contents
-pub mod Taking
+pub mod States
+pub mod Handing
 pub mod Machine

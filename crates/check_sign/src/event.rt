@@ -1,11 +1,15 @@
 //! What the desk did, as plain data.
 use crate::call::Outcome;
 use edge_kit::{Items, PubKey};
-use slash_defs::Message;
+use slash_defs::{Book, File, Message};
 
 /// A call whose reply changed the desk, a grant by its number.
-#[derive(Clone, Copy, PartialEq, Eq, Debug)]
+#[derive(Drop)]
 pub enum Event {
+    /// A file was merged. It lists a key at least.
+    Merged {
+        file: File,
+    },
     /// A key became active.
     Activated {
         key: PubKey,
@@ -21,10 +25,15 @@ pub enum Event {
         grant: u64,
         outcome: Outcome,
     },
+    /// A key's record was pruned by this book.
+    Pruned {
+        key: PubKey,
+        book: Book,
+    },
 }
 
 /// An event with its moment, the greatest epoch that the desk had been told by then.
-#[derive(Clone, Copy, PartialEq, Eq, Debug)]
+#[derive(Drop)]
 pub struct DeskEvent {
     pub event: Event,
     pub moment: u64,

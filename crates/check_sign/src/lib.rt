@@ -4,13 +4,13 @@
 mod call;
 mod desk;
 mod event;
+mod exporting;
 mod grant;
-mod kept;
 mod open_grant;
 mod room;
 
-pub use call::{DeskCall, DeskReply, MOMENT_LIMIT, Outcome};
-pub use desk::{Desk, KEY_LIMIT};
+pub use call::{DeskCall, DeskReply, Keys, MOMENT_LIMIT, Outcome};
+pub use desk::Desk;
 pub use event::{DeskEvent, Event, Events};
 pub use grant::Grant;
 pub use open_grant::OpenGrant;

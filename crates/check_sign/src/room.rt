@@ -1,28 +1,34 @@
 //! Room that is made before the desk changes, and spent without refusal.
-ghost use Rattle.std.specs.Prelude.{◌≡◌, ◌+◌, ◌<◌, ◌≤◌, ◌++◌, ◌∷◌, [], ℕ, IsTrue, vec_len, vec_capacity, length, remove, IfSome, IfNone, Contains};
-ghost use Rattle.check_sign.specs.Machine.{without};
+ghost use Rattle.std.specs.Prelude.{◌≡◌, ◌+◌, ◌<◌, ◌≤◌, ◌⊎◌, ◌↔◌, ◌++◌, ◌∷◌, [], ℕ, Some, IsSome, IsTrue, vec_len, vec_capacity, length, remove, IfSome, IfNone, Contains};
+ghost use Rattle.record_join.specs.Keys.{kept_of};
+ghost use Rattle.record_join.specs.BooksPasts.{key_limit};
+ghost use Rattle.check_sign.specs.Machine.{without, noted_merge};
 ghost use Rattle.check_sign.specs.declared.open_grant.OpenGrant.{OpenGrant};
 
 use crate::event::{DeskEvent, Event};
+use crate::grant::Grant;
 use crate::open_grant::OpenGrant;
+use edge_kit::PubKey;
+use record_join::{Books, KEY_LIMIT};
+use slash_defs::{File, Message};
 
 /// Makes room for one more grant: for its event, for the event of its settling, and for itself. Whether
 /// there is room.
-pub fn make_room(events: &mut Vec<DeskEvent>, open: &mut Vec<OpenGrant>) -> bool
+pub fn make_room(events: &mut Vec<DeskEvent>, grants: &mut Vec<OpenGrant>) -> bool
     ensures events { events.new.items ≡ events.old.items }
     ensures events_len { vec_len events.new ≡ vec_len events.old }
-    ensures open { open.new.items ≡ open.old.items }
-    ensures open_len { vec_len open.new ≡ vec_len open.old }
+    ensures kept { grants.new.items ≡ grants.old.items }
+    ensures kept_len { vec_len grants.new ≡ vec_len grants.old }
     ensures no_less { vec_capacity events.old ≤ vec_capacity events.new }
-    ensures room { IsTrue result → (vec_len events.new + vec_len open.new + 2 ≤ vec_capacity events.new) × (vec_len open.new < vec_capacity open.new) }
+    ensures room { IsTrue result → (vec_len events.new + vec_len grants.new + 2 ≤ vec_capacity events.new) × (vec_len grants.new < vec_capacity grants.new) }
 {
-    let Some(wanted) = open.len().checked_add(2) else {
+    let Some(wanted) = grants.len().checked_add(2) else {
         return false;
     };
     if events.reserve(wanted).is_err() {
         return false;
     }
-    open.reserve(1).is_ok()
+    grants.reserve(1).is_ok()
 }
 
 /// Notes an event where there is room.
@@ -36,34 +42,94 @@ pub fn note(events: &mut Vec<DeskEvent>, event: Event, moment: u64)
 }
 
 /// Opens a grant where there is room.
-pub fn open_one(open: &mut Vec<OpenGrant>, grant: OpenGrant)
-    requires { vec_len open.old < vec_capacity open.old }
-    ensures open { open.new.items ≡ open.old.items ++ grant ∷ [] }
-    ensures len { vec_len open.new ≡ vec_len open.old + 1 }
+pub fn open_one(grants: &mut Vec<OpenGrant>, grant: OpenGrant)
+    requires { vec_len grants.old < vec_capacity grants.old }
+    ensures kept { grants.new.items ≡ grants.old.items ++ grant ∷ [] }
+    ensures len { vec_len grants.new ≡ vec_len grants.old + 1 }
 {
-    let _ = open.push(grant);
+    let _ = grants.push(grant);
 }
 
 /// Takes the grant of this number out, which is there.
-pub fn close_one(open: &mut Vec<OpenGrant>, number: u64)
-    requires { (g : OpenGrant) × Contains open.old.items g × (g.number ≡ number) }
-    ensures open { open.new.items ≡ without open.old.items number }
-    ensures len { vec_len open.new + 1 ≡ vec_len open.old }
+pub fn close_one(grants: &mut Vec<OpenGrant>, number: u64)
+    requires { (g : OpenGrant) × Contains grants.old.items g × (g.number ≡ number) }
+    ensures kept { grants.new.items ≡ without grants.old.items number }
+    ensures len { vec_len grants.new + 1 ≡ vec_len grants.old }
 {
-    if let Some(place) = place_of(open.as_slice(), number) {
-        let _ = open.remove(place);
+    if let Some(place) = place_of(grants.as_slice(), number) {
+        let _ = grants.remove(place);
     }
 }
 
 /// Where the grant of this number stands.
-fn place_of(open: &[OpenGrant], number: u64) -> Option<usize>
-    ensures found { IfSome result (λ i. (i < length open.now) × (without open.now number ≡ remove open.now i)) }
-    ensures none { IfNone result ((g : OpenGrant) → Contains open.now g → g.number ≡ number → ⊥) }
+fn place_of(grants: &[OpenGrant], number: u64) -> Option<usize>
+    ensures found { IfSome result (λ i. (i < length grants.now) × (without grants.now number ≡ remove grants.now i)) }
+    ensures none { IfNone result ((g : OpenGrant) → Contains grants.now g → g.number ≡ number → ⊥) }
 {
-    for (i, grant) in open.iter().enumerate() {
+    for (i, grant) in grants.iter().enumerate() {
         if grant.number == number {
             return Some(i);
         }
     }
     None
+}
+
+/// Opens a grant and notes it, where there is room.
+pub fn give(
+    events: &mut Vec<DeskEvent>,
+    grants: &mut Vec<OpenGrant>,
+    granted: OpenGrant,
+    message: Message,
+    moment: u64,
+) -> Grant
+    requires events_room { vec_len events.old < vec_capacity events.old }
+    requires grant_room { vec_len grants.old < vec_capacity grants.old }
+    requires message { granted.message ≡ Some message }
+    ensures grant { result ≡ granted }
+    ensures events { events.new.items ≡ events.old.items ++ record { event = Event.Granted granted.key message granted.number; moment = moment } ∷ [] }
+    ensures events_len { vec_len events.new ≡ vec_len events.old + 1 }
+    ensures no_less { vec_capacity events.old ≤ vec_capacity events.new }
+    ensures kept { grants.new.items ≡ grants.old.items ++ granted ∷ [] }
+    ensures kept_len { vec_len grants.new ≡ vec_len grants.old + 1 }
+{
+    let OpenGrant {
+        number,
+        key,
+        message: _,
+    } = granted;
+    open_one(grants, granted);
+    let event = Event::Granted {
+        key,
+        message,
+        grant: number,
+    };
+    note(events, event, moment);
+    Grant {
+        number,
+        key,
+        message: Some(message),
+    }
+}
+
+/// Notes that a file was merged, where there is room. One without keys is not noted.
+pub fn note_merge(events: &mut Vec<DeskEvent>, file: File, moment: u64)
+    requires { vec_len events.old < vec_capacity events.old }
+    ensures events { events.new.items ≡ events.old.items ++ noted_merge moment file file.books }
+    ensures len { vec_len events.new ≤ vec_len events.old + 1 }
+    ensures no_fewer { vec_len events.old ≤ vec_len events.new }
+    ensures no_less { vec_capacity events.old ≤ vec_capacity events.new }
+{
+    if !file.books.is_empty() {
+        note(events, Event::Merged { file }, moment);
+    }
+}
+
+/// Whether the key is kept, or one more may be.
+pub fn fits_one(books: &Books, key: &PubKey) -> bool
+    ensures { IsTrue result ↔ (IsSome (kept_of books.now key.now) ⊎ (length books.now < key_limit)) }
+{
+    match books.get(key) {
+        Some(_) => true,
+        None => books.len() < KEY_LIMIT,
+    }
 }

@@ -8,6 +8,7 @@ mod floors;
 mod kept;
 mod laws;
 mod living;
+mod pruning;
 mod record;
 mod sorted;
 #[cfg(test)]

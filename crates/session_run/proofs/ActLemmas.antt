@@ -1,20 +1,35 @@
--- A granted proposal, from the desk's call to the settling.
-use Rattle.std.proofs.Common.{◌≡◌, ◌≢◌, ℕ, ◌≤◌, List, ◌++◌, Option, Result, Ok, Err, refl, sym, ◌∙◌, ap, subst, arith, append_assoc}
+-- What a request does, from the desk's call to the settling of its grant.
+use Rattle.std.proofs.Common.{◌≡◌, ◌≢◌, ℕ, ◌≤◌, List, [], ◌∷◌, ◌++◌, Option, Some, None, Result, Ok, Err, refl, sym, ◌∙◌, ap, subst, arith, append_assoc, append-nil, inl, inr}
 use Rattle.std.specs.Prelude.{IfOk, OnErr}
-use Rattle.edge_kit.specs.declared.bytes.Root.{Root}
+use Rattle.std.specs.Map.{keys_of}
+use Rattle.edge_kit.specs.declared.bytes.PubKey.{PubKey}
+use Rattle.edge_kit.specs.Causes.{Rose}
+use Rattle.edge_kit.specs.Tellings.{Tells}
+use Rattle.edge_kit.proofs.TellingLemmas.{Tells-nil}
+use Rattle.protect_record.specs.Parts.{Parts}
+use Rattle.protect_record.specs.Pasts.{Past}
+use Rattle.protect_record.specs.Standing.{Stands}
+use Rattle.record_join.specs.Keys.{EachKey}
+use Rattle.sign_roots.specs.declared.domains.Domains.{Domains}
+use Rattle.signer_link.specs.declared.signer.SignRequest.{SignRequest}
 use Rattle.signer_link.specs.declared.signer.SignReply.{SignReply}
 use Rattle.signer_link.specs.declared.signer.SignReply.TheVariants as signing
 use Rattle.check_sign.specs.Contents.{Contents}
-use Rattle.check_sign.specs.Machine.{State, DeskStands, Reply, after, noted}
+use Rattle.check_sign.specs.States.{State, DeskStands}
+use Rattle.check_sign.specs.Machine.{Reply, after, noted}
 use Rattle.check_sign.specs.declared.open_grant.OpenGrant.{OpenGrant}
 use Rattle.check_sign.specs.declared.call.DeskCall.{DeskCall}
 use Rattle.check_sign.specs.declared.call.DeskCall.TheVariants as call
 use Rattle.check_sign.specs.declared.call.DeskReply.{DeskReply}
 use Rattle.check_sign.specs.declared.call.DeskReply.TheVariants as reply
 use Rattle.check_sign.specs.declared.call.Outcome.{Outcome}
-use Rattle.session_run.specs.Answers.{answer_text}
-use Rattle.session_run.specs.Turns.{IsAnswered, outcome_of, reply_answer, signed_answer}
-use Rattle.session_run.specs.Acts.{Pair, Signs, Acts, IsGiven}
+use Rattle.check_sign.specs.declared.call.Outcome.TheVariants as outcome
+use Rattle.session_format.specs.Answers.{answer_text}
+use Rattle.session_format.specs.declared.request.Op.{Op}
+use Rattle.session_format.specs.declared.request.Op.TheVariants as op
+use Rattle.session_format.specs.declared.request.Request.{Request}
+use Rattle.session_run.specs.Turns.{Place, IsAnswered, IsUnfaulted, CanCall, state_by, noted_by, told_by, unfaulted_under, call_of, calls, call_at, op_answer, outcome_of, reply_answer, sign_request, signed_answer, asked_of, moment_at, state_after, noted_both}
+use Rattle.session_run.specs.Acts.{Pair, Signs, Acts, ActsBy, Did, CalledOnly, IsGiven, Turned, Undone, Unanswered, LeftUndone}
 
 pub answered_given : (g : OpenGrant) (s : SignReply) → IsGiven s → IsAnswered (reply.Granted g) s
 answered_given g (signing.Signed signature) h = tt
@@ -23,12 +38,12 @@ answered_given g signing.Fault h = tt
 answered_given g signing.OutOfMemory h = absurd (h refl)
 
 -- the desk gave the grant, and under it the signer was asked
-pub acts_granted : (genesis : Root) (before now : Pair) (mid : Contents) (c : DeskCall) (g : OpenGrant) (s : SignReply) (o : Outcome)
+pub acts_granted : (request : SignRequest) (before now : Pair) (mid : Contents) (c : DeskCall) (g : OpenGrant) (s : SignReply) (o : Outcome)
     → ((state : State) → DeskStands before.desk state → Reply state c (reply.Granted g) × DeskStands mid (after state c (reply.Granted g)))
     → mid.events ≡ before.desk.events ++ noted before.desk.latest c (reply.Granted g)
-    → Signs genesis (record { desk = mid; told = before.told; faults = before.faults }) now g s o
-    → Acts genesis before now c (reply.Granted g) s o
-acts_granted genesis before now mid c g s o machine noted_is signs = record {
+    → Signs request (record { desk = mid; told = before.told; faults = before.faults }) now g s o
+    → Acts request before now c (reply.Granted g) s o
+acts_granted request before now mid c g s o machine noted_is signs = record {
   machine = λ state stands.
       let step = machine state stands in
       let first = ap (λ l. noted l c (reply.Granted g)) stands.latest in
@@ -46,23 +61,125 @@ acts_granted genesis before now mid c g s o machine noted_is signs = record {
 }
 
 -- the same, with the answer's line
-pub acted : {T E : Type 0} (bytes : T → List ℕ) (result : Result T E) (genesis : Root) (before now : Pair) (mid : Contents) (c d : DeskCall) (g : OpenGrant) → c ≡ d
+pub acted : {T E : Type 0} (bytes : T → List ℕ) (result : Result T E) (request : SignRequest) (before now : Pair) (mid : Contents) (c : DeskCall) (g : OpenGrant)
     → ((state : State) → DeskStands before.desk state → Reply state c (reply.Granted g) × DeskStands mid (after state c (reply.Granted g)))
     → mid.events ≡ before.desk.events ++ noted before.desk.latest c (reply.Granted g)
-    → IfOk result (λ text. (s : SignReply) × Signs genesis (record { desk = mid; told = before.told; faults = before.faults }) now g s (outcome_of s) × IsGiven s × (bytes text ≡ answer_text (signed_answer g.message s)))
-    → IfOk result (λ text. (r : DeskReply) × (s : SignReply) × Acts genesis before now d r s (outcome_of s) × IsAnswered r s × (bytes text ≡ answer_text (reply_answer r s)))
-acted bytes (Ok text) genesis before now mid c d g same machine noted_is h =
-    let P : DeskCall → Type 0 = λ x. Acts genesis before now x (reply.Granted g) h.0 (outcome_of h.0) in
-    (reply.Granted g, h.0, subst P same (acts_granted genesis before now mid c g h.0 (outcome_of h.0) machine noted_is h.1), answered_given g h.0 h.2, h.3)
-acted bytes (Err e) genesis before now mid c d g same machine noted_is h = tt
+    → IfOk result (λ text. (s : SignReply) × Signs request (record { desk = mid; told = before.told; faults = before.faults }) now g s (outcome_of s) × IsGiven s × (bytes text ≡ answer_text (signed_answer g.message s)))
+    → IfOk result (λ text. (r : DeskReply) × (s : SignReply) × Acts request before now c r s (outcome_of s) × IsAnswered r s × (bytes text ≡ answer_text (reply_answer r s)))
+acted bytes (Ok text) request before now mid c g machine noted_is h =
+    (reply.Granted g, h.0, acts_granted request before now mid c g h.0 (outcome_of h.0) machine noted_is h.1, answered_given g h.0 h.2, h.3)
+acted bytes (Err e) request before now mid c g machine noted_is h = tt
 
 -- the same, where memory ran out
-pub unacted : {T E : Type 0} (result : Result T E) (genesis : Root) (before now : Pair) (mid : Contents) (c d : DeskCall) (g : OpenGrant) (o : Outcome) → c ≡ d
+pub unacted : {T E : Type 0} (result : Result T E) (request : SignRequest) (before now : Pair) (mid : Contents) (c : DeskCall) (g : OpenGrant) (o : Outcome)
     → ((state : State) → DeskStands before.desk state → Reply state c (reply.Granted g) × DeskStands mid (after state c (reply.Granted g)))
     → mid.events ≡ before.desk.events ++ noted before.desk.latest c (reply.Granted g)
-    → OnErr result ((s : SignReply) × Signs genesis (record { desk = mid; told = before.told; faults = before.faults }) now g s o)
-    → OnErr result ((r : DeskReply) × (s : SignReply) × Acts genesis before now d r s o)
-unacted (Ok text) genesis before now mid c d g o same machine noted_is h = tt
-unacted (Err e) genesis before now mid c d g o same machine noted_is h =
-    let P : DeskCall → Type 0 = λ x. Acts genesis before now x (reply.Granted g) h.0 o in
-    (reply.Granted g, h.0, subst P same (acts_granted genesis before now mid c g h.0 o machine noted_is h.1))
+    → OnErr result ((s : SignReply) × Signs request (record { desk = mid; told = before.told; faults = before.faults }) now g s o)
+    → OnErr result ((r : DeskReply) × (s : SignReply) × Acts request before now c r s o)
+unacted (Ok text) request before now mid c g o machine noted_is h = tt
+unacted (Err e) request before now mid c g o machine noted_is h =
+    (reply.Granted g, h.0, acts_granted request before now mid c g h.0 o machine noted_is h.1)
+
+-- ---- a request's call
+
+-- an op that calls the desk is answered by the reply
+op_answered : (kept : List PubKey) (o : Op) (now : ℕ) (c : DeskCall) (r : DeskReply) (s : SignReply) → call_of kept o now ≡ Some c → op_answer o r s ≡ reply_answer r s
+op_answered kept (op.Merge file) now c r s e = refl
+op_answered kept (op.BadFile fault) now c r s e = absurd (none_some c e) where
+  none_some : (x : DeskCall) → None ≡ Some x → ⊥
+  none_some x h = cc
+op_answered kept (op.Activate key) now c r s e = refl
+op_answered kept (op.Propose key m object) now c r s e = refl
+op_answered kept (op.Export None) now c r s e = refl
+op_answered kept (op.Export (Some keys)) now c r s e = refl
+op_answered kept (op.Prune key) now c r s e = refl
+
+pub did : {T E : Type 0} (bytes : T → List ℕ) (result : Result T E) (domains : Domains) (o : Op) (moment : ℕ) (before now : Pair) (c : DeskCall) → call_of (keys_of before.desk.keys) o moment ≡ Some c
+    → IfOk result (λ text. (r : DeskReply) × (s : SignReply) × Acts (sign_request domains o) before now c r s (outcome_of s) × IsAnswered r s × (bytes text ≡ answer_text (reply_answer r s)))
+    → IfOk result (λ text. Did domains o moment before now (bytes text))
+did bytes (Ok text) domains o moment before now c is h =
+    let P : Option DeskCall → Type 0 = λ x. ActsBy (sign_request domains o) x before now h.0 h.1 (outcome_of h.1) in
+    record {
+      reply = h.0;
+      signing = h.1;
+      acts = subst P (sym is) h.2;
+      answered = h.3;
+      text_is = h.4 ∙ ap answer_text (sym (op_answered (keys_of before.desk.keys) o moment c h.0 h.1 is));
+    }
+did bytes (Err e) domains o moment before now c is h = tt
+
+pub called_only : {T E : Type 0} (result : Result T E) (domains : Domains) (o : Op) (moment : ℕ) (before now : Pair) (c : DeskCall) → call_of (keys_of before.desk.keys) o moment ≡ Some c
+    → OnErr result ((r : DeskReply) × (s : SignReply) × Acts (sign_request domains o) before now c r s outcome.Dropped)
+    → OnErr result (LeftUndone domains o moment before now)
+called_only (Ok text) domains o moment before now c is h = tt
+called_only (Err e) domains o moment before now c is h = inr (record { call = c; is_call = is; reply = h.0; signing = h.1; acts = h.2 })
+
+-- ---- a line
+
+same_keys : {X Y : Type 0} (R : X → Y → Type 0) (xs : List (PubKey × X)) (ys : List (PubKey × Y)) → EachKey R xs ys → keys_of xs ≡ keys_of ys
+same_keys R [] [] h = refl
+same_keys R [] (y ∷ ys) h = absurd h
+same_keys R (x ∷ xs) [] h = absurd h
+same_keys R (x ∷ xs) (y ∷ ys) h = ap (λ k. k ∷ keys_of xs) h.0 ∙ ap (λ ks. y.0 ∷ ks) (same_keys R xs ys h.2)
+
+abbrev ByMachine : Pair → Pair → State → Option DeskCall → DeskReply → SignReply → Type 0
+ByMachine before now state c r s = CanCall state c r s × DeskStands now.desk (state_by state c r (outcome_of s)) × (now.desk.events ≡ before.desk.events ++ noted_by state c r (outcome_of s))
+
+by_machine : (request : SignRequest) (c : Option DeskCall) (before now : Pair) (r : DeskReply) (s : SignReply) → ActsBy request c before now r s (outcome_of s) → IsAnswered r s
+    → (state : State) → DeskStands before.desk state → ByMachine before now state c r s
+by_machine request None before now r s same answered state stands =
+    let P : Pair → Type 0 = λ p. ByMachine before p state None r s in
+    subst P (sym same) (tt, stands, sym (append-nil before.desk.events))
+by_machine request (Some c) before now r s acts answered state stands = let m = acts.machine state stands in ((m.0, answered), m.1, m.2)
+
+abbrev ByTelling : SignRequest → Pair → Pair → Option DeskCall → DeskReply → SignReply → Type 0
+ByTelling request before now c r s = Tells before.told now.told (told_by request c r s) × (before.faults ≤ now.faults) × (¬ (Rose before.faults now.faults) → unfaulted_under c r s)
+
+called_telling : (request : SignRequest) (before now : Pair) (c d : DeskCall) (r : DeskReply) (s : SignReply) (o : Outcome) → Acts request before now c r s o → ByTelling request before now (Some d) r s
+called_telling request before now c d r s o acts = (acts.asked, acts.later, acts.unfaulted)
+
+by_telling : (request : SignRequest) (kept : List PubKey) (o : Op) (moment : ℕ) (before now : Pair) (r : DeskReply) (s : SignReply) (out : Outcome) → ActsBy request (call_of kept o moment) before now r s out
+    → ByTelling request before now (call_of [] o 0) r s
+by_telling request kept (op.BadFile fault) moment before now r s out same =
+    let P : Pair → Type 0 = λ p. ByTelling request before p None r s in
+    subst P (sym same) (Tells-nil before.told, omega arith, λ n. tt)
+by_telling request kept (op.Merge file) moment before now r s out acts = called_telling request before now _ _ r s out acts
+by_telling request kept (op.Activate key) moment before now r s out acts = called_telling request before now _ _ r s out acts
+by_telling request kept (op.Propose key m object) moment before now r s out acts = called_telling request before now _ _ r s out acts
+by_telling request kept (op.Export None) moment before now r s out acts = called_telling request before now _ _ r s out acts
+by_telling request kept (op.Export (Some keys)) moment before now r s out acts = called_telling request before now _ _ r s out acts
+by_telling request kept (op.Prune key) moment before now r s out acts = called_telling request before now _ _ r s out acts
+
+-- a request that did what it asks
+pub turned_did : (domains : Domains) (moment : ℕ) (q : Request) (before now : Pair) (text : List ℕ) → Did domains q.op (moment_at moment q) before now text
+    → (r : DeskReply) × (s : SignReply) × Turned domains moment (Ok q) before now r s × (text ≡ answer_text (op_answer q.op r s))
+turned_did domains moment q before now text d =
+    let request = sign_request domains q.op in
+    let m = moment_at moment q in
+    let telling = by_telling request (keys_of before.desk.keys) q.op m before now d.reply d.signing (outcome_of d.signing) d.acts in (
+      d.reply,
+      d.signing,
+      record {
+        machine = λ state stands.
+            let P : List PubKey → Type 0 = λ ks. ByMachine before now state (call_of ks q.op m) d.reply d.signing in
+            subst P (same_keys Stands before.desk.keys state.keys stands.keys)
+                (by_machine request (call_of (keys_of before.desk.keys) q.op m) before now d.reply d.signing d.acts d.answered state stands);
+        asked = telling.0;
+        later = telling.1;
+        unfaulted = telling.2;
+      },
+      d.text_is,
+    )
+
+-- one that did not
+pub unanswered : (domains : Domains) (moment : ℕ) (q : Request) (before now : Pair) → LeftUndone domains q.op (moment_at moment q) before now → Unanswered domains moment (Ok q) before now
+unanswered domains moment q before now (inl same) = inl same
+unanswered domains moment q before now (inr c) = inr (record {
+  request = q;
+  is_request = refl;
+  call = c.call;
+  is_call = c.is_call;
+  reply = c.reply;
+  signing = c.signing;
+  acts = c.acts;
+})

@@ -1,6 +1,4 @@
 pub mod LineLemmas
-pub mod RequestLemmas
-pub mod AnswerLemmas
 pub mod ActLemmas
 pub mod SafeLemmas
 pub mod RunLemmas

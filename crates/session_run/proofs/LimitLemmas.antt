@@ -3,7 +3,7 @@ use Rattle.std.proofs.Common.{◌≡◌, ℕ, zero, suc, ◌+◌, ◌<◌, ◌�
 use Rattle.std.specs.Io.KnownBytes.{Consumes}
 use Rattle.std.proofs.lemmas.List.{append-nil, take-append-drop, length-take-le}
 use Rattle.std.proofs.lemmas.Grind.{common_steps}
-use Rattle.edge_kit.specs.declared.bytes.Root.{Root}
+use Rattle.sign_roots.specs.declared.domains.Domains.{Domains}
 use Rattle.session_run.specs.Lines.{lines_of, lines_after, IsOneLine, IsShortLine, BeginsTooLong, line_limit, input_limit}
 use Rattle.session_run.specs.Turns.{Turn, line_of}
 use Rattle.session_run.specs.Runs.{View, HasRead, AreShort, WithinLimits, Ends, Stops, PassesLimit, too_long_text}
@@ -62,12 +62,12 @@ input_over None now turns pending total within h long = within
 input_over (Some bytes) None turns pending total within h long = h.taken
 input_over (Some bytes) (Some rest) turns pending total within h long = omega (arith, within.1, h.count, ap length h.taken, length-append h.read rest)
 
-pub passes_none : (genesis : Root) (moment : ℕ) (before now : View) (result : Status) → Ends genesis moment before now result → WithinLimits before.left → (l : Limit) → result ≡ status.InputTooLong l → ⊥
-passes_none genesis moment before now result ends within limit.Line e =
-    let P : Status → Type 0 = λ s. Ends genesis moment before now s in
+pub passes_none : (domains : Domains) (moment : ℕ) (before now : View) (result : Status) → Ends domains moment before now result → WithinLimits before.left → (l : Limit) → result ≡ status.InputTooLong l → ⊥
+passes_none domains moment before now result ends within limit.Line e =
+    let P : Status → Type 0 = λ s. Ends domains moment before now s in
     let stops = subst P e ends in
     line_over before.left now.left stops.turns stops.pending stops.total within stops.has_read stops.cause
-passes_none genesis moment before now result ends within limit.Input e =
-    let P : Status → Type 0 = λ s. Ends genesis moment before now s in
+passes_none domains moment before now result ends within limit.Input e =
+    let P : Status → Type 0 = λ s. Ends domains moment before now s in
     let stops = subst P e ends in
     input_over before.left now.left stops.turns stops.pending stops.total within stops.has_read stops.cause

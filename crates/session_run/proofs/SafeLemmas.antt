@@ -1,6 +1,6 @@
 -- A run sends nothing that is slashable beside what was sent before.
-use Rattle.std.proofs.Common.{◌≡◌, ◌≢◌, ℕ, zero, suc, ◌+◌, ◌<◌, Bool, true, false, cond, List, [], ◌∷◌, ◌++◌, length, length-append, get_or, Option, Some, None, Result, Ok, Err, refl, sym, ◌∙◌, ap, subst, arith, append_assoc, inl, inr, ◌⊎◌}
-use Rattle.std.specs.Prelude.{All, AllPairs, flat_map, IfSome, IsSomeAnd}
+use Rattle.std.proofs.Common.{◌≡◌, ◌≢◌, ℕ, zero, suc, ◌+◌, ◌<◌, Bool, true, false, cond, ◌||◌, List, [], ◌∷◌, ◌++◌, length, length-append, get_or, Option, Some, None, Result, Ok, Err, refl, sym, ◌∙◌, ap, subst, arith, append_assoc, inl, inr, ◌⊎◌}
+use Rattle.std.specs.Prelude.{All, AllPairs, flat_map, is_some, IfSome, IsSomeAnd}
 use Rattle.std.specs.BTreeMap.{is_at}
 use Rattle.std.specs.Ordering.{match_ordering, is_eq}
 use Rattle.std.specs.declared.cmp.Ordering.{Ordering}
@@ -14,26 +14,31 @@ use Rattle.slash_defs.specs.declared.message.Message.{Message}
 use Rattle.slash_defs.specs.declared.message.Message.TheVariants as message
 use Rattle.slash_defs.specs.Slashing.{Slashable}
 use Rattle.slash_defs.specs.Lists.{SafeList, IsUnsafe}
-use Rattle.protect_record.specs.Pasts.{Past, no_past, with_own}
+use Rattle.protect_record.specs.Pasts.{Past, no_past, with_own, with_book}
 use Rattle.protect_record.specs.Passing.{Passes, Covers}
-use Rattle.protect_record.specs.PastLaws.{Slashable-sym, covers-with_own, passes-with_own}
+use Rattle.protect_record.specs.PastLaws.{Slashable-sym, covers-with_own, passes-with_own, passes-with_book}
 use Rattle.signer_link.specs.declared.signer.SignReply.{SignReply}
 use Rattle.signer_link.specs.declared.signer.SignReply.TheVariants as signing
-use Rattle.check_sign.specs.Keys.{key_cmp, kept_of, with_key, with_kept}
-use Rattle.check_sign.specs.Machine.{State, IsRefusal, past_of, grown, after, Reply, grant_for}
+use Rattle.std.specs.BTreeSet.{insert_key}
+use Rattle.std.specs.List.{list_any}
+use Rattle.slash_defs.specs.declared.book.Book.{Book}
+use Rattle.slash_defs.specs.declared.book.File.{File}
+use Rattle.record_join.specs.Keys.{key_cmp, kept_of, with_key, with_kept}
+use Rattle.record_join.specs.BooksPasts.{IsRefusal, put_past, known_past, with_file_book, with_file, own_grown, own_grown_from}
+use Rattle.check_sign.specs.States.{State, past_of, is_among, IsActive, active_past}
+use Rattle.check_sign.specs.Machine.{after, Reply, grant_for, with_known, book_gained, ActiveAnd}
 use Rattle.check_sign.specs.declared.open_grant.OpenGrant.{OpenGrant}
 use Rattle.check_sign.specs.declared.call.DeskCall.{DeskCall}
 use Rattle.check_sign.specs.declared.call.DeskCall.TheVariants as call
 use Rattle.check_sign.specs.declared.call.DeskReply.{DeskReply}
 use Rattle.check_sign.specs.declared.call.DeskReply.TheVariants as reply
 use Rattle.check_sign.specs.declared.call.Outcome.{Outcome}
-use Rattle.session_run.specs.Requests.{request_of}
 use Rattle.session_run.specs.Safe.{OnActive, NowOrLater, CoveredOnceActive, StaysSafe, IsCarriedOut, Proposes, CompleteOp, IsComplete, AllComplete}
-use Rattle.session_run.specs.Turns.{Turn, Place, CanRun, CanReply, IsAnswered, place_of, place_after, state_after, settled, call_of, outcome_of, moment_at, sent, sent_in, sent_by, sent_of, sent_for}
-use Rattle.session_run.specs.declared.request.Op.{Op}
-use Rattle.session_run.specs.declared.request.Op.TheVariants as op
-use Rattle.session_run.specs.declared.request.Request.{Request}
-use Rattle.session_run.specs.declared.request.Member.{Member}
+use Rattle.session_run.specs.Turns.{Turn, Place, CanRun, CanReply, CanCall, IsAnswered, place_of, place_after, state_after, state_by, settled, call_of, call_at, calls, outcome_of, moment_at, sent, sent_in, sent_by, sent_under, sent_of, sent_for}
+use Rattle.session_format.specs.declared.request.Op.{Op}
+use Rattle.session_format.specs.declared.request.Op.TheVariants as op
+use Rattle.session_format.specs.declared.request.Request.{Request}
+use Rattle.session_format.specs.declared.member.Member.{Member}
 
 some_inj : {X : Type 0} (a b : X) → Some a ≡ Some b → a ≡ b
 some_inj a b h = cc
@@ -41,9 +46,9 @@ some_inj a b h = cc
 none_some : {X : Type 0} (b : X) → None ≡ Some b → ⊥
 none_some b h = cc
 
--- each key keeps a past, which passes no more
+-- each active key keeps a past, which passes no more
 abbrev pub Keeps : State → State → Type 0
-Keeps old new = (q : PubKey) (p : Past) → past_of old q ≡ Some p → (p' : Past) × (past_of new q ≡ Some p') × ((n : Message) → Passes p' n → Passes p n)
+Keeps old new = (q : PubKey) (p : Past) → active_past old q ≡ Some p → (p' : Past) × (active_past new q ≡ Some p') × ((n : Message) → Passes p' n → Passes p n)
 
 abbrev Kept : Type 0
 Kept = List (PubKey × Past)
@@ -110,39 +115,151 @@ found_changed : (kept : Kept) (key : PubKey) (x p : Past) → kept_of kept key �
 found_changed [] key x p h = absurd (none_some p h)
 found_changed (e ∷ es) key x p h = found_at (is_at (key_cmp key) e.0) e es key x p refl h (found_changed es key x p)
 
-keeps_same : (state : State) (keys : Kept) → keys ≡ state.keys → (q : PubKey) (p : Past) → past_of state q ≡ Some p → Found keys q p
-keeps_same state keys e q p h = (p, ap (λ l. kept_of l q) e ∙ h, λ n x. x)
+keeps_all : (kept : Kept) → KeepsIn kept kept
+keeps_all kept q p h = (p, h, λ n x. x)
 
-grown_keeps : (state : State) (key : PubKey) (m : Message) (o : Option Past) → past_of state key ≡ o → KeepsIn state.keys (grown state.keys key m o)
-grown_keeps state key m None e q p h = (p, h, λ n x. x)
-grown_keeps state key m (Some past) e q p h =
-    changed state.keys key (with_own past m) (λ z is n x. let P : Past → Type 0 = λ y. Passes y n in subst P (some_inj past z (sym e ∙ is)) (passes-with_own past m n x)) q p h
+keeps_on : (a b c : Kept) → KeepsIn a b → KeepsIn b c → KeepsIn a c
+keeps_on a b c f g q p h =
+    let x = f q p h in
+    let y = g q x.0 x.1 in
+    (y.0, y.1, λ n passes. x.2 n (y.2 n passes))
 
--- what a call leaves of the keys
-keeps_call : (state : State) (c : DeskCall) (r : DeskReply) → Reply state c r → KeepsIn state.keys (after state c r).keys
-keeps_call state (call.Activate key now) reply.Active h = added state.keys key no_past h.0
-keeps_call state (call.Propose key m now) (reply.Granted grant) h = grown_keeps state key m (past_of state key) refl
-keeps_call state (call.Settle grant o) reply.Settled h = keeps_same state state.keys refl
-keeps_call state c r h = keeps_same state state.keys refl
+-- ---- what each change leaves of the pasts
 
-keeps_settled : (state : State) (r : DeskReply) (o : Outcome) → (settled state r o).keys ≡ state.keys
-keeps_settled state (reply.Granted grant) o = refl
-keeps_settled state r o = refl
+grown_keeps : (kept : Kept) (key : PubKey) (m : Message) (o : Option Past) → kept_of kept key ≡ o → KeepsIn kept (own_grown_from kept key m o)
+grown_keeps kept key m None e = keeps_all kept
+grown_keeps kept key m (Some past) e =
+    changed kept key (with_own past m) (λ z is n x. let P : Past → Type 0 = λ y. Passes y n in subst P (some_inj past z (sym e ∙ is)) (passes-with_own past m n x))
 
-keeps_turn : (place : Place) (q : Result Request Member) (r : DeskReply) (s : SignReply) → CanReply place q r s → Keeps place.desk (place_of place q r s).desk
-keeps_turn place (Err m) r s can = keeps_same place.desk place.desk.keys refl
-keeps_turn place (Ok q) r s can = λ k p h.
-    let c = call_of q.op (moment_at place.moment q) in
-    let step = keeps_call place.desk c r can.0 k p h in
-    (step.0, ap (λ l. kept_of l k) (keeps_settled (after place.desk c r) r (outcome_of s)) ∙ step.1, step.2)
+gained_keeps : (kept : Kept) (key : PubKey) (book : Book) (o : Option Past) → kept_of kept key ≡ o → KeepsIn kept (book_gained kept key book o)
+gained_keeps kept key book None e = keeps_all kept
+gained_keeps kept key book (Some past) e =
+    changed kept key (with_book past book) (λ z is n x. let P : Past → Type 0 = λ y. Passes y n in subst P (some_inj past z (sym e ∙ is)) (passes-with_book past book n x))
+
+known_keeps : (kept : Kept) (key : PubKey) (b : Bool) → is_some (kept_of kept key) ≡ b → KeepsIn kept (cond b kept (with_key kept key no_past))
+known_keeps kept key true e = keeps_all kept
+known_keeps kept key false e = added kept key no_past (none_if (kept_of kept key) e) where
+  none_if : (o : Option Past) → is_some o ≡ false → o ≡ None
+  none_if None h = refl
+  none_if (Some x) h = absurd (let bad : true ≡ false = h in cc)
+
+-- with another past at the key's place, or the key at its place
+put_at : (o : Ordering) (v u : Bool) (e : PubKey × Past) (es : Kept) (key q : PubKey) (x p : Past) → key_cmp key e.0 ≡ o → is_at (key_cmp q) key ≡ v → is_at (key_cmp q) e.0 ≡ u
+    → Lessens (kept_of (e ∷ es) key) x → cond u (Some e.1) (kept_of es q) ≡ Some p → (Lessens (kept_of es key) x → kept_of es q ≡ Some p → Found (with_key es key x) q p)
+    → Found (match_ordering o ((key, x) ∷ e ∷ es) ((e.0, x) ∷ es) (e ∷ with_key es key x)) q p
+put_at Less true u e es key q x p oe ve ue less h rest =
+    let P : PubKey → Type 0 = λ k. Lessens (kept_of (e ∷ es) k) x in
+    let here = subst P (sym (same_key q key ve)) less in
+    let whole : kept_of (e ∷ es) q ≡ Some p = rw ue h in
+    (x, rw ve refl, here p whole)
+put_at Less false u e es key q x p oe ve ue less h rest = (p, rw (ve, ue) h, λ n y. y)
+put_at Equal v true e es key q x p oe ve ue less h rest =
+    let here : kept_of (e ∷ es) key ≡ Some e.1 = rw oe refl in
+    let P : Past → Type 0 = λ z. (n : Message) → Passes x n → Passes z n in
+    (x, rw ue refl, subst P (some_inj e.1 p h) (less e.1 here))
+put_at Equal v false e es key q x p oe ve ue less h rest = (p, rw ue h, λ n y. y)
+put_at Greater v true e es key q x p oe ve ue less h rest = (p, rw ue h, λ n y. y)
+put_at Greater v false e es key q x p oe ve ue less h rest =
+    let further : Lessens (kept_of es key) x = rw oe at less in
+    let r = rest further h in
+    (r.0, rw ue r.1, r.2)
+
+put : (kept : Kept) (key : PubKey) (x : Past) → Lessens (kept_of kept key) x → KeepsIn kept (put_past kept key x)
+put [] key x less q p h = absurd (none_some p h)
+put (e ∷ es) key x less q p h = put_at (key_cmp key e.0) (is_at (key_cmp q) key) (is_at (key_cmp q) e.0) e es key q x p refl refl refl less h (λ l k. put es key x l q p k)
+
+book_lessens : (o : Option Past) (b : Book) → Lessens o (with_book (known_past o) b)
+book_lessens None b z e n x = absurd (none_some z e)
+book_lessens (Some p) b z e n x = let P : Past → Type 0 = λ y. Passes y n in subst P (some_inj p z e) (passes-with_book p b n x)
+
+file_keeps : (kept : Kept) (books : List (PubKey × Book)) → KeepsIn kept (with_file kept books)
+file_keeps kept [] = keeps_all kept
+file_keeps kept (b ∷ bs) =
+    keeps_on kept (with_file_book kept b) (with_file kept (b ∷ bs)) (put kept b.0 (with_book (known_past (kept_of kept b.0)) b.1) (book_lessens (kept_of kept b.0) b.1)) (file_keeps (with_file_book kept b) bs)
+
+-- what a call leaves of the pasts
+keeps_call : (state : State) (c : DeskCall) (r : DeskReply) → KeepsIn state.keys (after state c r).keys
+keeps_call state (call.Merge file) (reply.Merged keys) = file_keeps state.keys file.books
+keeps_call state (call.Activate key now) reply.Active = known_keeps state.keys key (is_some (past_of state key)) refl
+keeps_call state (call.Propose key m now) (reply.Granted grant) = grown_keeps state.keys key m (past_of state key) refl
+keeps_call state (call.Prune key) (reply.Pruned book) = gained_keeps state.keys key book (past_of state key) refl
+keeps_call state (call.Settle grant o) reply.Settled = keeps_all state.keys
+keeps_call state c r = keeps_all state.keys
+
+-- ---- what a call leaves of the active keys
+
+abbrev StaysActive : List PubKey → List PubKey → Type 0
+StaysActive old new = (q : PubKey) → is_among old q ≡ true → is_among new q ≡ true
+
+or_right : (a b : Bool) → b ≡ true → (a || b) ≡ true
+or_right true b e = refl
+or_right false b e = e
+
+or_on : (a b c : Bool) → (b ≡ true → c ≡ true) → (a || b) ≡ true → (a || c) ≡ true
+or_on true b c f e = refl
+or_on false b c f e = f e
+
+inserted_at : (o : Ordering) (x : PubKey) (xs : List PubKey) (key q : PubKey) → (is_among xs q ≡ true → is_among (insert_key key_cmp xs key) q ≡ true) → is_among (x ∷ xs) q ≡ true
+    → is_among (match_ordering o (key ∷ x ∷ xs) (x ∷ xs) (x ∷ insert_key key_cmp xs key)) q ≡ true
+inserted_at Less x xs key q rest h = or_right (is_at (key_cmp q) key) (is_among (x ∷ xs) q) h
+inserted_at Equal x xs key q rest h = h
+inserted_at Greater x xs key q rest h = or_on (is_at (key_cmp q) x) (is_among xs q) (is_among (insert_key key_cmp xs key) q) rest h
+
+inserted : (xs : List PubKey) (key : PubKey) → StaysActive xs (insert_key key_cmp xs key)
+inserted [] key q h = absurd (let bad : false ≡ true = h in cc)
+inserted (x ∷ xs) key q h = inserted_at (key_cmp key x) x xs key q (inserted xs key q) h
+
+stays_active : (state : State) (c : DeskCall) (r : DeskReply) → StaysActive state.active (after state c r).active
+stays_active state (call.Activate key now) reply.Active = inserted state.active key
+stays_active state c r = λ q h. h
+
+-- ---- both
+
+active_some : (b : Bool) (o : Option Past) (p : Past) → cond b o None ≡ Some p → (b ≡ true) × (o ≡ Some p)
+active_some true o p h = (refl, h)
+active_some false o p h = absurd (none_some p h)
+
+keeps_both : (old new : State) → KeepsIn old.keys new.keys → StaysActive old.active new.active → Keeps old new
+keeps_both old new pasts stays q p h =
+    let here = active_some (is_among old.active q) (past_of old q) p h in
+    let found = pasts q p here.1 in
+    (found.0, rw (stays q here.0) found.1, found.2)
+
+keeps_none : (state : State) → Keeps state state
+keeps_none state q p h = (p, h, λ n x. x)
+
+settled_keys : (state : State) (r : DeskReply) (o : Outcome) → (settled state r o).keys ≡ state.keys
+settled_keys state (reply.Granted grant) o = refl
+settled_keys state r o = refl
+
+settled_active : (state : State) (r : DeskReply) (o : Outcome) → (settled state r o).active ≡ state.active
+settled_active state (reply.Granted grant) o = refl
+settled_active state r o = refl
+
+keeps_step : (state : State) (c : DeskCall) (r : DeskReply) (o : Outcome) → Keeps state (state_after state c r o)
+keeps_step state c r o =
+    let K : Kept → Type 0 = λ k. KeepsIn state.keys k in
+    let A : List PubKey → Type 0 = λ k. StaysActive state.active k in
+    keeps_both state (state_after state c r o) (subst K (sym (settled_keys (after state c r) r o)) (keeps_call state c r)) (subst A (sym (settled_active (after state c r) r o)) (stays_active state c r))
+
+keeps_by : (state : State) (c : Option DeskCall) (r : DeskReply) (o : Outcome) → Keeps state (state_by state c r o)
+keeps_by state None r o = keeps_none state
+keeps_by state (Some c) r o = keeps_step state c r o
+
+keeps_turn : (place : Place) (q : Result Request Member) (r : DeskReply) (s : SignReply) → Keeps place.desk (place_of place q r s).desk
+keeps_turn place (Err m) r s = keeps_none place.desk
+keeps_turn place (Ok q) r s = keeps_by place.desk (call_at place q) r (outcome_of s)
 
 -- ---- what was signed before
 
-once_active : (place : Place) (ts : List Turn) (x : PubKey × Message) (p : Past) → past_of place.desk x.0 ≡ Some p → Covers p x.1 → CoveredOnceActive place ts x
+once_active : (place : Place) (ts : List Turn) (x : PubKey × Message) (p : Past) → active_past place.desk x.0 ≡ Some p → Covers p x.1 → CoveredOnceActive place ts x
 once_active place [] x p e covers = rw e covers
 once_active place (t ∷ ts) x p e covers = rw e covers
 
-carry_at : (place : Place) (ts : List Turn) (x : PubKey × Message) (o : Option Past) (later : Type 0) → ((p : Past) → o ≡ Some p → Found place.desk.keys x.0 p) → NowOrLater o x.1 later → (later → CoveredOnceActive place ts x) → CoveredOnceActive place ts x
+abbrev FoundActive : State → PubKey → Past → Type 0
+FoundActive state q p = (p' : Past) × (active_past state q ≡ Some p') × ((n : Message) → Passes p' n → Passes p n)
+
+carry_at : (place : Place) (ts : List Turn) (x : PubKey × Message) (o : Option Past) (later : Type 0) → ((p : Past) → o ≡ Some p → FoundActive place.desk x.0 p) → NowOrLater o x.1 later → (later → CoveredOnceActive place ts x) → CoveredOnceActive place ts x
 carry_at place ts x None later keeps h go = go h
 carry_at place ts x (Some p) later keeps h go = let f = keeps p refl in once_active place ts x f.0 f.1 (λ n passes. h n (f.2 n passes))
 
@@ -162,13 +279,13 @@ Outcomes place ts list = SafeList list × All (CoveredOnceActive place ts) list
 
 -- one more message of a key that is active, which its past lets pass
 pushed : (place new : Place) (ts : List Turn) (key : PubKey) (m : Message) (past after_past : Past) (later : PubKey × Message → Type 0) (before : Before)
-    → past_of place.desk key ≡ Some past → Passes past m → past_of new.desk key ≡ Some after_past → Covers after_past m
-    → SafeList before → All (λ x. NowOrLater (past_of place.desk x.0) x.1 (later x)) before → All (CoveredOnceActive new ts) before → Outcomes new ts (before ++ (key, m) ∷ [])
+    → active_past place.desk key ≡ Some past → Passes past m → active_past new.desk key ≡ Some after_past → Covers after_past m
+    → SafeList before → All (λ x. NowOrLater (active_past place.desk x.0) x.1 (later x)) before → All (CoveredOnceActive new ts) before → Outcomes new ts (before ++ (key, m) ∷ [])
 pushed place new ts key m past after_past later before is passes is_after covers safe covered carried = (
   all_pairs_push (λ a b. ¬ (IsUnsafe a b)) before (key, m) safe (λ i d lt un.
       let x = get_or before i d in
-      let here : past_of place.desk x.0 ≡ Some past = ap (past_of place.desk) un.0 ∙ is in
-      covered_now (past_of place.desk x.0) x.1 (later x) past here (covered i d lt) m passes (Slashable-sym _ _ un.1)),
+      let here : active_past place.desk x.0 ≡ Some past = ap (active_past place.desk) un.0 ∙ is in
+      covered_now (active_past place.desk x.0) x.1 (later x) past here (covered i d lt) m passes (Slashable-sym _ _ un.1)),
   All-append (CoveredOnceActive new ts) before ((key, m) ∷ []) carried
       (All-cons (CoveredOnceActive new ts) (key, m) [] (once_active new ts (key, m) after_past is_after covers) (λ i d lt. absurd (omega arith))),
 )
@@ -177,45 +294,75 @@ nothing_more : (new : Place) (ts : List Turn) (before : Before) → SafeList bef
 nothing_more new ts before safe covered = let P : Before → Type 0 = λ l. Outcomes new ts l in subst P (sym (append-nil before)) (safe, covered)
 
 abbrev Start : Place → Result Request Member → DeskReply → SignReply → List Turn → PubKey × Message → Type 0
-Start place q r s ts x = NowOrLater (past_of place.desk x.0) x.1 (CoveredOnceActive (place_of place q r s) ts x)
+Start place q r s ts x = NowOrLater (active_past place.desk x.0) x.1 (CoveredOnceActive (place_of place q r s) ts x)
 
-carried : (place : Place) (q : Result Request Member) (r : DeskReply) (s : SignReply) (ts : List Turn) (before : Before) → CanReply place q r s → All (Start place q r s ts) before → All (CoveredOnceActive (place_of place q r s) ts) before
-carried place q r s ts before can covered i d lt =
+carried : (place : Place) (q : Result Request Member) (r : DeskReply) (s : SignReply) (ts : List Turn) (before : Before) → All (Start place q r s ts) before → All (CoveredOnceActive (place_of place q r s) ts) before
+carried place q r s ts before covered i d lt =
     let x = get_or before i d in
-    carry_at (place_of place q r s) ts x (past_of place.desk x.0) (CoveredOnceActive (place_of place q r s) ts x) (λ p e. keeps_turn place q r s can x.0 p e) (covered i d lt) (λ l. l)
+    carry_at (place_of place q r s) ts x (active_past place.desk x.0) (CoveredOnceActive (place_of place q r s) ts x) (λ p e. keeps_turn place q r s x.0 p e) (covered i d lt) (λ l. l)
+
+abbrev After : Place → DeskCall → DeskReply → SignReply → ℕ → Place
+After place c r s moment = record { desk = state_after place.desk c r (outcome_of s); moment = moment }
+
+active_now : (b : Bool) (o : Option Past) (p : Past) → b ≡ true → o ≡ Some p → cond b o None ≡ Some p
+active_now true o p e h = h
+active_now false o p e h = absurd (let bad : false ≡ true = e in cc)
 
 -- a granted proposal whose signature went out
-sent_step : (place : Place) (q : Request) (key : PubKey) (m : Message) (now : ℕ) (grant : OpenGrant) (s : SignReply) (ts : List Turn) (before : Before) → call_of q.op (moment_at place.moment q) ≡ call.Propose key m now
-    → IsSomeAnd (past_of place.desk key) (λ past. Passes past m) → grant ≡ grant_for place.desk key m
-    → SafeList before → All (Start place (Ok q) (reply.Granted grant) s ts) before → All (CoveredOnceActive (place_of place (Ok q) (reply.Granted grant) s) ts) before
-    → Outcomes (place_of place (Ok q) (reply.Granted grant) s) ts (before ++ sent_for grant.key grant.message)
-sent_step place q key m now grant s ts before is_call granted is_grant safe covered carried_on =
-    let new = place_of place (Ok q) (reply.Granted grant) s in
-    let past = some_of (λ p. Passes p m) (past_of place.desk key) granted in
-    let keys : new.desk.keys ≡ grown place.desk.keys key m (past_of place.desk key) = ap (λ c. (after place.desk c (reply.Granted grant)).keys) is_call in
-    let grew : grown place.desk.keys key m (past_of place.desk key) ≡ with_kept place.desk.keys key (with_own past.0 m) = ap (grown place.desk.keys key m) past.1 in
-    let found : past_of new.desk key ≡ Some (with_own past.0 m) = ap (λ l. kept_of l key) (keys ∙ grew) ∙ found_changed place.desk.keys key (with_own past.0 m) past.0 past.1 in
+sent_step : (place : Place) (moment : ℕ) (key : PubKey) (m : Message) (now : ℕ) (grant : OpenGrant) (s : SignReply) (ts : List Turn) (before : Before) (later : PubKey × Message → Type 0)
+    → ActiveAnd place.desk key (λ past. Passes past m) → grant ≡ grant_for place.desk key m
+    → SafeList before → All (λ x. NowOrLater (active_past place.desk x.0) x.1 (later x)) before → All (CoveredOnceActive (After place (call.Propose key m now) (reply.Granted grant) s moment) ts) before
+    → Outcomes (After place (call.Propose key m now) (reply.Granted grant) s moment) ts (before ++ sent_for grant.key grant.message)
+sent_step place moment key m now grant s ts before later granted is_grant safe covered carried_on =
+    let new = After place (call.Propose key m now) (reply.Granted grant) s moment in
+    let past = some_of (λ p. Passes p m) (past_of place.desk key) granted.1 in
+    let active = active_now (is_among place.desk.active key) (past_of place.desk key) past.0 granted.0 past.1 in
+    let grew : own_grown place.desk.keys key m ≡ with_kept place.desk.keys key (with_own past.0 m) = ap (own_grown_from place.desk.keys key m) past.1 in
+    let found : past_of new.desk key ≡ Some (with_own past.0 m) = ap (λ l. kept_of l key) grew ∙ found_changed place.desk.keys key (with_own past.0 m) past.0 past.1 in
+    let is_active : active_past new.desk key ≡ Some (with_own past.0 m) = active_now (is_among place.desk.active key) (past_of new.desk key) (with_own past.0 m) granted.0 found in
     let P : OpenGrant → Type 0 = λ g. Outcomes new ts (before ++ sent_for g.key g.message) in
-    subst P (sym is_grant) (pushed place new ts key m past.0 (with_own past.0 m) (λ x. CoveredOnceActive new ts x) before past.1 past.2 found (covers-with_own past.0 m) safe covered carried_on)
+    subst P (sym is_grant) (pushed place new ts key m past.0 (with_own past.0 m) later before active past.2 is_active (covers-with_own past.0 m) safe covered carried_on)
 
-by_call : (place : Place) (q : Request) (c : DeskCall) (r : DeskReply) (s : SignReply) (ts : List Turn) (before : Before) → call_of q.op (moment_at place.moment q) ≡ c → Reply place.desk c r
-    → SafeList before → All (Start place (Ok q) r s ts) before → All (CoveredOnceActive (place_of place (Ok q) r s) ts) before
-    → Outcomes (place_of place (Ok q) r s) ts (before ++ sent_of r s)
-by_call place q (call.Propose key m now) (reply.Granted grant) (signing.Signed signature) ts before e can safe covered on = sent_step place q key m now grant (signing.Signed signature) ts before e can.0 can.1 safe covered on
-by_call place q (call.Activate key now) (reply.Granted grant) (signing.Signed signature) ts before e can safe covered on = absurd can
-by_call place q (call.Settle grant o) (reply.Granted other) (signing.Signed signature) ts before e can safe covered on = absurd can
-by_call place q c r s ts before e can safe covered on = nothing_more (place_of place (Ok q) r s) ts before safe on
+by_call : (place : Place) (moment : ℕ) (c : DeskCall) (r : DeskReply) (s : SignReply) (ts : List Turn) (before : Before) (later : PubKey × Message → Type 0) → Reply place.desk c r
+    → SafeList before → All (λ x. NowOrLater (active_past place.desk x.0) x.1 (later x)) before → All (CoveredOnceActive (After place c r s moment) ts) before
+    → Outcomes (After place c r s moment) ts (before ++ sent_of r s)
+by_call place moment (call.Propose key m now) (reply.Granted grant) (signing.Signed signature) ts before later can safe covered on = sent_step place moment key m now grant (signing.Signed signature) ts before later can.0 can.1 safe covered on
+by_call place moment (call.Merge file) (reply.Granted grant) (signing.Signed signature) ts before later can safe covered on = absurd can
+by_call place moment (call.Activate key now) (reply.Granted grant) (signing.Signed signature) ts before later can safe covered on = absurd can
+by_call place moment (call.Settle grant o) (reply.Granted other) (signing.Signed signature) ts before later can safe covered on = absurd can
+by_call place moment (call.Export keys) (reply.Granted grant) (signing.Signed signature) ts before later can safe covered on = absurd can
+by_call place moment (call.Prune key) (reply.Granted grant) (signing.Signed signature) ts before later can safe covered on = absurd can
+by_call place moment c r s ts before later can safe covered on = nothing_more (After place c r s moment) ts before safe on
+
+-- what an op sends, by the call that it makes
+sent_same : (kept : List PubKey) (o : Op) (now : ℕ) (r : DeskReply) (s : SignReply) → sent_under (call_of kept o now) r s ≡ sent_under (call_of [] o 0) r s
+sent_same kept (op.Merge file) now r s = refl
+sent_same kept (op.BadFile fault) now r s = refl
+sent_same kept (op.Activate key) now r s = refl
+sent_same kept (op.Propose key m object) now r s = refl
+sent_same kept (op.Export None) now r s = refl
+sent_same kept (op.Export (Some keys)) now r s = refl
+sent_same kept (op.Prune key) now r s = refl
+
+by_option : (place : Place) (moment : ℕ) (c : Option DeskCall) (r : DeskReply) (s : SignReply) (ts : List Turn) (before : Before) (later : PubKey × Message → Type 0) → CanCall place.desk c r s
+    → SafeList before → All (λ x. NowOrLater (active_past place.desk x.0) x.1 (later x)) before → All (CoveredOnceActive (record { desk = state_by place.desk c r (outcome_of s); moment = moment }) ts) before
+    → Outcomes (record { desk = state_by place.desk c r (outcome_of s); moment = moment }) ts (before ++ sent_under c r s)
+by_option place moment None r s ts before later can safe covered on = nothing_more (record { desk = place.desk; moment = moment }) ts before safe on
+by_option place moment (Some c) r s ts before later can safe covered on = by_call place moment c r s ts before later can.0 safe covered on
 
 turn_step : (place : Place) (q : Result Request Member) (r : DeskReply) (s : SignReply) (ts : List Turn) (before : Before) → CanReply place q r s → SafeList before → All (Start place q r s ts) before
     → Outcomes (place_of place q r s) ts (before ++ sent_by q r s)
-turn_step place (Err m) r s ts before can safe covered = nothing_more place ts before safe (carried place (Err m) r s ts before can covered)
-turn_step place (Ok q) r s ts before can safe covered = by_call place q (call_of q.op (moment_at place.moment q)) r s ts before refl can.0 safe covered (carried place (Ok q) r s ts before can covered)
+turn_step place (Err m) r s ts before can safe covered = nothing_more place ts before safe (carried place (Err m) r s ts before covered)
+turn_step place (Ok q) r s ts before can safe covered =
+    let P : List (PubKey × Message) → Type 0 = λ l. Outcomes (place_of place (Ok q) r s) ts (before ++ l) in
+    subst P (sent_same _ q.op (moment_at place.moment q) r s)
+        (by_option place (moment_at place.moment q) (call_at place q) r s ts before (CoveredOnceActive (place_of place (Ok q) r s) ts) can safe covered (carried place (Ok q) r s ts before covered))
 
 -- whatever the turns, nothing slashable is sent
 pub safe_run : (place : Place) (ts : List Turn) → CanRun place ts → StaysSafe place ts
 safe_run place [] can before safe covered = let P : Before → Type 0 = λ l. SafeList l × All (OnActive place.desk) l in subst P (sym (append-nil before)) (safe, covered)
 safe_run place (t ∷ ts) can before safe covered =
-    let q = request_of t.line in
+    let q = t.request in
     let next = place_of place q t.reply t.signing in
     let step = turn_step place q t.reply t.signing ts before can.0 safe covered in
     let rest = safe_run next ts can.1 (before ++ sent_in t) step.0 step.1 in
@@ -233,22 +380,29 @@ carried_out g signing.OutOfMemory h = h
 proposes : (state : State) (key : PubKey) (m : Message) (now : ℕ) (r : DeskReply) (s : SignReply) → Reply state (call.Propose key m now) r → IsAnswered r s → Proposes state key m r s
 proposes state key m now (reply.Granted g) s can answered past is passes = carried_out g s answered
 proposes state key m now (reply.Refused v) s can answered past is passes =
-    let found = some_of (λ p. IsRefusal p m v) (past_of state key) can in
+    let found = some_of (λ p. IsRefusal p m v) (past_of state key) can.1 in
+    let here = active_some (is_among state.active key) (past_of state key) past is in
     let P : Past → Type 0 = λ p. Passes p m in
-    absurd (found.2.forbids (subst P (some_inj past found.0 (sym is ∙ found.1)) passes))
-proposes state key m now reply.Unknown s can answered past is passes = absurd (none_some past (sym can ∙ is))
+    absurd (found.2.forbids (subst P (some_inj past found.0 (sym here.1 ∙ found.1)) passes))
+proposes state key m now reply.Unknown s can answered past is passes =
+    let here = active_some (is_among state.active key) (past_of state key) past is in
+    absurd (none_some past (sym can ∙ here.1))
+proposes state key m now reply.NotActive s can answered past is passes = absurd (can.1 (active_some (is_among state.active key) (past_of state key) past is).0)
 proposes state key m now reply.OutOfMemory s can answered past is passes = absurd answered
 proposes state key m now r s can answered past is passes = absurd can
 
-complete_op : (state : State) (o : Op) (now : ℕ) (r : DeskReply) (s : SignReply) → Reply state (call_of o now) r → IsAnswered r s → CompleteOp state o r s
-complete_op state (op.Activate key) now r s can answered = tt
-complete_op state (op.Block key slot root) now r s can answered = proposes state key (message.Block slot root) now r s can answered
-complete_op state (op.Vote key source target root) now r s can answered = proposes state key (message.Vote source target root) now r s can answered
+complete_op : (state : State) (kept : List PubKey) (o : Op) (now : ℕ) (r : DeskReply) (s : SignReply) → CanCall state (call_of kept o now) r s → CompleteOp state o r s
+complete_op state kept (op.Merge file) now r s can = tt
+complete_op state kept (op.BadFile fault) now r s can = tt
+complete_op state kept (op.Activate key) now r s can = tt
+complete_op state kept (op.Propose key m object) now r s can = proposes state key m now r s can.0 can.1
+complete_op state kept (op.Export keys) now r s can = tt
+complete_op state kept (op.Prune key) now r s can = tt
 
 complete_turn : (place : Place) (q : Result Request Member) (r : DeskReply) (s : SignReply) → CanReply place q r s → IsComplete place q r s
 complete_turn place (Err m) r s can = tt
-complete_turn place (Ok q) r s can = complete_op place.desk q.op (moment_at place.moment q) r s can.0 can.1
+complete_turn place (Ok q) r s can = complete_op place.desk _ q.op (moment_at place.moment q) r s can
 
 pub complete_run : (place : Place) (ts : List Turn) → CanRun place ts → AllComplete place ts
 complete_run place [] can = tt
-complete_run place (t ∷ ts) can = (complete_turn place (request_of t.line) t.reply t.signing can.0, complete_run (place_of place (request_of t.line) t.reply t.signing) ts can.1)
+complete_run place (t ∷ ts) can = (complete_turn place t.request t.reply t.signing can.0, complete_run (place_of place t.request t.reply t.signing) ts can.1)

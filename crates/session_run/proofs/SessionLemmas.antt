@@ -5,11 +5,11 @@ use Rattle.std.proofs.lemmas.List.{append-nil}
 use Rattle.std.proofs.lemmas.Grind.{flat_map-append}
 use Rattle.std.proofs.Math.Seq.{take-append-add}
 use Rattle.edge_kit.specs.Causes.{Rose}
-use Rattle.edge_kit.specs.declared.bytes.Root.{Root}
+use Rattle.sign_roots.specs.declared.domains.Domains.{Domains}
 use Rattle.edge_kit.proofs.TellingLemmas.{Appends-trans, Keeps-same}
 use Rattle.session_run.specs.Lines.{IsShortLine, BeginsTooLong, input_limit}
 use Rattle.session_run.specs.Reading.{Pending, ReadsMore, GivesLine}
-use Rattle.session_run.specs.Requests.{request_of}
+use Rattle.session_format.specs.Requests.{request_of}
 use Rattle.session_run.specs.Acts.{Pair, Unanswered}
 use Rattle.session_run.specs.Turns.{Turn, line_of, moment_after, written, text_of}
 use Rattle.session_run.specs.Closings.{Closes}
@@ -23,16 +23,16 @@ use Rattle.session_run.specs.declared.status.Status.TheVariants as status
 use Rattle.session_run.proofs.ReadLemmas.{read_none, read_on, read_line, read_last, first_of, first_whole}
 use Rattle.session_run.proofs.RunLemmas.{ran_none, ran_then, moment_then, laws_of, served_none, served_then}
 
-pub so_far_none : (genesis : Root) (left : Option (List ℕ)) (pair : Pair) (held : Option (List ℕ)) → SoFar genesis 0 left left pair pair held held [] 0 0
-so_far_none genesis left pair held = record { turns = []; has_read = read_none left; served = served_none genesis 0 pair held; latest_is = refl }
+pub so_far_none : (domains : Domains) (left : Option (List ℕ)) (pair : Pair) (held : Option (List ℕ)) → SoFar domains 0 left left pair pair held held [] 0 0
+so_far_none domains left pair held = record { turns = []; has_read = read_none left; served = served_none domains 0 pair held; latest_is = refl }
 
-pub so_far_line : {genesis : Root} {l1 l2 l3 : Option (List ℕ)} {a b c : Pair} {h1 h2 h3 : Option (List ℕ)} {old new : Pending} {latest now : ℕ} (t : Turn) (line : _)
-    → SoFar genesis 0 l1 l2 a b h1 h2 old.bytes old.total latest → GivesLine l2 l3 old new (next.Line line) → t.line ≡ line.items → now ≡ moment_after latest (t ∷ []) → HasServed genesis latest (t ∷ []) b c h2 h3
-    → SoFar genesis 0 l1 l3 a c h1 h3 new.bytes new.total now
-so_far_line {genesis} {l1} {l2} {l3} {a} {b} {c} {h1} {h2} {h3} {old} {new} {latest} {now} t line s gives is now_is served = record {
+pub so_far_line : {domains : Domains} {l1 l2 l3 : Option (List ℕ)} {a b c : Pair} {h1 h2 h3 : Option (List ℕ)} {old new : Pending} {latest now : ℕ} (t : Turn) (line : _)
+    → SoFar domains 0 l1 l2 a b h1 h2 old.bytes old.total latest → GivesLine l2 l3 old new (next.Line line) → t.line ≡ line.items → now ≡ moment_after latest (t ∷ []) → HasServed domains latest (t ∷ []) b c h2 h3
+    → SoFar domains 0 l1 l3 a c h1 h3 new.bytes new.total now
+so_far_line {domains} {l1} {l2} {l3} {a} {b} {c} {h1} {h2} {h3} {old} {new} {latest} {now} t line s gives is now_is served = record {
   turns = s.turns ++ t ∷ [];
   has_read = read_line t line.items new.bytes gives.more s.has_read gives.taken gives.line.0 gives.line.1 refl gives.total gives.within is;
-  served = let P : ℕ → Type 0 = λ n. HasServed genesis n (t ∷ []) b c h2 h3 in served_then s.served (subst P s.latest_is served);
+  served = let P : ℕ → Type 0 = λ n. HasServed domains n (t ∷ []) b c h2 h3 in served_then s.served (subst P s.latest_is served);
   latest_is = now_is ∙ ap (λ n. moment_after n (t ∷ [])) s.latest_is ∙ sym (moment_then 0 s.turns (t ∷ []));
 }
 
@@ -44,13 +44,13 @@ part_written h1 h2 h3 ts t n p q =
     append-nil (written (ts ++ t ∷ [])) ∙ flat_map-append text_of ts (t ∷ []) ∙ ap (λ l. written ts ++ l) (append-nil (text_of t)) in
     subst A (sym (ap (take (length (written ts) + n)) whole ∙ take-append-add (written ts) (text_of t) n)) (Appends-trans h1 h2 h3 _ _ p q)
 
-module _ {genesis : Root} {l1 l2 l3 : Option (List ℕ)} {a b c : Pair} {h1 h2 h3 : Option (List ℕ)} {old new : Pending} {latest : ℕ} where
+module _ {domains : Domains} {l1 l2 l3 : Option (List ℕ)} {a b c : Pair} {h1 h2 h3 : Option (List ℕ)} {old new : Pending} {latest : ℕ} where
   -- the last piece was served
-  pub session_done : (rf1 rf2 wf1 wf2 : ℕ) (last : List Turn) (line : _) → SoFar genesis 0 l1 l2 a b h1 h2 old.bytes old.total latest → GivesLine l2 l3 old new (next.Last line) → IsAtEnd l3
-      → HasServed genesis latest last b c h2 h3 → map line_of last ≡ last_lines line.items
-      → Session genesis 0 (record { left = l1; held = h1; pair = a; reads_failed = rf1; writes_failed = wf1 }) (record { left = l3; held = h3; pair = c; reads_failed = rf2; writes_failed = wf2 })
+  pub session_done : (rf1 rf2 wf1 wf2 : ℕ) (last : List Turn) (line : _) → SoFar domains 0 l1 l2 a b h1 h2 old.bytes old.total latest → GivesLine l2 l3 old new (next.Last line) → IsAtEnd l3
+      → HasServed domains latest last b c h2 h3 → map line_of last ≡ last_lines line.items
+      → Session domains 0 (record { left = l1; held = h1; pair = a; reads_failed = rf1; writes_failed = wf1 }) (record { left = l3; held = h3; pair = c; reads_failed = rf2; writes_failed = wf2 })
   session_done rf1 rf2 wf1 wf2 last line s gives end served is =
-      let P : ℕ → Type 0 = λ n. HasServed genesis n last b c h2 h3 in
+      let P : ℕ → Type 0 = λ n. HasServed domains n last b c h2 h3 in
       let all = served_then s.served (subst P s.latest_is served) in
       record {
         turns = s.turns ++ last;
@@ -59,10 +59,10 @@ module _ {genesis : Root} {l1 l2 l3 : Option (List ℕ)} {a b c : Pair} {h1 h2 h
         laws = laws_of all.ran;
       }
 
-  pub breaks_line : (rf1 rf2 wf1 wf2 : ℕ) (line : _) → SoFar genesis 0 l1 l2 a b h1 h2 old.bytes old.total latest → GivesLine l2 l3 old new (next.Line line) → CutShort genesis latest line.items b c h2 h3
-      → Breaks genesis 0 (record { left = l1; held = h1; pair = a; reads_failed = rf1; writes_failed = wf1 }) (record { left = l3; held = h3; pair = c; reads_failed = rf2; writes_failed = wf2 })
+  pub breaks_line : (rf1 rf2 wf1 wf2 : ℕ) (line : _) → SoFar domains 0 l1 l2 a b h1 h2 old.bytes old.total latest → GivesLine l2 l3 old new (next.Line line) → CutShort domains latest line.items b c h2 h3
+      → Breaks domains 0 (record { left = l1; held = h1; pair = a; reads_failed = rf1; writes_failed = wf1 }) (record { left = l3; held = h3; pair = c; reads_failed = rf2; writes_failed = wf2 })
   breaks_line rf1 rf2 wf1 wf2 line s gives cut =
-      let P : ℕ → Type 0 = λ n. Ran genesis n (cut.turn ∷ []) b c in
+      let P : ℕ → Type 0 = λ n. Ran domains n (cut.turn ∷ []) b c in
       let all = ran_then s.served.ran (subst P s.latest_is cut.ran) in
       record {
         turns = s.turns ++ cut.turn ∷ [];
@@ -75,10 +75,10 @@ module _ {genesis : Root} {l1 l2 l3 : Option (List ℕ)} {a b c : Pair} {h1 h2 h
         written_part = part_written h1 h2 h3 s.turns cut.turn cut.count s.served.answered cut.answered;
       }
 
-  pub breaks_last : (rf1 rf2 wf1 wf2 : ℕ) (line : _) → SoFar genesis 0 l1 l2 a b h1 h2 old.bytes old.total latest → GivesLine l2 l3 old new (next.Last line) → IsAtEnd l3 → CutShort genesis latest line.items b c h2 h3 → line.items ∷ [] ≡ last_lines line.items
-      → Breaks genesis 0 (record { left = l1; held = h1; pair = a; reads_failed = rf1; writes_failed = wf1 }) (record { left = l3; held = h3; pair = c; reads_failed = rf2; writes_failed = wf2 })
+  pub breaks_last : (rf1 rf2 wf1 wf2 : ℕ) (line : _) → SoFar domains 0 l1 l2 a b h1 h2 old.bytes old.total latest → GivesLine l2 l3 old new (next.Last line) → IsAtEnd l3 → CutShort domains latest line.items b c h2 h3 → line.items ∷ [] ≡ last_lines line.items
+      → Breaks domains 0 (record { left = l1; held = h1; pair = a; reads_failed = rf1; writes_failed = wf1 }) (record { left = l3; held = h3; pair = c; reads_failed = rf2; writes_failed = wf2 })
   breaks_last rf1 rf2 wf1 wf2 line s gives end cut some =
-      let P : ℕ → Type 0 = λ n. Ran genesis n (cut.turn ∷ []) b c in
+      let P : ℕ → Type 0 = λ n. Ran domains n (cut.turn ∷ []) b c in
       let all = ran_then s.served.ran (subst P s.latest_is cut.ran) in
       record {
         turns = s.turns ++ cut.turn ∷ [];
@@ -92,8 +92,8 @@ module _ {genesis : Root} {l1 l2 l3 : Option (List ℕ)} {a b c : Pair} {h1 h2 h
       }
 
   -- memory ran out at a line
-  pub leaves_line : (rf1 rf2 wf1 wf2 : ℕ) (line : _) → SoFar genesis 0 l1 l2 a b h1 h2 old.bytes old.total latest → GivesLine l2 l3 old new (next.Line line) → Unanswered genesis latest (request_of line.items) b c → Keeps h2 h3
-      → LeavesOff genesis 0 (record { left = l1; held = h1; pair = a; reads_failed = rf1; writes_failed = wf1 }) (record { left = l3; held = h3; pair = c; reads_failed = rf2; writes_failed = wf2 })
+  pub leaves_line : (rf1 rf2 wf1 wf2 : ℕ) (line : _) → SoFar domains 0 l1 l2 a b h1 h2 old.bytes old.total latest → GivesLine l2 l3 old new (next.Line line) → Unanswered domains latest (request_of domains line.items) b c → Keeps h2 h3
+      → LeavesOff domains 0 (record { left = l1; held = h1; pair = a; reads_failed = rf1; writes_failed = wf1 }) (record { left = l3; held = h3; pair = c; reads_failed = rf2; writes_failed = wf2 })
   leaves_line rf1 rf2 wf1 wf2 line s gives undone kept = record {
     turns = s.turns;
     pending = old.bytes ++ gives.more;
@@ -111,8 +111,8 @@ module _ {genesis : Root} {l1 l2 l3 : Option (List ℕ)} {a b c : Pair} {h1 h2 h
     is_next = inr (gives.line.1, inr (new.bytes, gives.line.0));
   }
 
-  pub leaves_last : (rf1 rf2 wf1 wf2 : ℕ) (line : _) → SoFar genesis 0 l1 l2 a b h1 h2 old.bytes old.total latest → GivesLine l2 l3 old new (next.Last line) → Unanswered genesis latest (request_of line.items) b c → Keeps h2 h3
-      → LeavesOff genesis 0 (record { left = l1; held = h1; pair = a; reads_failed = rf1; writes_failed = wf1 }) (record { left = l3; held = h3; pair = c; reads_failed = rf2; writes_failed = wf2 })
+  pub leaves_last : (rf1 rf2 wf1 wf2 : ℕ) (line : _) → SoFar domains 0 l1 l2 a b h1 h2 old.bytes old.total latest → GivesLine l2 l3 old new (next.Last line) → Unanswered domains latest (request_of domains line.items) b c → Keeps h2 h3
+      → LeavesOff domains 0 (record { left = l1; held = h1; pair = a; reads_failed = rf1; writes_failed = wf1 }) (record { left = l3; held = h3; pair = c; reads_failed = rf2; writes_failed = wf2 })
   leaves_last rf1 rf2 wf1 wf2 line s gives undone kept = record {
     turns = s.turns;
     pending = old.bytes ++ gives.more;
@@ -130,10 +130,10 @@ module _ {genesis : Root} {l1 l2 l3 : Option (List ℕ)} {a b c : Pair} {h1 h2 h
     is_next = inr (gives.line.1, inl gives.line.0);
   }
 
-module _ {genesis : Root} {l1 l2 l3 : Option (List ℕ)} {a b : Pair} {h1 h2 h3 : Option (List ℕ)} {old new : Pending} {latest : ℕ} where
+module _ {domains : Domains} {l1 l2 l3 : Option (List ℕ)} {a b : Pair} {h1 h2 h3 : Option (List ℕ)} {old new : Pending} {latest : ℕ} where
   -- memory ran out while reading
-  pub leaves_reading : (rf1 rf2 wf1 wf2 : ℕ) → SoFar genesis 0 l1 l2 a b h1 h2 old.bytes old.total latest → ReadsMore l2 l3 old new → Keeps h2 h3
-      → LeavesOff genesis 0 (record { left = l1; held = h1; pair = a; reads_failed = rf1; writes_failed = wf1 }) (record { left = l3; held = h3; pair = b; reads_failed = rf2; writes_failed = wf2 })
+  pub leaves_reading : (rf1 rf2 wf1 wf2 : ℕ) → SoFar domains 0 l1 l2 a b h1 h2 old.bytes old.total latest → ReadsMore l2 l3 old new → Keeps h2 h3
+      → LeavesOff domains 0 (record { left = l1; held = h1; pair = a; reads_failed = rf1; writes_failed = wf1 }) (record { left = l3; held = h3; pair = b; reads_failed = rf2; writes_failed = wf2 })
   leaves_reading rf1 rf2 wf1 wf2 s more kept = record {
     turns = s.turns;
     pending = new.bytes;
@@ -152,8 +152,8 @@ module _ {genesis : Root} {l1 l2 l3 : Option (List ℕ)} {a b : Pair} {h1 h2 h3 
   }
 
   -- reading stopped, and the output was closed
-  pub stops : (rf1 rf2 wf1 wf2 : ℕ) (text : List ℕ) (Cause : List ℕ → ℕ → Type 0) → SoFar genesis 0 l1 l2 a b h1 h2 old.bytes old.total latest → ReadsMore l2 l3 old new → Cause new.bytes new.total → Appends h2 h3 text
-      → Stops genesis 0 (record { left = l1; held = h1; pair = a; reads_failed = rf1; writes_failed = wf1 }) (record { left = l3; held = h3; pair = b; reads_failed = rf2; writes_failed = wf2 }) text Cause
+  pub stops : (rf1 rf2 wf1 wf2 : ℕ) (text : List ℕ) (Cause : List ℕ → ℕ → Type 0) → SoFar domains 0 l1 l2 a b h1 h2 old.bytes old.total latest → ReadsMore l2 l3 old new → Cause new.bytes new.total → Appends h2 h3 text
+      → Stops domains 0 (record { left = l1; held = h1; pair = a; reads_failed = rf1; writes_failed = wf1 }) (record { left = l3; held = h3; pair = b; reads_failed = rf2; writes_failed = wf2 }) text Cause
   stops rf1 rf2 wf1 wf2 text Cause s more cause closed = record {
     turns = s.turns;
     pending = new.bytes;
@@ -167,8 +167,8 @@ module _ {genesis : Root} {l1 l2 l3 : Option (List ℕ)} {a b : Pair} {h1 h2 h3 
   }
 
   -- reading stopped, and the output failed within its closing text
-  pub breaks_closing : (rf1 rf2 wf1 wf2 : ℕ) (text : List ℕ) (n : ℕ) → SoFar genesis 0 l1 l2 a b h1 h2 old.bytes old.total latest → ReadsMore l2 l3 old new → IsClosing text → Appends h2 h3 (take n text)
-      → Breaks genesis 0 (record { left = l1; held = h1; pair = a; reads_failed = rf1; writes_failed = wf1 }) (record { left = l3; held = h3; pair = b; reads_failed = rf2; writes_failed = wf2 })
+  pub breaks_closing : (rf1 rf2 wf1 wf2 : ℕ) (text : List ℕ) (n : ℕ) → SoFar domains 0 l1 l2 a b h1 h2 old.bytes old.total latest → ReadsMore l2 l3 old new → IsClosing text → Appends h2 h3 (take n text)
+      → Breaks domains 0 (record { left = l1; held = h1; pair = a; reads_failed = rf1; writes_failed = wf1 }) (record { left = l3; held = h3; pair = b; reads_failed = rf2; writes_failed = wf2 })
   breaks_closing rf1 rf2 wf1 wf2 text n s more is_closing part =
       let A : List ℕ → Type 0 = λ bs. Appends h1 h3 bs in
       record {
@@ -186,9 +186,9 @@ pub rose_back : (x y z : ℕ) → x ≤ y → Rose y z → Rose x z
 rose_back x y z h r = omega arith
 
 -- memory ran out before anything was read
-pub leaves_begin : (genesis : Root) (left held : Option (List ℕ)) (pair : Pair) (rf1 rf2 wf1 wf2 : ℕ)
-    → LeavesOff genesis 0 (record { left = left; held = held; pair = pair; reads_failed = rf1; writes_failed = wf1 }) (record { left = left; held = held; pair = pair; reads_failed = rf2; writes_failed = wf2 })
-leaves_begin genesis left held pair rf1 rf2 wf1 wf2 = record {
+pub leaves_begin : (domains : Domains) (left held : Option (List ℕ)) (pair : Pair) (rf1 rf2 wf1 wf2 : ℕ)
+    → LeavesOff domains 0 (record { left = left; held = held; pair = pair; reads_failed = rf1; writes_failed = wf1 }) (record { left = left; held = held; pair = pair; reads_failed = rf2; writes_failed = wf2 })
+leaves_begin domains left held pair rf1 rf2 wf1 wf2 = record {
   turns = [];
   pending = [];
   total = 0;
@@ -197,8 +197,8 @@ leaves_begin genesis left held pair rf1 rf2 wf1 wf2 = record {
   latest = 0;
   line = [];
   has_read = read_none left;
-  served = served_none genesis 0 pair held;
-  laws = laws_of (ran_none genesis 0 pair);
+  served = served_none domains 0 pair held;
+  laws = laws_of (ran_none domains 0 pair);
   latest_is = refl;
   undone = inl refl;
   kept = Keeps-same held;
@@ -206,21 +206,21 @@ leaves_begin genesis left held pair rf1 rf2 wf1 wf2 = record {
 }
 
 -- a closed output, by the status that came of it
-pub closed_as : {genesis : Root} {before now : View} (st result : Status) (text : List ℕ) (h2 : Option (List ℕ)) (failed : ℕ) → Closes st text h2 now.held failed now.writes_failed result → before.writes_failed ≤ failed
-    → (Appends h2 now.held text → Ends genesis 0 before now st) → ((n : ℕ) → Appends h2 now.held (take n text) → Breaks genesis 0 before now) → Ends genesis 0 before now result
-closed_as {genesis} {before} {now} st result text h2 failed (inl c) later whole part = let P : Status → Type 0 = λ x. Ends genesis 0 before now x in subst P (sym c.0) (whole c.1)
-closed_as {genesis} {before} {now} st result text h2 failed (inr c) later whole part =
-    let P : Status → Type 0 = λ x. Ends genesis 0 before now x in
+pub closed_as : {domains : Domains} {before now : View} (st result : Status) (text : List ℕ) (h2 : Option (List ℕ)) (failed : ℕ) → Closes st text h2 now.held failed now.writes_failed result → before.writes_failed ≤ failed
+    → (Appends h2 now.held text → Ends domains 0 before now st) → ((n : ℕ) → Appends h2 now.held (take n text) → Breaks domains 0 before now) → Ends domains 0 before now result
+closed_as {domains} {before} {now} st result text h2 failed (inl c) later whole part = let P : Status → Type 0 = λ x. Ends domains 0 before now x in subst P (sym c.0) (whole c.1)
+closed_as {domains} {before} {now} st result text h2 failed (inr c) later whole part =
+    let P : Status → Type 0 = λ x. Ends domains 0 before now x in
     subst P (sym c.0) (rose_back before.writes_failed failed now.writes_failed later c.1, part c.2.0 c.2.1)
 
 -- reading stopped, by its fault
-pub ends_stop : {genesis : Root} {l1 l2 l3 : Option (List ℕ)} {a b : Pair} {h1 h2 : Option (List ℕ)} {old new : Pending} {latest : ℕ} (h3 : Option (List ℕ)) (f : LineFault) (result : Status) (rf1 rfm rf2 wf1 wfm wf2 : ℕ)
-    → SoFar genesis 0 l1 l2 a b h1 h2 old.bytes old.total latest → ReadsMore l2 l3 old new → rf1 ≤ rfm → wf1 ≤ wfm
+pub ends_stop : {domains : Domains} {l1 l2 l3 : Option (List ℕ)} {a b : Pair} {h1 h2 : Option (List ℕ)} {old new : Pending} {latest : ℕ} (h3 : Option (List ℕ)) (f : LineFault) (result : Status) (rf1 rfm rf2 wf1 wfm wf2 : ℕ)
+    → SoFar domains 0 l1 l2 a b h1 h2 old.bytes old.total latest → ReadsMore l2 l3 old new → rf1 ≤ rfm → wf1 ≤ wfm
     → (f ≡ fault.Read → Rose rfm rf2 × IsShortLine new.bytes × (new.total < input_limit)) → (f ≡ fault.TooLong limit.Line → BeginsTooLong new.bytes) → (f ≡ fault.TooLong limit.Input → new.total ≡ input_limit)
     → StopsAs f h2 h3 wfm wf2 result
-    → Ends genesis 0 (record { left = l1; held = h1; pair = a; reads_failed = rf1; writes_failed = wf1 }) (record { left = l3; held = h3; pair = b; reads_failed = rf2; writes_failed = wf2 }) result
-ends_stop {genesis} {l1} {l2} {l3} {a} {b} {h1} {h2} {old} {new} {latest} h3 fault.Memory result rf1 rfm rf2 wf1 wfm wf2 s more rl wl read line input st =
-    let P : Status → Type 0 = λ x. Ends genesis 0 (record { left = l1; held = h1; pair = a; reads_failed = rf1; writes_failed = wf1 }) (record { left = l3; held = h3; pair = b; reads_failed = rf2; writes_failed = wf2 }) x in
+    → Ends domains 0 (record { left = l1; held = h1; pair = a; reads_failed = rf1; writes_failed = wf1 }) (record { left = l3; held = h3; pair = b; reads_failed = rf2; writes_failed = wf2 }) result
+ends_stop {domains} {l1} {l2} {l3} {a} {b} {h1} {h2} {old} {new} {latest} h3 fault.Memory result rf1 rfm rf2 wf1 wfm wf2 s more rl wl read line input st =
+    let P : Status → Type 0 = λ x. Ends domains 0 (record { left = l1; held = h1; pair = a; reads_failed = rf1; writes_failed = wf1 }) (record { left = l3; held = h3; pair = b; reads_failed = rf2; writes_failed = wf2 }) x in
     subst P (sym st.0) (leaves_reading {new = new} rf1 rf2 wf1 wf2 s more st.1)
 ends_stop h3 fault.Read result rf1 rfm rf2 wf1 wfm wf2 s more rl wl read line input st =
     closed_as status.ReadFault result read_fault_text _ wfm st wl

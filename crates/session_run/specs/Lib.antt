@@ -1,7 +1,5 @@
 pub mod Lines
 pub mod Reading
-pub mod Requests
-pub mod Answers
 pub mod Turns
 pub mod Acts
 pub mod Safe

@@ -3,20 +3,16 @@ use Rattle.std.specs.Prelude.{◌≡◌, ◌≢◌, ℕ, ◌<◌, ◌≤◌, ◌
 use Rattle.std.specs.Io.KnownBytes.{Consumes, Appends, Keeps, IsAtEnd}
 use Rattle.edge_kit.specs.Causes.{Rose}
 use Rattle.edge_kit.specs.Tellings.{Tells}
-use Rattle.edge_kit.specs.declared.bytes.Root.{Root}
+use Rattle.sign_roots.specs.declared.domains.Domains.{Domains}
 use Rattle.signer_link.specs.declared.signer.SignCall.{SignCall}
 use Rattle.signer_link.specs.declared.signer.SignReply.{SignReply}
 use Rattle.check_sign.specs.Contents.{Contents}
-use Rattle.check_sign.specs.Machine.{State, DeskStands}
-use Rattle.check_sign.specs.declared.call.DeskReply.{DeskReply}
-use Rattle.check_sign.specs.declared.call.Outcome.TheVariants.{Dropped}
+use Rattle.check_sign.specs.States.{State, DeskStands}
 use Rattle.session_run.specs.Lines.{lines_of, IsOneLine, IsShortLine, BeginsTooLong, line_limit, input_limit}
-use Rattle.session_run.specs.Requests.{request_of}
+use Rattle.session_format.specs.Requests.{request_of}
 use Rattle.session_run.specs.Acts.{Pair, Unanswered}
 use Rattle.session_run.specs.Safe.{StaysSafe, AllComplete}
-use Rattle.session_run.specs.Turns.{Turn, Place, CanRun, place_after, events_of, moment_after, moment_at, Unfaulted, call_of, line_of, text_of, written, told, sent}
-use Rattle.session_run.specs.declared.request.Request.{Request}
-use Rattle.session_run.specs.declared.request.Member.{Member}
+use Rattle.session_run.specs.Turns.{Turn, Place, CanRun, place_after, events_of, moment_after, AskAsWritten, Unfaulted, line_of, text_of, written, told, sent}
 use Rattle.session_run.specs.declared.next.Limit.{Limit}
 use Rattle.session_run.specs.declared.next.Limit.TheVariants as limit
 use Rattle.session_run.specs.declared.next.LineFault.{LineFault}
@@ -26,13 +22,14 @@ use Rattle.session_run.specs.declared.status.Status.{Status}
 use Rattle.session_run.specs.declared.status.Status.TheVariants as status
 use Rattle.std.specs.Prelude.{Result, Ok, Err, Some, None}
 
--- what a run does to the desk and to the signer: whichever state the desk stood for, the replies are the machine's, the
+-- what a run does to the desk and to the signer: each turn asks what its line says; whichever state the desk stood for, the replies are the machine's, the
 -- desk stands for the state after them, and has noted just that
-pub record Ran (genesis : Root) (moment : ℕ) (turns : List Turn) (before now : Pair) : Type 0 where
+pub record Ran (domains : Domains) (moment : ℕ) (turns : List Turn) (before now : Pair) : Type 0 where
   pub machine : (state : State) → DeskStands before.desk state → CanRun (record { desk = state; moment = moment }) turns
       × DeskStands now.desk (place_after (record { desk = state; moment = moment }) turns).desk
       × (now.desk.events ≡ before.desk.events ++ events_of (record { desk = state; moment = moment }) turns)
-  pub asked : Tells before.told now.told (told genesis turns)
+  pub requests : AskAsWritten domains turns
+  pub asked : Tells before.told now.told (told domains turns)
   pub later : before.faults ≤ now.faults
   pub unfaulted : ¬ (Rose before.faults now.faults) → Unfaulted turns
 
@@ -75,15 +72,15 @@ pub record View : Type 0 where
   pub writes_failed : ℕ
 
 -- these turns were served, and their answers written
-pub record HasServed (genesis : Root) (moment : ℕ) (turns : List Turn) (before now : Pair) (held_before held_now : Option (List ℕ)) : Type 0 where
-  pub ran : Ran genesis moment turns before now
+pub record HasServed (domains : Domains) (moment : ℕ) (turns : List Turn) (before now : Pair) (held_before held_now : Option (List ℕ)) : Type 0 where
+  pub ran : Ran domains moment turns before now
   pub answered : Appends held_before held_now (written turns)
 
 -- a session so far
-pub record SoFar (genesis : Root) (moment : ℕ) (left_before left_now : Option (List ℕ)) (before now : Pair) (held_before held_now : Option (List ℕ)) (pending : List ℕ) (total latest : ℕ) : Type 0 where
+pub record SoFar (domains : Domains) (moment : ℕ) (left_before left_now : Option (List ℕ)) (before now : Pair) (held_before held_now : Option (List ℕ)) (pending : List ℕ) (total latest : ℕ) : Type 0 where
   pub turns : List Turn
   pub has_read : HasRead left_before left_now turns pending total
-  pub served : HasServed genesis moment turns before now held_before held_now
+  pub served : HasServed domains moment turns before now held_before held_now
   pub latest_is : latest ≡ moment_after moment turns
 
 -- what the desk's machine makes true of every run: nothing slashable is sent, and nothing is refused without cause
@@ -103,28 +100,28 @@ abbrev pub IsClosing : List ℕ → Type 0
 IsClosing text = (text ≡ []) ⊎ (text ≡ read_fault_text) ⊎ ((l : Limit) × (text ≡ too_long_text l))
 
 -- one line was served, and a front of its answer written
-pub record CutShort (genesis : Root) (moment : ℕ) (line : List ℕ) (before now : Pair) (held_before held_now : Option (List ℕ)) : Type 0 where
+pub record CutShort (domains : Domains) (moment : ℕ) (line : List ℕ) (before now : Pair) (held_before held_now : Option (List ℕ)) : Type 0 where
   pub turn : Turn
   pub is_line : turn.line ≡ line
-  pub ran : Ran genesis moment (turn ∷ []) before now
+  pub ran : Ran domains moment (turn ∷ []) before now
   pub count : ℕ
   pub answered : Appends held_before held_now (take count (text_of turn))
 
 -- the input was read to its end, and its lines were served, each with its answer, in order
-pub record Session (genesis : Root) (moment : ℕ) (before now : View) : Type 0 where
+pub record Session (domains : Domains) (moment : ℕ) (before now : View) : Type 0 where
   pub turns : List Turn
   pub input : ReadsWhole before.left now.left turns
-  pub served : HasServed genesis moment turns before.pair now.pair before.held now.held
+  pub served : HasServed domains moment turns before.pair now.pair before.held now.held
   pub laws : Laws moment turns before.pair
 
 -- the lines that ended were served, and then a closing text was written; what is pending is no whole line, or is over a limit
-pub record Stops (genesis : Root) (moment : ℕ) (before now : View) (closing : List ℕ) (Cause : List ℕ → ℕ → Type 0) : Type 0 where
+pub record Stops (domains : Domains) (moment : ℕ) (before now : View) (closing : List ℕ) (Cause : List ℕ → ℕ → Type 0) : Type 0 where
   pub turns : List Turn
   pub pending : List ℕ
   pub total : ℕ
   pub held : Option (List ℕ)
   pub has_read : HasRead before.left now.left turns pending total
-  pub served : HasServed genesis moment turns before.pair now.pair before.held held
+  pub served : HasServed domains moment turns before.pair now.pair before.held held
   pub laws : Laws moment turns before.pair
   pub closed : Appends held now.held closing
   pub cause : Cause pending total
@@ -142,10 +139,10 @@ pub record ReadsFirst (left_before left_now : Option (List ℕ)) (turns : List T
   pub short : AreShort (map line_of turns)
 
 -- the first lines were served and their answers written, in part or whole, and then a closing text in part
-pub record Breaks (genesis : Root) (moment : ℕ) (before now : View) : Type 0 where
+pub record Breaks (domains : Domains) (moment : ℕ) (before now : View) : Type 0 where
   pub turns : List Turn
   pub first : ReadsFirst before.left now.left turns
-  pub ran : Ran genesis moment turns before.pair now.pair
+  pub ran : Ran domains moment turns before.pair now.pair
   pub laws : Laws moment turns before.pair
   pub closing : List ℕ
   pub is_closing : IsClosing closing
@@ -153,7 +150,7 @@ pub record Breaks (genesis : Root) (moment : ℕ) (before now : View) : Type 0 w
   pub written_part : Appends before.held now.held (take count (written turns ++ closing))
 
 -- Memory ran out. The first lines were served and answered; of the next nothing was written, and its calls may be done.
-pub record LeavesOff (genesis : Root) (moment : ℕ) (before now : View) : Type 0 where
+pub record LeavesOff (domains : Domains) (moment : ℕ) (before now : View) : Type 0 where
   pub turns : List Turn
   pub pending : List ℕ
   pub total : ℕ
@@ -162,10 +159,10 @@ pub record LeavesOff (genesis : Root) (moment : ℕ) (before now : View) : Type 
   pub latest : ℕ
   pub line : List ℕ
   pub has_read : HasRead before.left now.left turns pending total
-  pub served : HasServed genesis moment turns before.pair mid before.held held
+  pub served : HasServed domains moment turns before.pair mid before.held held
   pub laws : Laws moment turns before.pair
   pub latest_is : latest ≡ moment_after moment turns
-  pub undone : Unanswered genesis latest (request_of line) mid now.pair
+  pub undone : Unanswered domains latest (request_of domains line) mid now.pair
   pub kept : Keeps held now.held
   pub is_next : (now.pair ≡ mid) ⊎ IsNext pending line
 
@@ -178,13 +175,13 @@ PassesLimit limit.Line pending total = BeginsTooLong pending
 PassesLimit limit.Input pending total = total ≡ input_limit
 
 -- how a session ends, status by status, each with its cause
-abbrev pub Ends : Root → ℕ → View → View → Status → Type 0
-Ends genesis moment before now status.Done = Session genesis moment before now
-Ends genesis moment before now status.Usage = ⊥
-Ends genesis moment before now status.ReadFault = Rose before.reads_failed now.reads_failed × Stops genesis moment before now read_fault_text StoppedShort
-Ends genesis moment before now status.WriteFault = Rose before.writes_failed now.writes_failed × Breaks genesis moment before now
-Ends genesis moment before now status.OutOfMemory = LeavesOff genesis moment before now
-Ends genesis moment before now (status.InputTooLong l) = Stops genesis moment before now (too_long_text l) (PassesLimit l)
+abbrev pub Ends : Domains → ℕ → View → View → Status → Type 0
+Ends domains moment before now status.Done = Session domains moment before now
+Ends domains moment before now status.Usage = ⊥
+Ends domains moment before now status.ReadFault = Rose before.reads_failed now.reads_failed × Stops domains moment before now read_fault_text StoppedShort
+Ends domains moment before now status.WriteFault = Rose before.writes_failed now.writes_failed × Breaks domains moment before now
+Ends domains moment before now status.OutOfMemory = LeavesOff domains moment before now
+Ends domains moment before now (status.InputTooLong l) = Stops domains moment before now (too_long_text l) (PassesLimit l)
 
 -- how an output is closed after a fault of reading
 abbrev pub StopsAs : LineFault → Option (List ℕ) → Option (List ℕ) → ℕ → ℕ → Status → Type 0

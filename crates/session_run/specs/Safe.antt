@@ -2,25 +2,23 @@
 use Rattle.std.specs.Prelude.{◌≡◌, ◌≢◌, ℕ, ◌++◌, List, [], ◌∷◌, All, Option, Some, None, IfSome, Result, Ok, Err}
 use Rattle.edge_kit.specs.declared.bytes.PubKey.{PubKey}
 use Rattle.slash_defs.specs.declared.message.Message.{Message}
-use Rattle.slash_defs.specs.declared.message.Message.TheVariants as message
 use Rattle.slash_defs.specs.Lists.{SafeList}
 use Rattle.protect_record.specs.Pasts.{Past}
 use Rattle.protect_record.specs.Passing.{Passes, Covers}
 use Rattle.signer_link.specs.declared.signer.SignReply.{SignReply}
 use Rattle.signer_link.specs.declared.signer.SignReply.TheVariants as signing
-use Rattle.check_sign.specs.Machine.{State, past_of}
+use Rattle.check_sign.specs.States.{State, active_past}
 use Rattle.check_sign.specs.declared.call.DeskReply.{DeskReply}
 use Rattle.check_sign.specs.declared.call.DeskReply.TheVariants as reply
-use Rattle.session_run.specs.Requests.{request_of}
 use Rattle.session_run.specs.Turns.{Turn, Place, place_of, place_after, sent}
-use Rattle.session_run.specs.declared.request.Op.{Op}
-use Rattle.session_run.specs.declared.request.Op.TheVariants as op
-use Rattle.session_run.specs.declared.request.Request.{Request}
-use Rattle.session_run.specs.declared.request.Member.{Member}
+use Rattle.session_format.specs.declared.request.Op.{Op}
+use Rattle.session_format.specs.declared.request.Op.TheVariants as op
+use Rattle.session_format.specs.declared.request.Request.{Request}
+use Rattle.session_format.specs.declared.member.Member.{Member}
 
 -- where the key is active, its past covers the message
 abbrev pub OnActive : State → PubKey × Message → Type 0
-OnActive state sent = IfSome (past_of state sent.0) (λ past. Covers past sent.1)
+OnActive state sent = IfSome (active_past state sent.0) (λ past. Covers past sent.1)
 
 -- the past covers the message now, or, where the key is not active yet, later
 abbrev pub NowOrLater : Option Past → Message → Type 0 → Type 0
@@ -30,7 +28,7 @@ NowOrLater (Some past) m later = Covers past m
 -- the past of the message's key covers it at the start, where the key is active, and else at its first activation of the run
 abbrev pub CoveredOnceActive : Place → List Turn → PubKey × Message → Type 0
 CoveredOnceActive place [] sent = OnActive place.desk sent
-CoveredOnceActive place (t ∷ ts) sent = NowOrLater (past_of place.desk sent.0) sent.1 (CoveredOnceActive (place_of place (request_of t.line) t.reply t.signing) ts sent)
+CoveredOnceActive place (t ∷ ts) sent = NowOrLater (active_past place.desk sent.0) sent.1 (CoveredOnceActive (place_of place t.request t.reply t.signing) ts sent)
 
 -- whatever was signed before, safe and covered, is safe beside what this run sends, and where its key is active it is covered in the end
 abbrev pub StaysSafe : Place → List Turn → Type 0
@@ -45,12 +43,11 @@ IsCarriedOut (reply.Granted grant) signing.Fault = Unit {0}
 IsCarriedOut r s = ⊥
 
 abbrev pub Proposes : State → PubKey → Message → DeskReply → SignReply → Type 0
-Proposes state key m r s = (past : Past) → past_of state key ≡ Some past → Passes past m → IsCarriedOut r s
+Proposes state key m r s = (past : Past) → active_past state key ≡ Some past → Passes past m → IsCarriedOut r s
 
 abbrev pub CompleteOp : State → Op → DeskReply → SignReply → Type 0
-CompleteOp state (op.Activate key) r s = Unit {0}
-CompleteOp state (op.Block key slot root) r s = Proposes state key (message.Block slot root) r s
-CompleteOp state (op.Vote key source target root) r s = Proposes state key (message.Vote source target root) r s
+CompleteOp state (op.Propose key m object) r s = Proposes state key m r s
+CompleteOp state o r s = Unit {0}
 
 abbrev pub IsComplete : Place → Result Request Member → DeskReply → SignReply → Type 0
 IsComplete place (Err m) r s = Unit {0}
@@ -58,4 +55,4 @@ IsComplete place (Ok q) r s = CompleteOp place.desk q.op r s
 
 abbrev pub AllComplete : Place → List Turn → Type 0
 AllComplete place [] = Unit {0}
-AllComplete place (t ∷ ts) = IsComplete place (request_of t.line) t.reply t.signing × AllComplete (place_of place (request_of t.line) t.reply t.signing) ts
+AllComplete place (t ∷ ts) = IsComplete place t.request t.reply t.signing × AllComplete (place_of place t.request t.reply t.signing) ts

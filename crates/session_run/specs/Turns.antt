@@ -1,15 +1,18 @@
 -- One line of a session, and many.
-use Rattle.std.specs.Prelude.{◌≡◌, ◌≢◌, ℕ, max, List, [], ◌∷◌, ◌++◌, flat_map, Option, Some, None, unwrap_or, Result, Ok, Err}
+use Rattle.std.specs.Prelude.{◌≡◌, ◌≢◌, ℕ, max, List, [], ◌∷◌, ◌++◌, flat_map, map, Option, Some, None, unwrap_or, Result, Ok, Err}
+use Rattle.std.specs.Map.{keys_of}
 use Rattle.edge_kit.specs.declared.bytes.PubKey.{PubKey}
-use Rattle.edge_kit.specs.declared.bytes.Root.{Root}
 use Rattle.slash_defs.specs.declared.message.Message.{Message}
-use Rattle.slash_defs.specs.declared.message.Message.TheVariants as message
+use Rattle.sign_roots.specs.declared.domains.Domains.{Domains}
 use Rattle.signer_link.specs.Signing.{asked, told_call}
 use Rattle.signer_link.specs.InMemory.{root_of}
 use Rattle.signer_link.specs.declared.signer.SignCall.{SignCall}
+use Rattle.signer_link.specs.declared.signer.SignObject.{SignObject}
+use Rattle.signer_link.specs.declared.signer.SignRequest.{SignRequest}
 use Rattle.signer_link.specs.declared.signer.SignReply.{SignReply}
 use Rattle.signer_link.specs.declared.signer.SignReply.TheVariants as signing
-use Rattle.check_sign.specs.Machine.{State, Reply, after, noted}
+use Rattle.check_sign.specs.States.{State}
+use Rattle.check_sign.specs.Machine.{Reply, after, noted}
 use Rattle.check_sign.specs.declared.open_grant.OpenGrant.{OpenGrant}
 use Rattle.check_sign.specs.declared.event.DeskEvent.{DeskEvent}
 use Rattle.check_sign.specs.declared.call.DeskCall.{DeskCall}
@@ -18,22 +21,27 @@ use Rattle.check_sign.specs.declared.call.DeskReply.{DeskReply}
 use Rattle.check_sign.specs.declared.call.DeskReply.TheVariants as reply
 use Rattle.check_sign.specs.declared.call.Outcome.{Outcome}
 use Rattle.check_sign.specs.declared.call.Outcome.TheVariants as outcome
-use Rattle.session_run.specs.Requests.{request_of}
-use Rattle.session_run.specs.Answers.{answer_text}
-use Rattle.session_run.specs.declared.request.Op.{Op}
-use Rattle.session_run.specs.declared.request.Op.TheVariants as op
-use Rattle.session_run.specs.declared.request.Request.{Request}
-use Rattle.session_run.specs.declared.request.Member.{Member}
-use Rattle.session_run.specs.declared.answer.Answer.{Answer}
-use Rattle.session_run.specs.declared.answer.Answer.TheVariants as answer
-use Rattle.session_run.specs.declared.answer.Cause.TheVariants as cause
+use Rattle.session_format.specs.Requests.{request_of}
+use Rattle.session_format.specs.Answers.{answer_text}
+use Rattle.session_format.specs.declared.request.Op.{Op}
+use Rattle.session_format.specs.declared.request.Op.TheVariants as op
+use Rattle.session_format.specs.declared.request.Request.{Request}
+use Rattle.session_format.specs.declared.member.Member.{Member}
+use Rattle.session_format.specs.declared.answer.Answer.{Answer}
+use Rattle.session_format.specs.declared.answer.Answer.TheVariants as answer
+use Rattle.session_format.specs.declared.answer.Cause.TheVariants as cause
 
--- A line with what the desk replied and what the signer answered. Where a line asks nothing of one of them, that part
--- says nothing.
+-- A line with what it asks, what the desk replied and what the signer answered. Where a line asks nothing of one of them,
+-- that part says nothing.
 pub record Turn : Type 0 where
   pub line : List ℕ
+  pub request : Result Request Member
   pub reply : DeskReply
   pub signing : SignReply
+
+-- each turn's request is its line's
+abbrev pub AskAsWritten : Domains → List Turn → Type 0
+AskAsWritten domains ts = map (λ t. t.request) ts ≡ map (λ t. request_of domains t.line) ts
 
 -- where a session stands: the desk's state, and the greatest moment that a line named
 pub record Place : Type 0 where
@@ -44,11 +52,27 @@ pub record Place : Type 0 where
 abbrev pub moment_at : ℕ → Request → ℕ
 moment_at moment q = max moment (unwrap_or q.epoch 0)
 
--- the desk's call of what a line asks
-abbrev pub call_of : Op → ℕ → DeskCall
-call_of (op.Activate key) now = call.Activate key now
-call_of (op.Block key slot root) now = call.Propose key (message.Block slot root) now
-call_of (op.Vote key source target root) now = call.Propose key (message.Vote source target root) now
+-- the desk's call of what a line asks, where these keys are kept; none where a text is no file
+abbrev pub call_of : List PubKey → Op → ℕ → Option DeskCall
+call_of kept (op.Merge file) now = Some (call.Merge file)
+call_of kept (op.BadFile fault) now = None
+call_of kept (op.Activate key) now = Some (call.Activate key now)
+call_of kept (op.Propose key m object) now = Some (call.Propose key m now)
+call_of kept (op.Export None) now = Some (call.Export kept)
+call_of kept (op.Export (Some keys)) now = Some (call.Export keys)
+call_of kept (op.Prune key) now = Some (call.Prune key)
+
+abbrev pub call_at : Place → Request → Option DeskCall
+call_at place q = call_of (keys_of place.desk.keys) q.op (moment_at place.moment q)
+
+-- what a message was made of, where the line gave it
+abbrev pub object_of : Op → Option SignObject
+object_of (op.Propose key m object) = object
+object_of o = None
+
+-- what goes to the signer beside the key and the message
+abbrev pub sign_request : Domains → Op → SignRequest
+sign_request domains o = record { fork = domains.fork; genesis = domains.genesis; object = object_of o }
 
 -- a signature is sent; without one the grant is dropped
 abbrev pub outcome_of : SignReply → Outcome
@@ -82,18 +106,27 @@ signed_answer m signing.Fault = answer.Unsigned cause.Fault
 signed_answer m signing.OutOfMemory = answer.Unsigned cause.Fault
 
 abbrev pub reply_answer : DeskReply → SignReply → Answer
+reply_answer (reply.Merged keys) s = answer.Merged keys
 reply_answer reply.Active s = answer.Active
 reply_answer reply.Already s = answer.Active
 reply_answer (reply.Granted grant) s = signed_answer grant.message s
 reply_answer reply.Settled s = answer.Active
+reply_answer (reply.Exported file) s = answer.Exported file
+reply_answer (reply.Pruned book) s = answer.Pruned
+reply_answer (reply.GenesisDiffers kept given) s = answer.GenesisDiffers kept given
 reply_answer reply.Unknown s = answer.Unknown
+reply_answer reply.NotActive s = answer.NotActive
 reply_answer (reply.Refused v) s = answer.Refused v
 reply_answer (reply.TooManyKeys have new) s = answer.TooManyKeys have new
 reply_answer reply.OutOfMemory s = answer.Active
 
+abbrev pub op_answer : Op → DeskReply → SignReply → Answer
+op_answer (op.BadFile fault) r s = answer.BadFile fault
+op_answer o r s = reply_answer r s
+
 abbrev pub answer_of : Result Request Member → DeskReply → SignReply → Answer
 answer_of (Err m) r s = answer.BadRequest m
-answer_of (Ok q) r s = reply_answer r s
+answer_of (Ok q) r s = op_answer q.op r s
 
 -- memory did not run out at the desk or the signer
 abbrev pub IsAnswered : DeskReply → SignReply → Type 0
@@ -102,13 +135,13 @@ IsAnswered (reply.Granted grant) signing.OutOfMemory = ⊥
 IsAnswered r s = Unit {0}
 
 -- what the signer was asked under a grant, with its reply
-abbrev pub asked_for : Root → PubKey → Option Message → SignReply → List (SignCall × SignReply)
-asked_for genesis key None s = []
-asked_for genesis key (Some m) s = told_call (asked key m (record { genesis = genesis })) s
+abbrev pub asked_for : SignRequest → PubKey → Option Message → SignReply → List (SignCall × SignReply)
+asked_for request key None s = []
+asked_for request key (Some m) s = told_call (asked key m request) s
 
-abbrev pub asked_of : Root → DeskReply → SignReply → List (SignCall × SignReply)
-asked_of genesis (reply.Granted grant) s = asked_for genesis grant.key grant.message s
-asked_of genesis r s = []
+abbrev pub asked_of : SignRequest → DeskReply → SignReply → List (SignCall × SignReply)
+asked_of request (reply.Granted grant) s = asked_for request grant.key grant.message s
+asked_of request r s = []
 
 -- the message whose signature went out, with its key
 abbrev pub sent_for : PubKey → Option Message → List (PubKey × Message)
@@ -124,31 +157,61 @@ abbrev pub IsUnfaulted : DeskReply → SignReply → Type 0
 IsUnfaulted (reply.Granted grant) signing.Fault = ⊥
 IsUnfaulted r s = Unit {0}
 
+-- ---- a call of the desk, if there is one
+
+abbrev pub CanCall : State → Option DeskCall → DeskReply → SignReply → Type 0
+CanCall state None r s = Unit {0}
+CanCall state (Some c) r s = Reply state c r × IsAnswered r s
+
+abbrev pub state_by : State → Option DeskCall → DeskReply → Outcome → State
+state_by state None r o = state
+state_by state (Some c) r o = state_after state c r o
+
+abbrev pub noted_by : State → Option DeskCall → DeskReply → Outcome → List DeskEvent
+noted_by state None r o = []
+noted_by state (Some c) r o = noted_both state c r o
+
+abbrev pub told_by : SignRequest → Option DeskCall → DeskReply → SignReply → List (SignCall × SignReply)
+told_by request None r s = []
+told_by request (Some c) r s = asked_of request r s
+
+abbrev pub sent_under : Option DeskCall → DeskReply → SignReply → List (PubKey × Message)
+sent_under None r s = []
+sent_under (Some c) r s = sent_of r s
+
+abbrev pub unfaulted_under : Option DeskCall → DeskReply → SignReply → Type 0
+unfaulted_under None r s = Unit {0}
+unfaulted_under (Some c) r s = IsUnfaulted r s
+
 -- ---- a line: a bad request does nothing
 
 abbrev pub CanReply : Place → Result Request Member → DeskReply → SignReply → Type 0
 CanReply place (Err m) r s = Unit {0}
-CanReply place (Ok q) r s = Reply place.desk (call_of q.op (moment_at place.moment q)) r × IsAnswered r s
+CanReply place (Ok q) r s = CanCall place.desk (call_at place q) r s
 
 abbrev pub place_of : Place → Result Request Member → DeskReply → SignReply → Place
 place_of place (Err m) r s = place
-place_of place (Ok q) r s = record { desk = state_after place.desk (call_of q.op (moment_at place.moment q)) r (outcome_of s); moment = moment_at place.moment q }
+place_of place (Ok q) r s = record { desk = state_by place.desk (call_at place q) r (outcome_of s); moment = moment_at place.moment q }
 
 abbrev pub noted_of : Place → Result Request Member → DeskReply → SignReply → List DeskEvent
 noted_of place (Err m) r s = []
-noted_of place (Ok q) r s = noted_both place.desk (call_of q.op (moment_at place.moment q)) r (outcome_of s)
+noted_of place (Ok q) r s = noted_by place.desk (call_at place q) r (outcome_of s)
 
-abbrev pub told_of : Root → Result Request Member → DeskReply → SignReply → List (SignCall × SignReply)
-told_of genesis (Err m) r s = []
-told_of genesis (Ok q) r s = asked_of genesis r s
+-- whether a line calls the desk depends on no place
+abbrev pub calls : Request → Option DeskCall
+calls q = call_of [] q.op 0
+
+abbrev pub told_of : Domains → Result Request Member → DeskReply → SignReply → List (SignCall × SignReply)
+told_of domains (Err m) r s = []
+told_of domains (Ok q) r s = told_by (sign_request domains q.op) (calls q) r s
 
 abbrev pub sent_by : Result Request Member → DeskReply → SignReply → List (PubKey × Message)
 sent_by (Err m) r s = []
-sent_by (Ok q) r s = sent_of r s
+sent_by (Ok q) r s = sent_under (calls q) r s
 
 abbrev pub unfaulted_by : Result Request Member → DeskReply → SignReply → Type 0
 unfaulted_by (Err m) r s = Unit {0}
-unfaulted_by (Ok q) r s = IsUnfaulted r s
+unfaulted_by (Ok q) r s = unfaulted_under (calls q) r s
 
 abbrev pub moment_by : ℕ → Result Request Member → ℕ
 moment_by moment (Err m) = moment
@@ -159,45 +222,45 @@ moment_by moment (Ok q) = moment_at moment q
 -- the desk may give these replies to these lines
 abbrev pub CanRun : Place → List Turn → Type 0
 CanRun place [] = Unit {0}
-CanRun place (t ∷ ts) = CanReply place (request_of t.line) t.reply t.signing × CanRun (place_of place (request_of t.line) t.reply t.signing) ts
+CanRun place (t ∷ ts) = CanReply place t.request t.reply t.signing × CanRun (place_of place t.request t.reply t.signing) ts
 
 abbrev pub place_after : Place → List Turn → Place
 place_after place [] = place
-place_after place (t ∷ ts) = place_after (place_of place (request_of t.line) t.reply t.signing) ts
+place_after place (t ∷ ts) = place_after (place_of place t.request t.reply t.signing) ts
 
 -- what the desk noted
 abbrev pub events_of : Place → List Turn → List DeskEvent
 events_of place [] = []
-events_of place (t ∷ ts) = noted_of place (request_of t.line) t.reply t.signing ++ events_of (place_of place (request_of t.line) t.reply t.signing) ts
+events_of place (t ∷ ts) = noted_of place t.request t.reply t.signing ++ events_of (place_of place t.request t.reply t.signing) ts
 
 -- the greatest moment that was named
 abbrev pub moment_after : ℕ → List Turn → ℕ
 moment_after moment [] = moment
-moment_after moment (t ∷ ts) = moment_after (moment_by moment (request_of t.line)) ts
+moment_after moment (t ∷ ts) = moment_after (moment_by moment t.request) ts
 
 -- the signer failed at none
 abbrev pub Unfaulted : List Turn → Type 0
 Unfaulted [] = Unit {0}
-Unfaulted (t ∷ ts) = unfaulted_by (request_of t.line) t.reply t.signing × Unfaulted ts
+Unfaulted (t ∷ ts) = unfaulted_by t.request t.reply t.signing × Unfaulted ts
 
 abbrev pub line_of : Turn → List ℕ
 line_of t = t.line
 
 -- the bytes that are written, the calls that the signer tells, and the messages whose signatures go out
 abbrev pub text_of : Turn → List ℕ
-text_of t = answer_text (answer_of (request_of t.line) t.reply t.signing)
+text_of t = answer_text (answer_of t.request t.reply t.signing)
 
 abbrev pub written : List Turn → List ℕ
 written ts = flat_map text_of ts
 
-abbrev pub told_in : Root → Turn → List (SignCall × SignReply)
-told_in genesis t = told_of genesis (request_of t.line) t.reply t.signing
+abbrev pub told_in : Domains → Turn → List (SignCall × SignReply)
+told_in domains t = told_of domains t.request t.reply t.signing
 
-abbrev pub told : Root → List Turn → List (SignCall × SignReply)
-told genesis ts = flat_map (told_in genesis) ts
+abbrev pub told : Domains → List Turn → List (SignCall × SignReply)
+told domains ts = flat_map (told_in domains) ts
 
 abbrev pub sent_in : Turn → List (PubKey × Message)
-sent_in t = sent_by (request_of t.line) t.reply t.signing
+sent_in t = sent_by t.request t.reply t.signing
 
 abbrev pub sent : List Turn → List (PubKey × Message)
 sent ts = flat_map sent_in ts

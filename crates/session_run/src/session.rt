@@ -6,22 +6,22 @@ ghost use Rattle.signer_link.specs.declared.signer.SignReply.{SignReply};
 ghost use Rattle.check_sign.specs.Machine.{moment_limit};
 ghost use Rattle.check_sign.specs.declared.call.DeskReply.{DeskReply};
 ghost use Rattle.session_run.specs.Lines.{IsShortLine, input_limit};
-ghost use Rattle.session_run.specs.Requests.{request_of};
-ghost use Rattle.session_run.specs.Answers.{answer_text};
+ghost use Rattle.session_format.specs.Requests.{request_of};
+ghost use Rattle.session_format.specs.Answers.{answer_text};
 ghost use Rattle.session_run.specs.Turns.{Turn, answer_of, moment_by, moment_after, line_of};
-ghost use Rattle.session_run.specs.Acts.{Turned, Unanswered};
+ghost use Rattle.session_run.specs.Acts.{ListsOnce, Turned, Unanswered};
 ghost use Rattle.session_run.specs.Runs.{Ends, HasServed, CutShort, StopsAs, WithinLimits, last_lines, too_long_text};
 ghost use Rattle.session_run.specs.declared.next.Limit.{Limit};
 
-use crate::answer::Answer;
 use crate::lines::Lines;
 use crate::next::{Limit, LineFault, Next};
-use crate::request::{Member, Request, read_request};
 use crate::status::Status;
 use crate::turn::act;
 use crate::write::{close, write_all};
 use check_sign::Desk;
-use edge_kit::{Failed, Root, Sink, Source};
+use edge_kit::{Failed, Sink, Source};
+use session_format::{Answer, Member, Request, read_request};
+use sign_roots::Domains;
 use signer_link::Signer;
 use std::alloc::{AllocError, Global};
 
@@ -38,31 +38,31 @@ enum Unserved {
 /// has a line. The desk and the signer go on from where they are.
 pub fn serve_lines<S: Signer, I: Source, O: Sink>(
     alloc: Global,
-    genesis: Root,
+    domains: &Domains,
     desk: &mut Desk,
     signer: &mut S,
     input: &mut I,
     out: &mut O,
 ) -> Status
-    ensures ends { Ends genesis 0
+    ensures ends { Ends domains.now 0
         (record { left = I.left input.old; held = O.held out.old; pair = record { desk = desk.old; told = S.told signer.old; faults = S.faults signer.old }; reads_failed = I.faults input.old; writes_failed = O.faults out.old })
         (record { left = I.left input.new; held = O.held out.new; pair = record { desk = desk.new; told = S.told signer.new; faults = S.faults signer.new }; reads_failed = I.faults input.new; writes_failed = O.faults out.new })
         result }
     ensures within { WithinLimits (I.left input.old) → (l : Limit) → result ≢ Status.InputTooLong l }
 {
-    run_lines(alloc, genesis, desk, signer, input, out)
+    run_lines(alloc, domains, desk, signer, input, out)
 }
 
 /// Serves the lines of an input.
 fn run_lines<S: Signer, I: Source, O: Sink>(
     alloc: Global,
-    genesis: Root,
+    domains: &Domains,
     desk: &mut Desk,
     signer: &mut S,
     input: &mut I,
     out: &mut O,
 ) -> Status
-    ensures { Ends genesis 0
+    ensures { Ends domains.now 0
         (record { left = I.left input.old; held = O.held out.old; pair = record { desk = desk.old; told = S.told signer.old; faults = S.faults signer.old }; reads_failed = I.faults input.old; writes_failed = O.faults out.old })
         (record { left = I.left input.new; held = O.held out.new; pair = record { desk = desk.new; told = S.told signer.new; faults = S.faults signer.new }; reads_failed = I.faults input.new; writes_failed = O.faults out.new })
         result }
@@ -74,14 +74,14 @@ fn run_lines<S: Signer, I: Source, O: Sink>(
     'lines: for _ in 0..u64::MAX {
         match lines.next(alloc, input) {
             Ok(Next::Line(line)) => {
-                match serve_line(alloc, genesis, desk, signer, out, latest, line.as_slice()) {
+                match serve_line(alloc, domains, desk, signer, out, latest, line.as_slice()) {
                     Ok(now) => latest = now,
                     Err(Unserved::Memory) => return Status::OutOfMemory,
                     Err(Unserved::Write) => return Status::WriteFault,
                 }
             }
             Ok(Next::Last(line)) => {
-                match serve_last(alloc, genesis, desk, signer, out, latest, line.as_slice()) {
+                match serve_last(alloc, domains, desk, signer, out, latest, line.as_slice()) {
                     Ok(()) => return Status::Done,
                     Err(Unserved::Memory) => return Status::OutOfMemory,
                     Err(Unserved::Write) => return Status::WriteFault,
@@ -120,7 +120,7 @@ fn too_long_line(limit: Limit) -> &'static str
 /// Serves what stood behind the last newline.
 fn serve_last<S: Signer, O: Sink>(
     alloc: Global,
-    genesis: Root,
+    domains: &Domains,
     desk: &mut Desk,
     signer: &mut S,
     out: &mut O,
@@ -129,17 +129,17 @@ fn serve_last<S: Signer, O: Sink>(
 ) -> Result<(), Unserved>
     requires { latest ≤ moment_limit }
     ensures ok { OnOk result ((last : List Turn) × (map line_of last ≡ last_lines line.now)
-        × HasServed genesis latest last (record { desk = desk.old; told = S.told signer.old; faults = S.faults signer.old }) (record { desk = desk.new; told = S.told signer.new; faults = S.faults signer.new }) (O.held out.old) (O.held out.new)) }
+        × HasServed domains.now latest last (record { desk = desk.old; told = S.told signer.old; faults = S.faults signer.old }) (record { desk = desk.new; told = S.told signer.new; faults = S.faults signer.new }) (O.held out.old) (O.held out.new)) }
     ensures write { result ≡ Err Unserved.Write → Rose (O.faults out.old) (O.faults out.new) × (line.now ∷ [] ≡ last_lines line.now)
-        × CutShort genesis latest line.now (record { desk = desk.old; told = S.told signer.old; faults = S.faults signer.old }) (record { desk = desk.new; told = S.told signer.new; faults = S.faults signer.new }) (O.held out.old) (O.held out.new) }
+        × CutShort domains.now latest line.now (record { desk = desk.old; told = S.told signer.old; faults = S.faults signer.old }) (record { desk = desk.new; told = S.told signer.new; faults = S.faults signer.new }) (O.held out.old) (O.held out.new) }
     ensures memory { result ≡ Err Unserved.Memory → Keeps (O.held out.old) (O.held out.new)
-        × Unanswered genesis latest (request_of line.now) (record { desk = desk.old; told = S.told signer.old; faults = S.faults signer.old }) (record { desk = desk.new; told = S.told signer.new; faults = S.faults signer.new }) }
+        × Unanswered domains.now latest (request_of domains.now line.now) (record { desk = desk.old; told = S.told signer.old; faults = S.faults signer.old }) (record { desk = desk.new; told = S.told signer.new; faults = S.faults signer.new }) }
     ensures later { O.faults out.old ≤ O.faults out.new }
 {
     if line.is_empty() {
         return Ok(());
     }
-    match serve_line(alloc, genesis, desk, signer, out, latest, line) {
+    match serve_line(alloc, domains, desk, signer, out, latest, line) {
         Ok(_) => Ok(()),
         Err(fault) => Err(fault),
     }
@@ -148,7 +148,7 @@ fn serve_last<S: Signer, O: Sink>(
 /// Serves one line and writes its answer in one piece. Gives the latest moment.
 fn serve_line<S: Signer, O: Sink>(
     alloc: Global,
-    genesis: Root,
+    domains: &Domains,
     desk: &mut Desk,
     signer: &mut S,
     out: &mut O,
@@ -157,18 +157,18 @@ fn serve_line<S: Signer, O: Sink>(
 ) -> Result<u64, Unserved>
     requires { latest ≤ moment_limit }
     ensures ok { IfOk result (λ now. (t : Turn) × (t.line ≡ line.now) × (now ≡ moment_after latest (t ∷ []))
-        × HasServed genesis latest (t ∷ []) (record { desk = desk.old; told = S.told signer.old; faults = S.faults signer.old }) (record { desk = desk.new; told = S.told signer.new; faults = S.faults signer.new }) (O.held out.old) (O.held out.new)) }
+        × HasServed domains.now latest (t ∷ []) (record { desk = desk.old; told = S.told signer.old; faults = S.faults signer.old }) (record { desk = desk.new; told = S.told signer.new; faults = S.faults signer.new }) (O.held out.old) (O.held out.new)) }
     ensures limit { IfOk result (λ now. now ≤ moment_limit) }
     ensures write { result ≡ Err Unserved.Write → Rose (O.faults out.old) (O.faults out.new)
-        × CutShort genesis latest line.now (record { desk = desk.old; told = S.told signer.old; faults = S.faults signer.old }) (record { desk = desk.new; told = S.told signer.new; faults = S.faults signer.new }) (O.held out.old) (O.held out.new) }
+        × CutShort domains.now latest line.now (record { desk = desk.old; told = S.told signer.old; faults = S.faults signer.old }) (record { desk = desk.new; told = S.told signer.new; faults = S.faults signer.new }) (O.held out.old) (O.held out.new) }
     ensures memory { result ≡ Err Unserved.Memory → Keeps (O.held out.old) (O.held out.new)
-        × Unanswered genesis latest (request_of line.now) (record { desk = desk.old; told = S.told signer.old; faults = S.faults signer.old }) (record { desk = desk.new; told = S.told signer.new; faults = S.faults signer.new }) }
+        × Unanswered domains.now latest (request_of domains.now line.now) (record { desk = desk.old; told = S.told signer.old; faults = S.faults signer.old }) (record { desk = desk.new; told = S.told signer.new; faults = S.faults signer.new }) }
     ensures later { O.faults out.old ≤ O.faults out.new }
 {
-    let Ok(read) = read_request(alloc, line) else {
+    let Ok(read) = read_request(alloc, domains, line) else {
         return Err(Unserved::Memory);
     };
-    let Ok((text, now)) = answer_line(alloc, genesis, desk, signer, latest, &read) else {
+    let Ok((text, now)) = answer_line(alloc, domains, desk, signer, latest, read) else {
         return Err(Unserved::Memory);
     };
     match write_all(out, text.as_bytes()) {
@@ -180,28 +180,29 @@ fn serve_line<S: Signer, O: Sink>(
 /// What a line gets as its answer, and the latest moment after it.
 fn answer_line<S: Signer>(
     alloc: Global,
-    genesis: Root,
+    domains: &Domains,
     desk: &mut Desk,
     signer: &mut S,
     latest: u64,
-    read: &Result<Request, Member>,
+    read: Result<Request, Member>,
 ) -> Result<(String, u64), AllocError>
     requires latest { latest ≤ moment_limit }
-    requires epoch { IfOk read.now (λ q. unwrap_or q.epoch 0 ≤ moment_limit) }
+    requires epoch { IfOk read (λ q. unwrap_or q.epoch 0 ≤ moment_limit) }
+    requires once { IfOk read (λ q. ListsOnce q.op) }
     ensures done { IfOk result (λ x. (r : DeskReply) × (s : SignReply)
-        × Turned genesis latest read.now (record { desk = desk.old; told = S.told signer.old; faults = S.faults signer.old }) (record { desk = desk.new; told = S.told signer.new; faults = S.faults signer.new }) r s
-        × (string_bytes x.0 ≡ answer_text (answer_of read.now r s)) × (x.1 ≡ moment_by latest read.now)) }
+        × Turned domains.now latest read (record { desk = desk.old; told = S.told signer.old; faults = S.faults signer.old }) (record { desk = desk.new; told = S.told signer.new; faults = S.faults signer.new }) r s
+        × (string_bytes x.0 ≡ answer_text (answer_of read r s)) × (x.1 ≡ moment_by latest read)) }
     ensures limit { IfOk result (λ x. x.1 ≤ moment_limit) }
-    ensures undone { OnErr result (Unanswered genesis latest read.now (record { desk = desk.old; told = S.told signer.old; faults = S.faults signer.old }) (record { desk = desk.new; told = S.told signer.new; faults = S.faults signer.new })) }
+    ensures undone { OnErr result (Unanswered domains.now latest read (record { desk = desk.old; told = S.told signer.old; faults = S.faults signer.old }) (record { desk = desk.new; told = S.told signer.new; faults = S.faults signer.new })) }
 {
     match read {
         Err(member) => {
-            let text = Answer::BadRequest(*member).line(alloc)?;
+            let text = Answer::BadRequest(member).line(alloc)?;
             Ok((text, latest))
         }
         Ok(request) => {
             let now = latest.max(request.epoch.unwrap_or(0));
-            let text = act(alloc, genesis, desk, signer, request.op, now)?;
+            let text = act(alloc, domains, desk, signer, request.op, now)?;
             Ok((text, now))
         }
     }

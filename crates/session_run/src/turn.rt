@@ -1,19 +1,21 @@
 //! One request at the desk and the signer.
-ghost use Rattle.std.specs.Prelude.{◌≡◌, ◌≤◌, IfOk, OnErr, Contains, IsSome, option_map, string_bytes};
-ghost use Rattle.check_sign.specs.Machine.{moment_limit};
+ghost use Rattle.std.specs.Prelude.{◌≡◌, ◌≤◌, IfOk, OnErr, Contains, IsSome, string_bytes};
+ghost use Rattle.std.specs.Map.{keys_of};
+ghost use Rattle.check_sign.specs.Machine.{MayCall, moment_limit};
 ghost use Rattle.check_sign.specs.declared.call.DeskReply.{DeskReply};
 ghost use Rattle.check_sign.specs.declared.call.Outcome.TheVariants.{Dropped};
-ghost use Rattle.signer_link.specs.declared.signer.SignReply.{SignReply};
-ghost use Rattle.session_run.specs.Answers.{answer_text};
-ghost use Rattle.session_run.specs.Turns.{IsAnswered, call_of, outcome_of, reply_answer, signed_answer};
 ghost use Rattle.signer_link.specs.InMemory.{root_of};
-ghost use Rattle.session_run.specs.Acts.{Acts, Signs, IsGiven};
+ghost use Rattle.signer_link.specs.declared.signer.SignReply.{SignReply};
+ghost use Rattle.session_format.specs.Answers.{answer_text};
+ghost use Rattle.session_run.specs.Turns.{IsAnswered, object_of, outcome_of, reply_answer, signed_answer};
+ghost use Rattle.session_run.specs.Acts.{Acts, CallsFor, Did, IsGiven, LeftUndone, ListsOnce, Signs};
 
-use crate::answer::{Answer, Cause};
-use crate::request::Op;
 use check_sign::{Desk, DeskCall, DeskReply, Grant, Outcome};
 use edge_kit::Root;
-use signer_link::{SignReply, SignRequest, Signer};
+use interchange_io::ReadFault;
+use session_format::{Answer, Cause, Op};
+use sign_roots::Domains;
+use signer_link::{SignObject, SignReply, SignRequest, Signer};
 use slash_defs::{Granted, Message};
 use std::alloc::{AllocError, Global};
 
@@ -21,59 +23,99 @@ use std::alloc::{AllocError, Global};
 /// `Sent` where its signature goes out, else `Dropped`. Where memory ran out, the desk's call may be done.
 pub fn act<S: Signer>(
     alloc: Global,
-    genesis: Root,
+    domains: &Domains,
     desk: &mut Desk,
     signer: &mut S,
     op: Op,
     now: u64,
 ) -> Result<String, AllocError>
-    requires { now ≤ moment_limit }
+    requires moment { now ≤ moment_limit }
+    requires once { ListsOnce op }
+    ensures done { IfOk result (λ text. Did domains.now op now (record { desk = desk.old; told = S.told signer.old; faults = S.faults signer.old }) (record { desk = desk.new; told = S.told signer.new; faults = S.faults signer.new }) (string_bytes text)) }
+    ensures undone { OnErr result (LeftUndone domains.now op now (record { desk = desk.old; told = S.told signer.old; faults = S.faults signer.old }) (record { desk = desk.new; told = S.told signer.new; faults = S.faults signer.new })) }
+{
+    let request = SignRequest {
+        fork: domains.fork,
+        genesis: domains.genesis,
+        object: object_in(&op),
+    };
+    match call_for(desk, op, now)? {
+        Ok(call) => call_desk(alloc, &request, desk, signer, call),
+        Err(fault) => Answer::BadFile(fault).line(alloc),
+    }
+}
+
+/// What a message was made of, where the line gave it.
+fn object_in(op: &Op) -> Option<SignObject>
+    ensures { result ≡ object_of op.now }
+{
+    match op {
+        Op::Propose { object, .. } => *object,
+        _ => None,
+    }
+}
+
+/// The desk's call of what a line asks; the fault where its text is no file.
+fn call_for(desk: &Desk, op: Op, now: u64) -> Result<Result<DeskCall, ReadFault>, AllocError>
+    requires moment { now ≤ moment_limit }
+    requires once { ListsOnce op }
+    ensures call { IfOk result (λ asked. CallsFor asked (keys_of desk.now.keys) op now) }
+    ensures may { IfOk result (λ asked. IfOk asked (λ c. MayCall desk.now.grants c)) }
+{
+    match op {
+        Op::Merge { file } => Ok(Ok(DeskCall::Merge { file })),
+        Op::BadFile { fault } => Ok(Err(fault)),
+        Op::Activate { key } => Ok(Ok(DeskCall::Activate { key, now })),
+        Op::Propose {
+            key,
+            message,
+            object: _,
+        } => Ok(Ok(DeskCall::Propose { key, message, now })),
+        Op::Export { keys: Some(keys) } => Ok(Ok(DeskCall::Export { keys })),
+        Op::Export { keys: None } => {
+            let keys = desk.kept_keys()?;
+            Ok(Ok(DeskCall::Export { keys }))
+        }
+        Op::Prune { key } => Ok(Ok(DeskCall::Prune { key })),
+    }
+}
+
+/// Calls the desk, and under the grant that it gives, if any, the signer.
+fn call_desk<S: Signer>(
+    alloc: Global,
+    request: &SignRequest,
+    desk: &mut Desk,
+    signer: &mut S,
+    call: DeskCall,
+) -> Result<String, AllocError>
+    requires { MayCall desk.old.grants call }
     ensures done { IfOk result (λ text. (r : DeskReply) × (s : SignReply)
-        × Acts genesis (record { desk = desk.old; told = S.told signer.old; faults = S.faults signer.old }) (record { desk = desk.new; told = S.told signer.new; faults = S.faults signer.new }) (call_of op now) r s (outcome_of s)
+        × Acts request.now (record { desk = desk.old; told = S.told signer.old; faults = S.faults signer.old }) (record { desk = desk.new; told = S.told signer.new; faults = S.faults signer.new }) call r s (outcome_of s)
         × IsAnswered r s × (string_bytes text ≡ answer_text (reply_answer r s))) }
     ensures undone { OnErr result ((r : DeskReply) × (s : SignReply)
-        × Acts genesis (record { desk = desk.old; told = S.told signer.old; faults = S.faults signer.old }) (record { desk = desk.new; told = S.told signer.new; faults = S.faults signer.new }) (call_of op now) r s Dropped) }
+        × Acts request.now (record { desk = desk.old; told = S.told signer.old; faults = S.faults signer.old }) (record { desk = desk.new; told = S.told signer.new; faults = S.faults signer.new }) call r s Dropped) }
 {
-    match desk.call(call_for(op, now)) {
-        DeskReply::Granted(grant) => sign(alloc, genesis, desk, signer, grant),
+    match desk.call(call) {
+        DeskReply::Granted(grant) => sign(alloc, request, desk, signer, grant),
+        DeskReply::Merged { keys } => Answer::Merged { keys }.line(alloc),
         DeskReply::Active | DeskReply::Already | DeskReply::Settled => Answer::Active.line(alloc),
+        DeskReply::Exported(file) => Answer::Exported(file).line(alloc),
+        DeskReply::Pruned(_) => Answer::Pruned.line(alloc),
+        DeskReply::GenesisDiffers { kept, given } => {
+            Answer::GenesisDiffers { kept, given }.line(alloc)
+        }
         DeskReply::Unknown => Answer::Unknown.line(alloc),
+        DeskReply::NotActive => Answer::NotActive.line(alloc),
         DeskReply::Refused(verdict) => Answer::Refused(verdict).line(alloc),
         DeskReply::TooManyKeys { have, new } => Answer::TooManyKeys { have, new }.line(alloc),
         DeskReply::OutOfMemory => Err(AllocError),
     }
 }
 
-/// The desk's call of what a line asks.
-fn call_for(op: Op, now: u64) -> DeskCall
-    ensures { result ≡ call_of op now }
-{
-    match op {
-        Op::Activate { key } => DeskCall::Activate { key, now },
-        Op::Block { key, slot, root } => {
-            let message = Message::Block { slot, root };
-            DeskCall::Propose { key, message, now }
-        }
-        Op::Vote {
-            key,
-            source,
-            target,
-            root,
-        } => {
-            let message = Message::Vote {
-                source,
-                target,
-                root,
-            };
-            DeskCall::Propose { key, message, now }
-        }
-    }
-}
-
 /// Has a granted message signed, and settles the grant.
 fn sign<S: Signer>(
     alloc: Global,
-    genesis: Root,
+    request: &SignRequest,
     desk: &mut Desk,
     signer: &mut S,
     grant: Grant,
@@ -81,12 +123,12 @@ fn sign<S: Signer>(
     requires is_open { Contains desk.old.grants grant }
     requires message { IsSome grant.message }
     ensures done { IfOk result (λ text. (s : SignReply)
-        × Signs genesis (record { desk = desk.old; told = S.told signer.old; faults = S.faults signer.old }) (record { desk = desk.new; told = S.told signer.new; faults = S.faults signer.new }) grant s (outcome_of s)
+        × Signs request.now (record { desk = desk.old; told = S.told signer.old; faults = S.faults signer.old }) (record { desk = desk.new; told = S.told signer.new; faults = S.faults signer.new }) grant s (outcome_of s)
         × IsGiven s × (string_bytes text ≡ answer_text (signed_answer grant.message s))) }
     ensures undone { OnErr result ((s : SignReply)
-        × Signs genesis (record { desk = desk.old; told = S.told signer.old; faults = S.faults signer.old }) (record { desk = desk.new; told = S.told signer.new; faults = S.faults signer.new }) grant s Dropped) }
+        × Signs request.now (record { desk = desk.old; told = S.told signer.old; faults = S.faults signer.old }) (record { desk = desk.new; told = S.told signer.new; faults = S.faults signer.new }) grant s Dropped) }
 {
-    let reply = signer.sign(&SignRequest { genesis }, &grant);
+    let reply = signer.sign(request, &grant);
     let message = grant.what().copied();
     let Ok(text) = signed_line(alloc, message, reply) else {
         desk.settle(grant, Outcome::Dropped);

@@ -5,4 +5,4 @@ mod mem_signer;
 mod signer;
 
 pub use mem_signer::MemSigner;
-pub use signer::{SignCall, SignReply, SignRequest, Signer};
+pub use signer::{SignCall, SignObject, SignReply, SignRequest, Signer};

@@ -8,13 +8,27 @@ ghost use Rattle.signer_link.specs.declared.signer.SignReply.{SignReply};
 ghost use Rattle.signer_link.specs.Signing.{asked, told_call};
 
 use edge_kit::{PubKey, Root, Sig};
+use phase0_types::{AttestationData, BeaconBlockHeader, Fork};
 use slash_defs::{Granted, Message};
+
+/// The object that a message was made of (Web3Signer: `beacon_block` with a header, `attestation`).
+#[derive(Clone, Copy, PartialEq, Eq, Debug)]
+pub enum SignObject {
+    /// The header of a block.
+    Header(BeaconBlockHeader),
+    /// The data of a vote.
+    Attestation(AttestationData),
+}
 
 /// What goes to the service beside the key and the message of the grant.
 #[derive(Clone, Copy, PartialEq, Eq, Debug)]
 pub struct SignRequest {
+    /// The chain's fork.
+    pub fork: Fork,
     /// The root of the chain's genesis validators.
     pub genesis: Root,
+    /// What the message was made of, where it is known.
+    pub object: Option<SignObject>,
 }
 
 /// A call of the service: the key, the message whose root is to be signed, and what went with it.

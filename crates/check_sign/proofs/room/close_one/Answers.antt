@@ -3,8 +3,8 @@ use Rattle.std.specs.Prelude.{Contains}
 use Rattle.check_sign.specs.declared.open_grant.OpenGrant.{OpenGrant}
 use Rattle.check_sign.proofs.room.close_one.Goals as goal
 
-pub returns-in_default-clause-open : goal.returns-in_default-clause-open
-returns-in_default-clause-open c =
+pub returns-in_default-clause-kept : goal.returns-in_default-clause-kept
+returns-in_default-clause-kept c =
     let g = c.requires in
     let P : List OpenGrant → Type 0 = λ l. Contains l g.0 in
     absurd (c.in_default.ensures.none g.0 (subst P (sym c.as_slice.ensures.value) g.1) g.2)

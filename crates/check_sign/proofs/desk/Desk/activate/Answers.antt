@@ -1,62 +1,67 @@
-use Rattle.std.proofs.Common.{List, refl, sym, ◌∙◌, subst, arith}
+use Rattle.std.proofs.Common.{◌≡◌, false, List, refl, sym, ap, ◌∙◌, subst, arith, rules}
 use Rattle.edge_kit.specs.declared.bytes.PubKey.{PubKey}
 use Rattle.protect_record.specs.Parts.{Parts}
-use Rattle.protect_record.specs.Pasts.{no_past}
-use Rattle.check_sign.specs.Keys.{EachKey, with_key}
-use Rattle.protect_record.specs.Standing.{Stands}
-use Rattle.check_sign.proofs.KeyLemmas.{each_absent, each_present, each_length, each_new}
-use Rattle.check_sign.proofs.MachineLemmas.{opened, restated}
+use Rattle.record_join.specs.Keys.{key_cmp}
+use Rattle.record_join.specs.BooksPasts.{BooksStand}
+use Rattle.std.specs.BTreeSet.{insert_key}
+use Rattle.check_sign.specs.States.{is_among}
+use Rattle.check_sign.proofs.MachineLemmas.{opened, restated, none_at, same_length, not_fits, fits, not_active, taken_out, known_pasts}
 use Rattle.check_sign.proofs.desk.Desk.activate.Goals as goal
 
-pub returns-then-contains_key-clause-machine : goal.returns-then-contains_key-clause-machine
-returns-then-contains_key-clause-machine c = λ state stands.
-    let s = opened c.args.self.now _ state c.self.view_is stands in (
-      each_present Stands c.self.inside.kept.entries state.keys c.args.key s.keys (sym c.contains_key.ensures ∙ c.if-contains_key.true),
-      restated _ state _ _ _ _ _ c.args.now _ s refl refl c.max-self-inside.ensures s.keys,
-    )
-
-pub returns-then-have-ge-KEY_LIMIT-clause-machine : goal.returns-then-have-ge-KEY_LIMIT-clause-machine
-returns-then-have-ge-KEY_LIMIT-clause-machine c = λ state stands.
-    let s = opened c.args.self.now _ state c.self.view_is stands in (
+pub returns-then-not-fits_one-clause-machine : goal.returns-then-not-fits_one-clause-machine
+returns-then-not-fits_one-clause-machine c = λ state stands.
+    let s = opened c.args.self.now _ state c.self.view_is stands in
+    let room = not_fits c.fits_one.result _ _ c.fits_one.ensures (search rules) in (
       (
-        each_absent Stands c.self.inside.kept.entries state.keys c.args.key s.keys (sym c.contains_key.ensures ∙ c.if-contains_key.false),
-        c.len-have.ensures.len ∙ each_length Stands c.self.inside.kept.entries state.keys s.keys,
+        not_active state.active c.contains.result c.args.key (c.contains.ensures ∙ ap (λ l. is_among l c.args.key) s.active) c.if-contains.false,
+        none_at c.self.inside.books state.keys c.args.key s.keys room.0,
+        c.len.ensures ∙ same_length c.self.inside.books state.keys s.keys,
         refl,
-        omega arith,
+        omega (arith, c.len.ensures, room.1),
       ),
-      restated _ state _ _ _ _ _ c.args.now _ s refl refl c.max-self-inside.ensures s.keys,
+      restated _ _ state _ _ _ _ _ _ _ c.args.now _ s refl s.active refl refl c.max-self-inside.ensures s.keys,
     )
 
 pub returns-then-not-make_room-clause-machine : goal.returns-then-not-make_room-clause-machine
 returns-then-not-make_room-clause-machine c = λ state stands.
     let s = opened c.args.self.now _ state c.self.view_is stands in (
       (
-        each_absent Stands c.self.inside.kept.entries state.keys c.args.key s.keys (sym c.contains_key.ensures ∙ c.if-contains_key.false),
-        omega (arith, c.len-have.ensures.len, each_length Stands c.self.inside.kept.entries state.keys s.keys),
+        not_active state.active c.contains.result c.args.key (c.contains.ensures ∙ ap (λ l. is_among l c.args.key) s.active) c.if-contains.false,
+        fits c.fits_one.result c.self.inside.books state.keys c.args.key c.fits_one.ensures (search rules) s.keys,
       ),
-      restated _ state _ _ _ _ _ c.args.now _ s c.make_room.ensures.open refl c.max-self-inside.ensures s.keys,
+      restated _ _ state _ _ _ _ _ _ _ c.args.now _ s refl s.active c.make_room.ensures.kept refl c.max-self-inside.ensures s.keys,
     )
 
 pub returns-in_default-clause-machine : goal.returns-in_default-clause-machine
 returns-in_default-clause-machine c = λ state stands.
-    let s = opened c.args.self.now _ state c.self.view_is stands in
-    let E : List (PubKey × Parts) → Type 0 = λ l. EachKey Stands l state.keys in (
+    let s = opened c.args.self.now _ state c.self.view_is stands in (
       (
-        each_absent Stands c.self.inside.kept.entries state.keys c.args.key s.keys (sym c.contains_key.ensures ∙ c.if-contains_key.false),
-        omega (arith, c.len-have.ensures.len, each_length Stands c.self.inside.kept.entries state.keys s.keys),
+        not_active state.active c.contains.result c.args.key (c.contains.ensures ∙ ap (λ l. is_among l c.args.key) s.active) c.if-contains.false,
+        fits c.fits_one.result c.self.inside.books state.keys c.args.key c.fits_one.ensures (search rules) s.keys,
       ),
-      restated _ state _ _ _ _ _ c.args.now _ s c.make_room.ensures.open refl c.max-self-inside.ensures (subst E (sym c.in_default.ensures.err) s.keys),
+      restated _ _ state _ _ _ _ _ _ _ c.args.now _ s refl (c.in_default.ensures.err ∙ s.active) c.make_room.ensures.kept refl c.max-self-inside.ensures s.keys,
+    )
+
+pub returns-in_default-begin-clause-machine : goal.returns-in_default-begin-clause-machine
+returns-in_default-begin-clause-machine c = λ state stands.
+    let s = opened c.args.self.now _ state c.self.view_is stands in
+    let B : List (PubKey × Parts) → Type 0 = λ l. BooksStand l state.keys in
+    let absent : is_among c.self.inside.active.keys c.args.key ≡ false = sym c.contains.ensures ∙ c.if-contains.false in (
+      (
+        not_active state.active c.contains.result c.args.key (c.contains.ensures ∙ ap (λ l. is_among l c.args.key) s.active) c.if-contains.false,
+        fits c.fits_one.result c.self.inside.books state.keys c.args.key c.fits_one.ensures (search rules) s.keys,
+      ),
+      restated _ _ state _ _ _ _ _ _ _ c.args.now _ s refl (rw (c.remove.ensures.keys, c.in-Ok.ensures.keys, taken_out c.self.inside.active.keys c.args.key absent) s.active) c.make_room.ensures.kept refl c.max-self-inside.ensures
+          (subst B (sym c.in_default-begin.ensures.err) s.keys),
     )
 
 pub returns-clause-machine : goal.returns-clause-machine
 returns-clause-machine c = λ state stands.
-    let s = opened c.args.self.now _ state c.self.view_is stands in
-    let begins = c.in-Ok.ensures.ok in
-    let E : List (PubKey × Parts) → Type 0 = λ l. EachKey Stands l (with_key state.keys c.args.key no_past) in (
+    let s = opened c.args.self.now _ state c.self.view_is stands in (
       (
-        each_absent Stands c.self.inside.kept.entries state.keys c.args.key s.keys (sym c.contains_key.ensures ∙ c.if-contains_key.false),
-        omega (arith, c.len-have.ensures.len, each_length Stands c.self.inside.kept.entries state.keys s.keys),
+        not_active state.active c.contains.result c.args.key (c.contains.ensures ∙ ap (λ l. is_among l c.args.key) s.active) c.if-contains.false,
+        fits c.fits_one.result c.self.inside.books state.keys c.args.key c.fits_one.ensures (search rules) s.keys,
       ),
-      restated _ state _ _ _ _ _ c.args.now _ s c.make_room.ensures.open refl c.max-self-inside.ensures
-          (subst E (sym begins.entries) (each_new Stands _ _ c.args.key begins.parts no_past s.keys begins.stands)),
+      restated _ _ state _ _ _ _ _ _ _ c.args.now _ s refl (c.in-Ok.ensures.keys ∙ ap (λ l. insert_key key_cmp l c.args.key) s.active) c.make_room.ensures.kept refl c.max-self-inside.ensures
+          (known_pasts c.self.inside.books c.begin.new.self state.keys c.args.key s.keys c.in-Ok-begin.ensures.known c.in-Ok-begin.ensures.begun),
     )

@@ -1,38 +1,25 @@
-use Rattle.std.proofs.Common.{List, Some, refl, sym, ap, subst}
-use Rattle.edge_kit.specs.declared.bytes.PubKey.{PubKey}
-use Rattle.protect_record.specs.Parts.{Parts}
-use Rattle.check_sign.specs.Keys.{EachKey}
-use Rattle.protect_record.specs.Standing.{Stands}
-use Rattle.check_sign.proofs.KeyLemmas.{each_none}
-use Rattle.check_sign.proofs.MachineLemmas.{opened, restated, refused, no_room, granted, opened_one}
+use Rattle.std.proofs.Common.{◌≡◌, List, Some, None, refl, sym, ap, ◌∙◌, subst, rules, ◌++◌, ◌∷◌, [], Contains}
+use Rattle.std.proofs.lemmas.List.Elements.{Contains-push}
+use Rattle.check_sign.specs.States.{is_among}
+use Rattle.check_sign.specs.declared.open_grant.OpenGrant.{OpenGrant}
+use Rattle.check_sign.proofs.MachineLemmas.{opened, restated, none_at, some_at, is_some_of, not_active}
 use Rattle.check_sign.proofs.desk.Desk.propose.Goals as goal
 
-pub returns-in-Unknown-clause-machine : goal.returns-in-Unknown-clause-machine
-returns-in-Unknown-clause-machine c = λ state stands.
+pub returns-in_default-clause-machine : goal.returns-in_default-clause-machine
+returns-in_default-clause-machine c = λ state stands.
     let s = opened c.args.self.now _ state c.self.view_is stands in
-    let takes = c.in-Unknown.ensures.takes in
-    let E : List (PubKey × Parts) → Type 0 = λ l. EachKey Stands l state.keys in (
-      each_none Stands c.self.inside.kept.entries state.keys c.args.key s.keys takes.0,
-      restated _ state _ _ _ _ _ c.args.now _ s c.make_room-has_room.ensures.open refl c.max-self-inside.ensures (subst E (sym takes.1) s.keys),
+    (none_at c.self.inside.books state.keys c.args.key s.keys (search rules), restated _ _ state _ _ _ _ _ _ _ c.args.now _ s refl s.active refl refl c.max-self-inside.ensures s.keys)
+
+pub returns-then-not-contains-clause-machine : goal.returns-then-not-contains-clause-machine
+returns-then-not-contains-clause-machine c = λ state stands.
+    let s = opened c.args.self.now _ state c.self.view_is stands in
+    let at = some_at c.self.inside.books state.keys c.args.key c.in-Some.field-0.now s.keys (search rules) in (
+      (is_some_of _ at.0 at.1, not_active state.active c.contains.result c.args.key (c.contains.ensures ∙ ap (λ l. is_among l c.args.key) s.active) (search rules)),
+      restated _ _ state _ _ _ _ _ _ _ c.args.now _ s refl s.active refl refl c.max-self-inside.ensures s.keys,
     )
 
-pub returns-in-Refused-clause-machine : goal.returns-in-Refused-clause-machine
-returns-in-Refused-clause-machine c = λ state stands.
-    let s = opened c.args.self.now _ state c.self.view_is stands in
-    let takes = c.in-Refused.ensures.takes in
-    let at = refused _ _ state c.args.key c.args.message c.in-Refused.verdict s.keys takes.0 takes.1 in
-    (at.0, restated _ state _ _ _ _ _ c.args.now _ s c.make_room-has_room.ensures.open refl c.max-self-inside.ensures at.1)
-
-pub returns-in-NoRoom-clause-machine : goal.returns-in-NoRoom-clause-machine
-returns-in-NoRoom-clause-machine c = λ state stands.
-    let s = opened c.args.self.now _ state c.self.view_is stands in
-    let at = no_room _ _ state c.args.key c.args.message s.keys c.in-NoRoom.ensures.takes in
-    (at.0, restated _ state _ _ _ _ _ c.args.now _ s c.make_room-has_room.ensures.open refl c.max-self-inside.ensures at.1)
-
-pub returns-in-Added-clause-machine : goal.returns-in-Added-clause-machine
-returns-in-Added-clause-machine c = λ state stands.
-    let s = opened c.args.self.now _ state c.self.view_is stands in
-    let at = granted _ _ state c.args.key c.args.message s.keys c.in-Added.ensures.takes in (
-      (at.0, ap (λ n. record { number = n; key = c.args.key; message = Some c.args.message }) s.next),
-      opened_one _ state _ _ _ _ _ _ c.args.now _ s c.open_one.ensures.open c.make_room-has_room.ensures.open c.max-self-inside.ensures at.1,
-    )
+pub returns-in-Added-clause-is_open : goal.returns-in-Added-clause-is_open
+returns-in-Added-clause-is_open c =
+    let P : List OpenGrant → Type 0 = λ l. Contains l c.give.result in
+    let here : c.give.new.grants.items ≡ c.make_room-has_room.new.grants.items ++ c.give.result ∷ [] = search rules in
+    subst P (sym here) (Contains-push c.make_room-has_room.new.grants.items c.give.result)

@@ -1,0 +1,43 @@
+-- What is handed over of the kept keys, and the book that prunes one.
+use Rattle.std.specs.Prelude.{◌≡◌, Bool, true, false, List, Option, None, Some, IsSomeAnd, option_map}
+use Rattle.edge_kit.specs.declared.bytes.PubKey.{PubKey}
+use Rattle.slash_defs.specs.declared.book.Book.{Book}
+use Rattle.protect_record.specs.Parts.{Parts}
+use Rattle.protect_record.specs.Pasts.{Past}
+use Rattle.protect_record.specs.Standing.{Stands}
+use Rattle.protect_record.specs.Exporting.{export_of, prune_book}
+use Rattle.record_join.specs.Keys.{kept_of}
+use Rattle.record_join.specs.BooksPasts.{EachOnce}
+use Rattle.check_sign.specs.States.{is_among}
+
+-- the book that the record of this past exports
+pub record IsExport (past : Past) (book : Book) : Type 0 where
+  pub parts : Parts
+  pub stands : Stands parts past
+  pub value : book ≡ export_of parts
+
+-- the book that prunes the record of this past
+pub record IsPruning (past : Past) (book : Book) : Type 0 where
+  pub parts : Parts
+  pub stands : Stands parts past
+  pub value : book ≡ prune_book parts
+
+-- what is exported of one key: where it was asked for and is kept, its export
+abbrev pub ExportsOne : Bool → Option Past → Option Book → Type 0
+ExportsOne true (Some past) book = IsSomeAnd book (λ b. IsExport past b)
+ExportsOne true None book = book ≡ None
+ExportsOne false past book = book ≡ None
+
+-- of each kept key that was asked for its export, of no other key anything, and no key twice
+pub record Exports (pasts : List (PubKey × Past)) (asked : List PubKey) (books : List (PubKey × Book)) : Type 0 where
+  pub each : (key : PubKey) → ExportsOne (is_among asked key) (kept_of pasts key) (kept_of books key)
+  pub once : EachOnce books
+
+-- the same of records: what is exported of a key
+abbrev pub export_at : Bool → Option Parts → Option Book
+export_at true parts = option_map export_of parts
+export_at false parts = None
+
+-- the books found for these keys are the exports of their records
+abbrev pub AreExports : List (PubKey × Parts) → List PubKey → List (PubKey × Book) → Type 0
+AreExports kept asked found = (key : PubKey) → kept_of found key ≡ export_at (is_among asked key) (kept_of kept key)
