@@ -42,6 +42,40 @@ const VOTE: AttestationData = AttestationData {
     },
 };
 
+const SIGNED_HEADER: Signed<BeaconBlockHeader> = Signed {
+    message: HEADER,
+    signature: SIGNATURE,
+};
+
+const PROPOSER_SLASHING: ProposerSlashing = ProposerSlashing {
+    signed_header_1: SIGNED_HEADER,
+    signed_header_2: SIGNED_HEADER,
+};
+
+const DEPOSIT: Deposit = Deposit {
+    proof: [Root([0x77; 32]); 33],
+    details: DepositData {
+        pubkey: PubKey([0x55; 48]),
+        withdrawal_credentials: [0x66; 32],
+        amount: 32_000_000_000,
+        signature: SIGNATURE,
+    },
+};
+
+const EXIT: Signed<VoluntaryExit> = Signed {
+    message: VoluntaryExit {
+        epoch: 9,
+        validator_index: 10,
+    },
+    signature: SIGNATURE,
+};
+
+const ETH1_DATA: Eth1Data = Eth1Data {
+    deposit_root: Root([0x88; 32]),
+    deposit_count: 12,
+    block_hash: Root([0x99; 32]),
+};
+
 /// A list of one value.
 fn one<T: Drop, const LIMIT: usize>(
     rt: &impl Abort,
@@ -75,74 +109,35 @@ fn indexed(rt: &impl Abort, alloc: Global) -> Result<IndexedAttestation, AllocEr
     })
 }
 
-fn block(rt: &impl Abort, alloc: Global) -> Result<BeaconBlock, AllocError> {
-    let signed_header = Signed {
-        message: HEADER,
-        signature: SIGNATURE,
+fn body(rt: &impl Abort, alloc: Global) -> Result<BeaconBlockBody, AllocError> {
+    let attester_slashing = AttesterSlashing {
+        attestation_1: indexed(rt, alloc)?,
+        attestation_2: indexed(rt, alloc)?,
     };
     let mut attestations = Vec::new(alloc);
     attestations.push(attestation(rt, alloc)?)?;
     attestations.push(attestation(rt, alloc)?)?;
-    let deposit_data = DepositData {
-        pubkey: PubKey([0x55; 48]),
-        withdrawal_credentials: [0x66; 32],
-        amount: 32_000_000_000,
-        signature: SIGNATURE,
-    };
-    let exit = VoluntaryExit {
-        epoch: 9,
-        validator_index: 10,
-    };
-    let body = BeaconBlockBody {
+    Ok(BeaconBlockBody {
         randao_reveal: Sig([0xaa; 96]),
-        eth1_data: Eth1Data {
-            deposit_root: Root([0x88; 32]),
-            deposit_count: 12,
-            block_hash: Root([0x99; 32]),
-        },
+        eth1_data: ETH1_DATA,
         graffiti: [0xbb; 32],
-        proposer_slashings: one(
-            rt,
-            alloc,
-            ProposerSlashing {
-                signed_header_1: signed_header,
-                signed_header_2: signed_header,
-            },
-        ),
-        attester_slashings: one(
-            rt,
-            alloc,
-            AttesterSlashing {
-                attestation_1: indexed(rt, alloc)?,
-                attestation_2: indexed(rt, alloc)?,
-            },
-        ),
+        proposer_slashings: one(rt, alloc, PROPOSER_SLASHING),
+        attester_slashings: one(rt, alloc, attester_slashing),
         attestations: BoundedList::try_new(attestations)
             .ok()
             .expect(rt, "two attestations"),
-        deposits: one(
-            rt,
-            alloc,
-            Deposit {
-                proof: [Root([0x77; 32]); 33],
-                details: deposit_data,
-            },
-        ),
-        voluntary_exits: one(
-            rt,
-            alloc,
-            Signed {
-                message: exit,
-                signature: SIGNATURE,
-            },
-        ),
-    };
+        deposits: one(rt, alloc, DEPOSIT),
+        voluntary_exits: one(rt, alloc, EXIT),
+    })
+}
+
+fn block(rt: &impl Abort, alloc: Global) -> Result<BeaconBlock, AllocError> {
     Ok(BeaconBlock {
         slot: 1,
         proposer_index: 2,
         parent_root: Root([3; 32]),
         state_root: Root([4; 32]),
-        body,
+        body: body(rt, alloc)?,
     })
 }
 

@@ -1,5 +1,5 @@
 -- The name of each member in JSON (Beacon API, the schemas of its containers).
-use Rattle.std.specs.Prelude.{ℕ, List, codes}
+use Rattle.std.specs.Prelude.{ℕ, List, Bool, true, false, codes}
 use Rattle.phase0_types.specs.declared.member.Member.{Member}
 use Rattle.phase0_types.specs.declared.member.Member.TheVariants as member
 
@@ -46,3 +46,23 @@ member_name member.WithdrawalCredentials = codes "withdrawal_credentials"
 member_name member.Amount = codes "amount"
 member_name member.ValidatorIndex = codes "validator_index"
 member_name member.Message = codes "message"
+
+-- no fork, signing data, header or attestation data has it
+abbrev pub is_in_bodies : Member → Bool
+is_in_bodies member.PreviousVersion = false
+is_in_bodies member.CurrentVersion = false
+is_in_bodies member.Epoch = false
+is_in_bodies member.GenesisValidatorsRoot = false
+is_in_bodies member.ObjectRoot = false
+is_in_bodies member.Domain = false
+is_in_bodies member.Root = false
+is_in_bodies member.Slot = false
+is_in_bodies member.Index = false
+is_in_bodies member.BeaconBlockRoot = false
+is_in_bodies member.Source = false
+is_in_bodies member.Target = false
+is_in_bodies member.ProposerIndex = false
+is_in_bodies member.ParentRoot = false
+is_in_bodies member.StateRoot = false
+is_in_bodies member.BodyRoot = false
+is_in_bodies _ = true

@@ -1,6 +1,6 @@
 //! The members of the containers, by the names that the Beacon API's JSON gives them.
-ghost use Rattle.std.specs.Prelude.{◌≡◌};
-ghost use Rattle.phase0_types.specs.Members.{member_name};
+ghost use Rattle.std.specs.Prelude.{◌≡◌, IsTrue};
+ghost use Rattle.phase0_types.specs.Members.{member_name, is_in_bodies};
 
 /// A member of a container (Beacon API; consensus-specs, "Phase 0", "Containers").
 #[derive(Clone, Copy, PartialEq, Eq, Debug)]
@@ -72,6 +72,15 @@ impl Member {
             Member::ParentRoot => "parent_root",
             Member::StateRoot => "state_root",
             Member::BodyRoot => "body_root",
+            _ => self.name_in_bodies(),
+        }
+    }
+
+    /// Its name, where no fork, signing data, header or attestation data has it; else nothing.
+    fn name_in_bodies(self) -> &'static str
+        ensures { IsTrue (is_in_bodies self) → result.now ≡ member_name self }
+    {
+        match self {
             Member::Body => "body",
             Member::RandaoReveal => "randao_reveal",
             Member::Eth1Data => "eth1_data",
@@ -98,6 +107,7 @@ impl Member {
             Member::Amount => "amount",
             Member::ValidatorIndex => "validator_index",
             Member::Message => "message",
+            _ => "",
         }
     }
 }

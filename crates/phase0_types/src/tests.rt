@@ -14,60 +14,66 @@ fn root_of(rt: &impl Abort, text: &str) -> Root {
 
 const ZERO: Root = Root([0; 32]);
 
+const CHECKPOINT: Checkpoint = Checkpoint {
+    epoch: 0,
+    root: ZERO,
+};
+
+const ETH1_DATA: Eth1Data = Eth1Data {
+    deposit_root: ZERO,
+    deposit_count: 0,
+    block_hash: ZERO,
+};
+
+const HEADER: BeaconBlockHeader = BeaconBlockHeader {
+    slot: 0,
+    proposer_index: 0,
+    parent_root: ZERO,
+    state_root: ZERO,
+    body_root: ZERO,
+};
+
+const FORK: Fork = Fork {
+    previous_version: [1, 0, 0, 0],
+    current_version: [2, 0, 0, 0],
+    epoch: 5,
+};
+
+const FORK_DATA: ForkData = ForkData {
+    current_version: [2, 0, 0, 0],
+    genesis_validators_root: Root([0xcc; 32]),
+};
+
+const SIGNING_DATA: SigningData = SigningData {
+    object_root: Root([0xdd; 32]),
+    domain: [0xee; 32],
+};
+
 #[test]
 fn roots_of_small_containers(rt: HostRuntime) {
-    let checkpoint = Checkpoint {
-        epoch: 0,
-        root: ZERO,
-    };
-    let eth1_data = Eth1Data {
-        deposit_root: ZERO,
-        deposit_count: 0,
-        block_hash: ZERO,
-    };
-    let header = BeaconBlockHeader {
-        slot: 0,
-        proposer_index: 0,
-        parent_root: ZERO,
-        state_root: ZERO,
-        body_root: ZERO,
-    };
-    let fork = Fork {
-        previous_version: [1, 0, 0, 0],
-        current_version: [2, 0, 0, 0],
-        epoch: 5,
-    };
-    let fork_data = ForkData {
-        current_version: [2, 0, 0, 0],
-        genesis_validators_root: Root([0xcc; 32]),
-    };
-    let signing_data = SigningData {
-        object_root: Root([0xdd; 32]),
-        domain: [0xee; 32],
-    };
     let table = [
         (
-            checkpoint.root(),
+            CHECKPOINT.root(),
             "0xf5a5fd42d16a20302798ef6ed309979b43003d2320d9f0e8ea9831a92759fb4b",
         ),
         (
-            eth1_data.root(),
+            ETH1_DATA.root(),
             "0xdb56114e00fdd4c1f85c892bf35ac9a89289aaecb1ebd0a96cde606a748b5d71",
         ),
         (
-            header.root(),
+            HEADER.root(),
             "0xc78009fdf07fc56a11f122370658a353aaa542ed63e44c4bc15ff4cd105ab33c",
         ),
         (
-            fork.root(),
+            FORK.root(),
             "0x48bf63b1741e8c9b1902d2f16e60f4f7398c2b10ee7c0de3569ee7808b810029",
         ),
         (
-            fork_data.root(),
+            FORK_DATA.root(),
             "0x3ac87e2bf74e75512d0cafeef9434d72483b7b7a3483b6a2a808e382c5dda4ff",
         ),
         (
-            signing_data.root(),
+            SIGNING_DATA.root(),
             "0x76d3d65e76606ae16124bd6ab8361570c994ebbaaf8a862d02a2b7c05b53813b",
         ),
     ];

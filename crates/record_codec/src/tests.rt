@@ -8,6 +8,37 @@ const KEY: PubKey = PubKey([0x11; 48]);
 
 const ROOT: Root = Root([0xaa; 32]);
 
+/// The eight bytes of 2.
+const TWO: [u8; 8] = [2, 0, 0, 0, 0, 0, 0, 0];
+
+/// The eight bytes of 9.
+const NINE: [u8; 8] = [9, 0, 0, 0, 0, 0, 0, 0];
+
+const BLOCK: JournalItem = JournalItem::Block {
+    key: KEY,
+    entry: BlockEntry {
+        slot: 9,
+        root: Some(ROOT),
+    },
+};
+
+const VOTE: JournalItem = JournalItem::Vote {
+    key: KEY,
+    entry: VoteEntry {
+        source: 2,
+        target: 9,
+        root: None,
+    },
+};
+
+fn floors(block: Option<u64>, vote: Option<(u64, u64)>) -> JournalItem {
+    JournalItem::Floors {
+        key: KEY,
+        block,
+        vote,
+    }
+}
+
 fn joined(alloc: Global, parts: &[&[u8]]) -> Result<Vec<u8>, AllocError> {
     let mut bytes = Vec::new(alloc);
     for part in parts {
@@ -31,62 +62,16 @@ fn a_block_without_a_root_has_58_bytes(rt: HostRuntime) -> Result<(), Fail> {
 
 #[test]
 fn each_item_has_one_spelling(rt: HostRuntime) -> Result<(), Fail> {
-    let slot_9 = [9, 0, 0, 0, 0, 0, 0, 0];
-    let most = [0xff; 8];
-    let two = [2, 0, 0, 0, 0, 0, 0, 0];
-    let rooted = BlockEntry {
-        slot: 9,
-        root: Some(ROOT),
-    };
-    let vote = VoteEntry {
-        source: 2,
-        target: 9,
-        root: None,
-    };
     let table: [(u8, [&[u8]; 4], JournalItem); 7] = [
-        (
-            1,
-            [&slot_9, &[1], &[0xaa; 32], &[]],
-            JournalItem::Block {
-                key: KEY,
-                entry: rooted,
-            },
-        ),
-        (
-            2,
-            [&two, &slot_9, &[0], &[]],
-            JournalItem::Vote {
-                key: KEY,
-                entry: vote,
-            },
-        ),
+        (1, [&NINE, &[1], &[0xaa; 32], &[]], BLOCK),
+        (2, [&TWO, &NINE, &[0], &[]], VOTE),
+        (3, [&[0], &[0], &[], &[]], floors(None, None)),
         (
             3,
-            [&[0], &[0], &[], &[]],
-            JournalItem::Floors {
-                key: KEY,
-                block: None,
-                vote: None,
-            },
+            [&[1], &[0xff; 8], &[0], &[]],
+            floors(Some(u64::MAX), None),
         ),
-        (
-            3,
-            [&[1], &most, &[0], &[]],
-            JournalItem::Floors {
-                key: KEY,
-                block: Some(u64::MAX),
-                vote: None,
-            },
-        ),
-        (
-            3,
-            [&[0], &[1], &two, &slot_9],
-            JournalItem::Floors {
-                key: KEY,
-                block: None,
-                vote: Some((2, 9)),
-            },
-        ),
+        (3, [&[0], &[1], &TWO, &NINE], floors(None, Some((2, 9)))),
         (4, [&[], &[], &[], &[]], JournalItem::Activate { key: KEY }),
         (5, [&[], &[], &[], &[]], JournalItem::Close { key: KEY }),
     ];

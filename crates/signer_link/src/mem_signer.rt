@@ -3,7 +3,7 @@ ghost use Rattle.std.specs.Prelude.{◌≡◌, ◌≤◌, ◌<◌, ◌++◌, ◌
 ghost use Rattle.edge_kit.specs.Causes.{Rose};
 ghost use Rattle.edge_kit.specs.Tellings.{Tells};
 ghost use Rattle.signer_link.specs.Signing.{asked, told_call};
-ghost use Rattle.signer_link.specs.InMemory.{MemReplies, Lacks, FailsNext, mem_signature, root_of};
+ghost use Rattle.signer_link.specs.InMemory.{Counts, MemReplies, Lacks, FailsNext, mem_signature, root_of};
 
 use crate::signer::{SignCall, SignReply, SignRequest, Signer};
 use edge_kit::{PubKey, Root, Sig};
@@ -26,6 +26,8 @@ impl MemSigner {
     pub fn new(alloc: Global, lacking: Vec<PubKey>, failing: Vec<u64>) -> Self
         ensures told { result.told.items ≡ [] }
         ensures lacking { result.lacking.items ≡ lacking.items }
+        ensures failing { result.failing.items ≡ failing.items }
+        ensures none_counted { (result.calls ≡ 0) × (result.faults ≡ 0) }
         ensures none_failing { failing.items ≡ [] → FailsNext result → ⊥ }
     {
         MemSigner {
@@ -43,6 +45,9 @@ impl MemSigner {
         ensures later { self.old.faults ≤ self.new.faults }
         ensures fault { result ≡ SignReply.Fault → Rose self.old.faults self.new.faults }
         ensures reply { MemReplies self.old key message result }
+        ensures lacking { self.new.lacking.items ≡ self.old.lacking.items }
+        ensures failing { self.new.failing.items ≡ self.old.failing.items }
+        ensures counts { Counts self.old self.new result }
     {
         if self.told.reserve(1).is_err() {
             return SignReply::OutOfMemory;
@@ -62,6 +67,9 @@ impl MemSigner {
         ensures reply { MemReplies self.old key.now message.now result }
         ensures given { (result ≡ SignReply.OutOfMemory) → ⊥ }
         ensures told { self.new.told ≡ self.old.told }
+        ensures lacking { self.new.lacking.items ≡ self.old.lacking.items }
+        ensures failing { self.new.failing.items ≡ self.old.failing.items }
+        ensures counts { Counts self.old self.new result }
         ensures later { self.old.faults ≤ self.new.faults }
         ensures fault { result ≡ SignReply.Fault → Rose self.old.faults self.new.faults }
     {
@@ -90,6 +98,9 @@ impl Signer for MemSigner {
         ensures later { self.old.faults ≤ self.new.faults }
         ensures fault { result ≡ SignReply.Fault → Rose self.old.faults self.new.faults }
         ensures reply { IfSome (G.granted_message grant.now) (λ message. MemReplies self.old (G.granted_key grant.now) message result) }
+        ensures lacking { self.new.lacking.items ≡ self.old.lacking.items }
+        ensures failing { self.new.failing.items ≡ self.old.failing.items }
+        ensures counts { Counts self.old self.new result }
     {
         let key = *grant.key();
         match grant.what() {

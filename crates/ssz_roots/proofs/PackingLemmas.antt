@@ -2,14 +2,15 @@
 use Rattle.std.proofs.Common.{◌≡◌, ℕ, zero, suc, ◌+◌, ◌-◌, ◌*◌, ◌^◌, ◌<◌, min, Bool, cond, List, [], ◌∷◌, ◌++◌, length, take, drop, replicate, get_or, Some, refl, sym, ap, ◌∙◌, append_assoc, inl, inr, arith, length-append, length-take, length-drop}
 use Rattle.std.specs.Prelude.{slice_get}
 use Rattle.std.specs.Int.{w64, to_le_bytes, div_ceil}
-use Rattle.std.proofs.lemmas.List.{append-nil, same_lists, get_or-drop, drop-replicate, take_min, take_at, drop_at, map_push, drop_all, drop-drop, take_all, get_or_default, take_more, length-take-le, length-replicate, get_or-replicate, get_or_append_left, get_or-append_right, get_or-take}
+use Rattle.std.proofs.lemmas.List.{same_lists, get_or-drop, drop-replicate, take_min, take_at, drop_at, map_push, drop_all, drop-drop, take_all, get_or_default, take_more, length-take-le, length-replicate, get_or-replicate, get_or_append_left, get_or-append_right, get_or-take}
 use Rattle.std.proofs.lemmas.List.FromFn.{length-map-range_with_len, get_or-map-range_with_len}
 use Rattle.std.proofs.lemmas.Option.{slice_get-get_or, slice_get_within, get_or_from_slice_get}
 use Rattle.std.proofs.lemmas.Bool.{cases_lt}
 use Rattle.std.proofs.Math.Nat.{pow-succ'}
 use Rattle.edge_kit.specs.declared.bytes.Root.{Root}
-use Rattle.ssz_roots.specs.Trees.{root_chunks, merkle_root, tree_root, padded, depth_of, depth_from}
+use Rattle.ssz_roots.specs.Trees.{root_chunks}
 use borrow.Rule.Slice.PartMut.{put_mid}
+use Rattle.ssz_roots.specs.PackingLaws.{length-bit_bytes, get_or-bit_bytes}
 use Rattle.ssz_roots.specs.Packing.{chunk_from, packed, bits_value, bit_bytes, number_bytes}
 
 -- ---- how many chunks and bytes there are
@@ -17,10 +18,6 @@ use Rattle.ssz_roots.specs.Packing.{chunk_from, packed, bits_value, bit_bytes, n
 pub length-packed : (bytes : List ℕ) → length (packed bytes) ≡ div_ceil (length bytes) 32
 unfolding packed
 length-packed bytes = length-map-range_with_len (λ k. chunk_from (drop (32 * k) bytes)) 0 (div_ceil (length bytes) 32)
-
-pub length-bit_bytes : (bits : List Bool) → length (bit_bytes bits) ≡ div_ceil (length bits) 8
-unfolding bit_bytes
-length-bit_bytes bits = length-map-range_with_len (λ k. bits_value (take 8 (drop (8 * k) bits))) 0 (div_ceil (length bits) 8)
 
 pub length-number_bytes : (numbers : List ℕ) → length (number_bytes numbers) ≡ 8 * length numbers
 unfolding number_bytes
@@ -53,11 +50,6 @@ get_or-packed bytes index other h =
 
 pub slice_get-packed : (bytes : List ℕ) (index : ℕ) → index < length (packed bytes) → slice_get (packed bytes) index ≡ Some (chunk_from (drop (32 * index) bytes))
 slice_get-packed bytes index h = slice_get-get_or (packed bytes) index [] h ∙ ap (λ x. Some x) (get_or-packed bytes index [] h)
-
-pub get_or-bit_bytes : (bits : List Bool) (k other : ℕ) → k < length (bit_bytes bits) → get_or (bit_bytes bits) k other ≡ bits_value (take 8 (drop (8 * k) bits))
-unfolding bit_bytes
-get_or-bit_bytes bits k other h =
-    get_or-map-range_with_len (λ k. bits_value (take 8 (drop (8 * k) bits))) 0 (div_ceil (length bits) 8) k k other (let e = length-bit_bytes bits in omega arith) (omega arith)
 
 drop-number_bytes : (k : ℕ) (numbers : List ℕ) → drop (8 * k) (number_bytes numbers) ≡ number_bytes (drop k numbers)
 unfolding number_bytes
@@ -161,30 +153,3 @@ pub chunks_push : (chunks now : List Root) (more : Root) (all : List (List ℕ))
 chunks_push chunks now more all index so_far same here =
     let within = slice_get_within all index more.0 here in
     ap root_chunks same ∙ map_push (λ (root : Root). root.0) chunks more ∙ rw (so_far, take_more all index [] within, get_or_from_slice_get all index more.0 [] here)
-
--- the first eight bits are the first byte
-pub bit_bytes-more : (bits : List Bool) → 0 < length bits → bit_bytes bits ≡ bits_value (take 8 bits) ∷ bit_bytes (drop 8 bits)
-bit_bytes-more bits some =
-    let whole = length-bit_bytes bits in
-    let rest = length-bit_bytes (drop 8 bits) in
-    let less = length-drop 8 bits in
-    same_lists (bit_bytes bits) (bits_value (take 8 bits) ∷ bit_bytes (drop 8 bits)) (omega arith) at
-  where
-    at : (k d : ℕ) → k < length (bit_bytes bits) → get_or (bit_bytes bits) k d ≡ get_or (bits_value (take 8 bits) ∷ bit_bytes (drop 8 bits)) k d
-    at zero d h = get_or-bit_bytes bits 0 d h
-    at (suc k) d h =
-        let whole = length-bit_bytes bits in
-        let rest = length-bit_bytes (drop 8 bits) in
-        let less = length-drop 8 bits in
-        let here : 8 * suc k ≡ 8 + 8 * k = omega arith in
-        get_or-bit_bytes bits (suc k) d h ∙ ap (λ n. bits_value (take 8 (drop n bits))) here ∙ ap (λ xs. bits_value (take 8 xs)) (sym (drop-drop (8 * k) 8 bits)) ∙ sym (get_or-bit_bytes (drop 8 bits) k d (omega arith))
-
-chunk_from-whole : (chunk : List ℕ) → length chunk ≡ 32 → chunk_from chunk ≡ chunk
-chunk_from-whole chunk whole =
-    let none : 32 - length chunk ≡ 0 = omega arith in
-    ap (λ xs. xs ++ replicate (32 - length chunk) 0) (take_all 32 chunk (omega arith)) ∙ ap (λ n. chunk ++ replicate n 0) none ∙ append-nil chunk
-
--- a chunk alone is its own root
-pub merkle_root-one : (chunk : List ℕ) → length chunk ≡ 32 → merkle_root 1 (packed chunk) ≡ chunk
-unfolding merkle_root packed tree_root padded depth_of depth_from
-merkle_root-one chunk whole = rw whole (chunk_from-whole chunk whole)

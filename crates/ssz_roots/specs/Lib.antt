@@ -1,3 +1,4 @@
 pub mod Trees
 pub mod Packing
+pub mod PackingLaws
 pub mod Zeros

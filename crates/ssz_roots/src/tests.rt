@@ -22,61 +22,63 @@ const CHUNKS: [Root; 9] = [
     Root([9; 32]),
 ];
 
+/// The root of so many of them under a limit.
+const ROOTS: [(usize, u64, &str); 10] = [
+    (
+        0,
+        0,
+        "0x0000000000000000000000000000000000000000000000000000000000000000",
+    ),
+    (
+        0,
+        2,
+        "0xf5a5fd42d16a20302798ef6ed309979b43003d2320d9f0e8ea9831a92759fb4b",
+    ),
+    (
+        0,
+        1 << 40,
+        "0x6bfe8d2bcc4237b74a5047058ef455339ecd7360cb63bfbb8ee5448e6430ba04",
+    ),
+    (
+        1,
+        1,
+        "0x0101010101010101010101010101010101010101010101010101010101010101",
+    ),
+    (
+        2,
+        2,
+        "0xf818afd37a6dc3bc92fb44731011277006db4efa6e9023cd7468c02335d22a4d",
+    ),
+    (
+        3,
+        4,
+        "0xd6cfa0d1046a0f4c1f9a6dc57afb0f4577680c106a48cf04125e7ba8606da219",
+    ),
+    (
+        5,
+        5,
+        "0x6c1cfb22738edf2a397893ab3bd49b601f5dfc69439772b613f6fad2889ebbd6",
+    ),
+    (
+        9,
+        16,
+        "0x8b168215f8e2d4e4247bbce6a958e2186d7ba416167c3732b39387fba3e4a5ab",
+    ),
+    (
+        3,
+        1 << 40,
+        "0x9f88b94da4c6fd2ad7581141e0942fb7190b51f3b63636fc328848a2e5b68881",
+    ),
+    (
+        1,
+        u64::MAX,
+        "0x31028f5c5a5be1823335585b48f5215f7094bc11b275adbd057d3d9d3ab706f8",
+    ),
+];
+
 #[test]
 fn roots_of_chunks(rt: HostRuntime) -> Result<(), Fail> {
-    let table = [
-        (
-            0,
-            0,
-            "0x0000000000000000000000000000000000000000000000000000000000000000",
-        ),
-        (
-            0,
-            2,
-            "0xf5a5fd42d16a20302798ef6ed309979b43003d2320d9f0e8ea9831a92759fb4b",
-        ),
-        (
-            0,
-            1 << 40,
-            "0x6bfe8d2bcc4237b74a5047058ef455339ecd7360cb63bfbb8ee5448e6430ba04",
-        ),
-        (
-            1,
-            1,
-            "0x0101010101010101010101010101010101010101010101010101010101010101",
-        ),
-        (
-            2,
-            2,
-            "0xf818afd37a6dc3bc92fb44731011277006db4efa6e9023cd7468c02335d22a4d",
-        ),
-        (
-            3,
-            4,
-            "0xd6cfa0d1046a0f4c1f9a6dc57afb0f4577680c106a48cf04125e7ba8606da219",
-        ),
-        (
-            5,
-            5,
-            "0x6c1cfb22738edf2a397893ab3bd49b601f5dfc69439772b613f6fad2889ebbd6",
-        ),
-        (
-            9,
-            16,
-            "0x8b168215f8e2d4e4247bbce6a958e2186d7ba416167c3732b39387fba3e4a5ab",
-        ),
-        (
-            3,
-            1 << 40,
-            "0x9f88b94da4c6fd2ad7581141e0942fb7190b51f3b63636fc328848a2e5b68881",
-        ),
-        (
-            1,
-            u64::MAX,
-            "0x31028f5c5a5be1823335585b48f5215f7094bc11b275adbd057d3d9d3ab706f8",
-        ),
-    ];
-    for (count, limit, text) in table {
+    for (count, limit, text) in ROOTS {
         assert!(rt; count <= CHUNKS.len());
         let root = merkleize(&CHUNKS[..count], limit);
         assert_eq!(rt; root, Ok(root_of(&rt, text)), "{count} of {limit}");

@@ -1,5 +1,5 @@
 use Rattle.std.proofs.Common.{sym, arith}
-use Rattle.ssz_roots.proofs.PackingLemmas.{merkle_root-one}
+use Rattle.ssz_roots.specs.PackingLaws.{merkle_root-one}
 use Rattle.phase0_types.specs.Roots.{root_of}
 use Rattle.phase0_types.proofs.leaves.chunk_root.Goals as goal
 

@@ -1,7 +1,7 @@
 use Rattle.std.proofs.Common.{◌<◌, length, ◌∙◌, arith}
 use Rattle.std.proofs.lemmas.List.{take_more, take_all}
 use Rattle.ssz_roots.specs.Packing.{bit_bytes}
-use Rattle.ssz_roots.proofs.PackingLemmas.{length-bit_bytes, get_or-bit_bytes}
+use Rattle.ssz_roots.specs.PackingLaws.{length-bit_bytes, get_or-bit_bytes}
 use Rattle.ssz_roots.proofs.packing.pack_bits.Goals as goal
 
 pub bytes-preserved : goal.bytes-preserved

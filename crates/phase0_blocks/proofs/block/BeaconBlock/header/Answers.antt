@@ -1,5 +1,5 @@
 use Rattle.std.proofs.Common.{◌≡◌, ◌∷◌, length, sym, ap, ◌∙◌, arith}
-use Rattle.ssz_roots.proofs.PackingLemmas.{merkle_root-one}
+use Rattle.ssz_roots.specs.PackingLaws.{merkle_root-one}
 use Rattle.phase0_types.specs.Roots.{root_of}
 use Rattle.phase0_types.specs.Containers.{beacon_block, beacon_block_header}
 use Rattle.phase0_blocks.specs.Blocks.{beacon_block_value}
