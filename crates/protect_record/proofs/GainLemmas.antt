@@ -8,11 +8,12 @@ use Rattle.slash_defs.specs.declared.entry.BlockEntry.{BlockEntry}
 use Rattle.slash_defs.specs.declared.entry.VoteEntry.{VoteEntry}
 use Rattle.slash_defs.specs.declared.book.Book.{Book}
 use Rattle.protect_record.specs.declared.floors.Floors.{Floors}
-use Rattle.protect_record.specs.Parts.{Parts}
+use Rattle.protect_record.specs.Parts.{Parts, SameParts}
 use Rattle.protect_record.specs.Pasts.{Past, then_past, with_book, IsPastBlock, IsPastVote}
 use Rattle.protect_record.specs.Floors.{floors_of, book_floors, greater_floors, IsDeadBlock, IsDeadVote}
 use Rattle.protect_record.specs.Standing.{Stands}
-use Rattle.protect_record.specs.Gathering.{Gathers, IsJoin, IsMerge}
+use Rattle.protect_record.specs.Gathering.{HasGathered, Gathers, IsJoin, IsMerge}
+use Rattle.slash_defs.specs.FileOrder.{block_cmp, vote_cmp}
 use Rattle.protect_record.proofs.MemberLemmas.{contains_first, contains_cases, contains_none}
 use Rattle.protect_record.proofs.BoundLemmas.{floors_of-append, floors_of-one}
 use Rattle.protect_record.proofs.LiveLemmas.{blocks_die_left, blocks_die_right, votes_die_left, votes_die_right}
@@ -124,3 +125,11 @@ pub merged_stands : (old new : Parts) (past : Past) (b : Book) → IsMerge old b
 merged_stands old new past b merges stands =
     let both = gained_stands old new past (record { books = b ∷ []; own = [] }) (book_floors b) b.blocks b.votes stands (book_offers b) merges in
     subst (λ (own : List Message). Stands new (record { books = past.books ++ b ∷ []; own = own })) (append-nil past.own) both
+
+-- a record with more room gains the same
+pub roomy_gathers : (old roomy new : Parts) (gained : Floors) (bs : List BlockEntry) (vs : List VoteEntry) → SameParts old roomy → Gathers roomy new gained bs vs → Gathers old new gained bs vs
+roomy_gathers old roomy new gained bs vs same gathers = record {
+  floors = gathers.floors ∙ ap (λ f. greater_floors f gained) same.floors;
+  blocks = subst (λ (xs : List BlockEntry). HasGathered block_cmp (IsDeadBlock new.floors) xs bs new.blocks) same.blocks gathers.blocks;
+  votes = subst (λ (xs : List VoteEntry). HasGathered vote_cmp (IsDeadVote new.floors) xs vs new.votes) same.votes gathers.votes;
+}

@@ -1,5 +1,5 @@
 //! The record of one key.
-ghost use Rattle.std.specs.Prelude.{◌≡◌, ◌≤◌, ◌↔◌, [], List, OnOk, OnErr, IfOk, map};
+ghost use Rattle.std.specs.Prelude.{◌≡◌, ◌≤◌, ◌↔◌, [], List, OnOk, OnErr, IfOk, length, map};
 ghost use Rattle.slash_defs.specs.declared.entry.Entry.TheVariants as entry;
 ghost use Rattle.protect_record.specs.Parts.{no_floors, SameParts, HasRoom};
 ghost use Rattle.protect_record.specs.Pasts.{Past, no_past, with_own, with_book, then_past};
@@ -172,8 +172,20 @@ impl Record {
             → Stands self.new (with_book past book.now)) }
         ensures err { OnErr result (SameParts self.old self.new) }
     {
+        self.reserve(book.blocks.len(), book.votes.len())?;
+        self.merge_reserved(book);
+        Ok(())
+    }
+
+    /// Merges what one imported file holds for the key, as `merge_book` does, in the room that was reserved.
+    /// Takes no memory.
+    pub fn merge_reserved(&mut self, book: &Book)
+        requires room { (length book.now.blocks ≤ self.old.block_room) × (length book.now.votes ≤ self.old.vote_room) }
+        ensures merged { IsMerge self.old book.now self.new }
+        ensures stands { (past : Past) → Stands self.old past → Stands self.new (with_book past book.now) }
+    {
         let floors = floors_of_book(book);
-        self.gather(floors, book.blocks.as_slice(), book.votes.as_slice())
+        self.gather_reserved(floors, book.blocks.as_slice(), book.votes.as_slice());
     }
 
     /// Joins another record of the key: union of the entries, greatest of each floor, dead entries dropped.
@@ -188,11 +200,22 @@ impl Record {
             → Stands self.new (then_past p q)) }
         ensures err { OnErr result (SameParts self.old self.new) }
     {
-        self.gather(
+        self.reserve(other.blocks.len(), other.votes.len())?;
+        self.join_reserved(other);
+        Ok(())
+    }
+
+    /// Joins another record of the key, as `join` does, in the room that was reserved. Takes no memory.
+    pub fn join_reserved(&mut self, other: &Record)
+        requires room { (length other.now.blocks ≤ self.old.block_room) × (length other.now.votes ≤ self.old.vote_room) }
+        ensures joined { IsJoin self.old other.now self.new }
+        ensures stands { (p q : Past) → Stands self.old p → Stands other.now q → Stands self.new (then_past p q) }
+    {
+        self.gather_reserved(
             other.floors,
             other.blocks.as_slice(),
             other.votes.as_slice(),
-        )
+        );
     }
 
     /// Forgets what is not needed any more: merges a book of the blocks at the greatest slot and of one vote
@@ -266,11 +289,18 @@ impl Record {
         ensures gathered { OnOk result (Gathers self.old self.new floors blocks.now votes.now) }
         ensures err { OnErr result (SameParts self.old self.new) }
     {
-        self.blocks.reserve(blocks.len())?;
-        self.votes.reserve(votes.len())?;
+        self.reserve(blocks.len(), votes.len())?;
+        self.gather_reserved(floors, blocks, votes);
+        Ok(())
+    }
+
+    /// Gains floors and entries in the room that was reserved, and drops what is dead.
+    fn gather_reserved(&mut self, floors: Floors, blocks: &[BlockEntry], votes: &[VoteEntry])
+        requires room { (length blocks.now ≤ self.old.block_room) × (length votes.now ≤ self.old.vote_room) }
+        ensures { Gathers self.old self.new floors blocks.now votes.now }
+    {
         self.floors = join_floors(&self.floors, &floors);
         gather_blocks(&mut self.blocks, blocks, self.floors);
         gather_votes(&mut self.votes, votes, self.floors);
-        Ok(())
     }
 }

@@ -1,10 +1,8 @@
-use Rattle.std.proofs.Common.{rules, OnOk}
-use Rattle.std.proofs.lemmas.Result.{MatchResult-weaker}
-use Rattle.protect_record.specs.Gathering.{IsJoin}
-use Rattle.protect_record.proofs.GainLemmas.{joined_stands}
+use Rattle.protect_record.proofs.GainLemmas.{joined_stands, roomy_gathers}
 use Rattle.protect_record.proofs.record.Record.join.Goals as goal
 
+pub returns-clause-joined : goal.returns-clause-joined
+returns-clause-joined c = roomy_gathers _ _ _ _ _ _ c.reserve.ensures.same c.join_reserved.ensures.joined
+
 pub returns-clause-stands : goal.returns-clause-stands
-returns-clause-stands c =
-    let joined : OnOk c.gather.result (IsJoin c.args.self.now c.args.other.now c.gather.new.self) = search rules in
-    MatchResult-weaker c.gather.result joined (λ x is p q first second. joined_stands _ _ _ p q is first second) (λ y h. h)
+returns-clause-stands c p q first second = joined_stands _ _ _ p q (returns-clause-joined c) first second

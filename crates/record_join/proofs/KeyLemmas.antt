@@ -1,0 +1,106 @@
+-- Two things kept by key, changed alike.
+use Rattle.std.proofs.Common.{◌≡◌, suc, Bool, true, false, cond, List, [], ◌∷◌, length, Option, Some, None, refl, sym, ap, subst}
+use Rattle.std.specs.Prelude.{IsSome, is_some}
+use Rattle.std.specs.Ordering.{match_ordering}
+use Rattle.std.specs.declared.cmp.Ordering.{Ordering}
+use Rattle.std.specs.declared.cmp.Ordering.TheVariants.{Less, Equal, Greater}
+use Rattle.std.specs.BTreeMap.{is_at}
+use Rattle.edge_kit.specs.declared.bytes.PubKey.{PubKey}
+use Rattle.record_join.specs.Keys.{key_cmp, kept_of, with_key, with_kept, EachKey}
+
+none_some : {X : Type 0} (b : X) → None ≡ Some b → ⊥
+none_some b h = cc
+
+some_inj : {X : Type 0} (a b : X) → Some a ≡ Some b → a ≡ b
+some_inj a b h = cc
+
+-- what is kept of a key in the one is kept in the other
+pub each_found : {X Y : Type 0} (R : X → Y → Type 0) (xs : List (PubKey × X)) (ys : List (PubKey × Y)) (k : PubKey) (x : X) → EachKey R xs ys → kept_of xs k ≡ Some x
+    → (y : Y) × (kept_of ys k ≡ Some y) × R x y
+each_found R [] [] k x h e = absurd (none_some x e)
+each_found R [] (b ∷ bs) k x h e = absurd h
+each_found R (a ∷ more) [] k x h e = absurd h
+each_found {X} {Y} R (a ∷ more) (b ∷ bs) k x h e = at (is_at (key_cmp k) a.0) (is_at (key_cmp k) b.0) (ap (λ q. is_at (key_cmp k) q) h.0) e (each_found R more bs k x h.2) where
+  at : (t u : Bool) → t ≡ u → cond t (Some a.1) (kept_of more k) ≡ Some x → (kept_of more k ≡ Some x → (y : Y) × (kept_of bs k ≡ Some y) × R x y)
+      → (y : Y) × (cond u (Some b.1) (kept_of bs k) ≡ Some y) × R x y
+  at true true same e rest = let P : X → Type 0 = λ z. R z b.1 in (b.1, refl, subst P (some_inj a.1 x e) h.1)
+  at false false same e rest = rest e
+  at true false same e rest = absurd (let bad : true ≡ false = same in cc)
+  at false true same e rest = absurd (let bad : false ≡ true = same in cc)
+
+-- what is not kept in the one is not kept in the other
+pub each_none : {X Y : Type 0} (R : X → Y → Type 0) (xs : List (PubKey × X)) (ys : List (PubKey × Y)) (k : PubKey) → EachKey R xs ys → kept_of xs k ≡ None → kept_of ys k ≡ None
+each_none R [] [] k h e = refl
+each_none R [] (b ∷ bs) k h e = absurd h
+each_none R (a ∷ more) [] k h e = absurd h
+each_none {X} {Y} R (a ∷ more) (b ∷ bs) k h e = at (is_at (key_cmp k) a.0) (is_at (key_cmp k) b.0) (ap (λ q. is_at (key_cmp k) q) h.0) e (each_none R more bs k h.2) where
+  at : (t u : Bool) → t ≡ u → cond t (Some a.1) (kept_of more k) ≡ None → (kept_of more k ≡ None → kept_of bs k ≡ None) → cond u (Some b.1) (kept_of bs k) ≡ None
+  at true true same e rest = absurd (none_some a.1 (sym e))
+  at false false same e rest = rest e
+  at true false same e rest = absurd (let bad : true ≡ false = same in cc)
+  at false true same e rest = absurd (let bad : false ≡ true = same in cc)
+
+none_if : {X : Type 0} (o : Option X) → is_some o ≡ false → o ≡ None
+none_if None e = refl
+none_if (Some x) e = absurd (let bad : true ≡ false = e in cc)
+
+some_if : {X : Type 0} (o : Option X) → is_some o ≡ true → (x : X) × (o ≡ Some x)
+some_if None e = absurd (let bad : false ≡ true = e in cc)
+some_if (Some x) e = (x, refl)
+
+pub each_absent : {X Y : Type 0} (R : X → Y → Type 0) (xs : List (PubKey × X)) (ys : List (PubKey × Y)) (k : PubKey) → EachKey R xs ys → is_some (kept_of xs k) ≡ false → kept_of ys k ≡ None
+each_absent R xs ys k h e = each_none R xs ys k h (none_if (kept_of xs k) e)
+
+pub each_present : {X Y : Type 0} (R : X → Y → Type 0) (xs : List (PubKey × X)) (ys : List (PubKey × Y)) (k : PubKey) → EachKey R xs ys → is_some (kept_of xs k) ≡ true → IsSome (kept_of ys k)
+each_present R xs ys k h e = let found = some_if (kept_of xs k) e in let other = each_found R xs ys k found.0 h found.1 in rw other.1 refl
+
+pub each_length : {X Y : Type 0} (R : X → Y → Type 0) (xs : List (PubKey × X)) (ys : List (PubKey × Y)) → EachKey R xs ys → length xs ≡ length ys
+each_length R [] [] h = refl
+each_length R [] (b ∷ bs) h = absurd h
+each_length R (a ∷ more) [] h = absurd h
+each_length R (a ∷ more) (b ∷ bs) h = ap (λ n. suc n) (each_length R more bs h.2)
+
+-- a new key in both
+pub each_new : {X Y : Type 0} (R : X → Y → Type 0) (xs : List (PubKey × X)) (ys : List (PubKey × Y)) (k : PubKey) (x : X) (y : Y) → EachKey R xs ys → R x y → EachKey R (with_key xs k x) (with_key ys k y)
+each_new R [] [] k x y h r = (refl, r, tt)
+each_new R [] (b ∷ bs) k x y h r = absurd h
+each_new R (a ∷ more) [] k x y h r = absurd h
+each_new {X} {Y} R (a ∷ more) (b ∷ bs) k x y h r = at (key_cmp k a.0) (key_cmp k b.0) (ap (λ q. key_cmp k q) h.0) (each_new R more bs k x y h.2 r) where
+  at : (t u : Ordering) → t ≡ u → EachKey R (with_key more k x) (with_key bs k y)
+      → EachKey R (match_ordering t ((k, x) ∷ a ∷ more) ((a.0, x) ∷ more) (a ∷ with_key more k x)) (match_ordering u ((k, y) ∷ b ∷ bs) ((b.0, y) ∷ bs) (b ∷ with_key bs k y))
+  at Less Less same rest = (refl, r, h)
+  at Equal Equal same rest = (h.0, r, h.2)
+  at Greater Greater same rest = (h.0, h.1, rest)
+  at Less Equal same rest = absurd (let bad : Less ≡ Equal = same in cc)
+  at Less Greater same rest = absurd (let bad : Less ≡ Greater = same in cc)
+  at Equal Less same rest = absurd (let bad : Equal ≡ Less = same in cc)
+  at Equal Greater same rest = absurd (let bad : Equal ≡ Greater = same in cc)
+  at Greater Less same rest = absurd (let bad : Greater ≡ Less = same in cc)
+  at Greater Equal same rest = absurd (let bad : Greater ≡ Equal = same in cc)
+
+-- another thing at a key in both
+pub each_changed : {X Y : Type 0} (R : X → Y → Type 0) (xs : List (PubKey × X)) (ys : List (PubKey × Y)) (k : PubKey) (x : X) (y : Y) → EachKey R xs ys → R x y → EachKey R (with_kept xs k x) (with_kept ys k y)
+each_changed R [] [] k x y h r = tt
+each_changed R [] (b ∷ bs) k x y h r = absurd h
+each_changed R (a ∷ more) [] k x y h r = absurd h
+each_changed {X} {Y} R (a ∷ more) (b ∷ bs) k x y h r = at (is_at (key_cmp k) a.0) (is_at (key_cmp k) b.0) (ap (λ q. is_at (key_cmp k) q) h.0) (each_changed R more bs k x y h.2 r) where
+  at : (t u : Bool) → t ≡ u → EachKey R (with_kept more k x) (with_kept bs k y)
+      → EachKey R (cond t ((a.0, x) ∷ more) (a ∷ with_kept more k x)) (cond u ((b.0, y) ∷ bs) (b ∷ with_kept bs k y))
+  at true true same rest = (h.0, r, h.2)
+  at false false same rest = (h.0, h.1, rest)
+  at true false same rest = absurd (let bad : true ≡ false = same in cc)
+  at false true same rest = absurd (let bad : false ≡ true = same in cc)
+
+-- another thing at a key in the one alone, that fits what the other keeps there
+pub each_refit : {X Y : Type 0} (R : X → Y → Type 0) (xs : List (PubKey × X)) (ys : List (PubKey × Y)) (k : PubKey) (x : X) → EachKey R xs ys
+    → ((y : Y) → kept_of ys k ≡ Some y → R x y) → EachKey R (with_kept xs k x) ys
+each_refit R [] [] k x h r = tt
+each_refit R [] (b ∷ bs) k x h r = absurd h
+each_refit R (a ∷ more) [] k x h r = absurd h
+each_refit {X} {Y} R (a ∷ more) (b ∷ bs) k x h r = at (is_at (key_cmp k) a.0) (is_at (key_cmp k) b.0) (ap (λ q. is_at (key_cmp k) q) h.0) r (each_refit R more bs k x h.2) where
+  at : (t u : Bool) → t ≡ u → ((y : Y) → cond u (Some b.1) (kept_of bs k) ≡ Some y → R x y) → (((y : Y) → kept_of bs k ≡ Some y → R x y) → EachKey R (with_kept more k x) bs)
+      → EachKey R (cond t ((a.0, x) ∷ more) (a ∷ with_kept more k x)) (b ∷ bs)
+  at true true same r rest = (h.0, r b.1 refl, h.2)
+  at false false same r rest = (h.0, h.1, rest r)
+  at true false same r rest = absurd (let bad : true ≡ false = same in cc)
+  at false true same r rest = absurd (let bad : false ≡ true = same in cc)

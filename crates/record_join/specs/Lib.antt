@@ -1,0 +1,4 @@
+pub mod Keys
+pub mod Taking
+pub mod BooksPasts
+pub mod Preparing

@@ -1,0 +1,34 @@
+//! Changes of the record of one key.
+ghost use Rattle.std.specs.Prelude.{◌≡◌, IsTrue};
+ghost use Rattle.record_join.specs.Taking.{Takes};
+
+use crate::taken::Taken;
+use edge_kit::PubKey;
+use protect_record::{Record, Verdict};
+use slash_defs::Message;
+use std::collections::BTreeMap;
+
+/// Takes a message into the past of its key, where that lets it pass and there is room beside.
+pub fn take_in(
+    kept: &mut BTreeMap<PubKey, Record>,
+    key: &PubKey,
+    message: &Message,
+    has_room: bool,
+) -> Taken
+    ensures takes { Takes kept.old.entries kept.new.entries key.now message.now result }
+    ensures room { result ≡ Taken.Added → IsTrue has_room }
+{
+    let Some(record) = kept.get_mut(key) else {
+        return Taken::Unknown;
+    };
+    let reserved = record.reserve(1, 1);
+    let verdict = record.check(message);
+    if verdict != Verdict::Pass {
+        return Taken::Refused(verdict);
+    }
+    if !has_room || reserved.is_err() {
+        return Taken::NoRoom;
+    }
+    record.add(message);
+    Taken::Added
+}

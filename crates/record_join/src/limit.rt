@@ -1,0 +1,50 @@
+//! How many keys are kept at most.
+ghost use Rattle.std.specs.Prelude.{◌≡◌, ◌+◌, ◌<◌, ◌≤◌, OnOk, IfErr, length};
+ghost use Rattle.record_join.specs.BooksPasts.{key_limit, new_keys, IsOverLimit};
+
+use crate::fault::MergeFault;
+use edge_kit::PubKey;
+use protect_record::Record;
+use slash_defs::Book;
+use std::collections::BTreeMap;
+
+/// How many keys are kept at most.
+pub const KEY_LIMIT: usize = 65_536;
+
+/// Whether so many keys and so many new ones are no more than may be kept.
+///
+/// # Errors
+///
+/// `TooManyKeys` where they are more.
+pub fn within_limit(have: usize, new: usize) -> Result<(), MergeFault>
+    ensures ok { OnOk result (have + new ≤ key_limit) }
+    ensures err { IfErr result (IsOverLimit have new) }
+{
+    if have <= KEY_LIMIT && new <= KEY_LIMIT - have {
+        return Ok(());
+    }
+    Err(MergeFault::TooManyKeys {
+        have: have as u64,
+        new: new as u64,
+    })
+}
+
+/// How many of the listed keys are not kept.
+pub fn new_books(kept: &BTreeMap<PubKey, Record>, books: &[(PubKey, Book)]) -> usize
+    ensures { result ≡ new_keys kept.now.entries books.now }
+{
+    books
+        .iter()
+        .filter(|listed| !kept.contains_key(&listed.0))
+        .count()
+}
+
+/// How many keys of the others are not kept.
+pub fn new_records(kept: &BTreeMap<PubKey, Record>, others: &BTreeMap<PubKey, Record>) -> usize
+    ensures { result ≡ new_keys kept.now.entries others.now.entries }
+{
+    others
+        .iter()
+        .filter(|(key, _)| !kept.contains_key(*key))
+        .count()
+}
