@@ -1,10 +1,11 @@
 -- Two things kept by key, changed alike.
-use Rattle.std.proofs.Common.{◌≡◌, suc, Bool, true, false, cond, List, [], ◌∷◌, length, Option, Some, None, refl, sym, ap, subst}
+use Rattle.std.proofs.Common.{◌≡◌, suc, Bool, true, false, cond, List, [], ◌∷◌, length, Option, Some, None, refl, sym, ◌∙◌, ap, subst}
 use Rattle.std.specs.Prelude.{IsSome, is_some}
 use Rattle.std.specs.Ordering.{match_ordering}
 use Rattle.std.specs.declared.cmp.Ordering.{Ordering}
 use Rattle.std.specs.declared.cmp.Ordering.TheVariants.{Less, Equal, Greater}
 use Rattle.std.specs.BTreeMap.{is_at}
+use Rattle.std.specs.Map.{keys_of, remove_entry}
 use Rattle.edge_kit.specs.declared.bytes.PubKey.{PubKey}
 use Rattle.record_join.specs.Keys.{key_cmp, kept_of, with_key, with_kept, EachKey}
 
@@ -104,3 +105,49 @@ each_refit {X} {Y} R (a ∷ more) (b ∷ bs) k x h r = at (is_at (key_cmp k) a.0
   at false false same r rest = (h.0, h.1, rest r)
   at true false same r rest = absurd (let bad : true ≡ false = same in cc)
   at false true same r rest = absurd (let bad : false ≡ true = same in cc)
+
+-- the two lists in each other's place
+pub each_flip : {X Y : Type 0} (R : X → Y → Type 0) (xs : List (PubKey × X)) (ys : List (PubKey × Y)) → EachKey R xs ys → EachKey (λ y x. R x y) ys xs
+each_flip R [] [] h = tt
+each_flip R [] (b ∷ bs) h = absurd h
+each_flip R (a ∷ more) [] h = absurd h
+each_flip R (a ∷ more) (b ∷ bs) h = (sym h.0, h.1, each_flip R more bs h.2)
+
+-- a third list in the place of the first
+pub each_through : {X Y Z : Type 0} (R : X → Z → Type 0) (S : X → Y → Type 0) (T : Y → Z → Type 0) → ((x : X) (y : Y) (z : Z) → R x z → S x y → T y z)
+    → (xs : List (PubKey × X)) (ys : List (PubKey × Y)) (zs : List (PubKey × Z)) → EachKey R xs zs → EachKey S xs ys → EachKey T ys zs
+each_through R S T f [] [] [] h s = tt
+each_through R S T f [] (b ∷ bs) zs h s = absurd s
+each_through R S T f (a ∷ more) [] zs h s = absurd s
+each_through R S T f [] [] (z ∷ zs) h s = absurd h
+each_through R S T f (a ∷ more) (b ∷ bs) [] h s = absurd h
+each_through R S T f (a ∷ more) (b ∷ bs) (z ∷ zs) h s = (sym s.0 ∙ h.0, f a.1 b.1 z.1 h.1 s.1, each_through R S T f more bs zs h.2 s.2)
+
+pub each_self : {X : Type 0} (R : X → X → Type 0) → ((x : X) → R x x) → (xs : List (PubKey × X)) → EachKey R xs xs
+each_self R f [] = tt
+each_self R f (a ∷ more) = (refl, f a.1, each_self R f more)
+
+pub each_keys : {X Y : Type 0} (R : X → Y → Type 0) (xs : List (PubKey × X)) (ys : List (PubKey × Y)) → EachKey R xs ys → keys_of xs ≡ keys_of ys
+each_keys R [] [] h = refl
+each_keys R [] (b ∷ bs) h = absurd h
+each_keys R (a ∷ more) [] h = absurd h
+each_keys R (a ∷ more) (b ∷ bs) h = ap (λ k. k ∷ keys_of more) h.0 ∙ ap (λ ks. b.0 ∷ ks) (each_keys R more bs h.2)
+
+-- another thing at a key in the second alone
+pub each_refit_second : {X Y : Type 0} (R : X → Y → Type 0) (xs : List (PubKey × X)) (ys : List (PubKey × Y)) (k : PubKey) (y : Y) → EachKey R xs ys
+    → ((x : X) → kept_of xs k ≡ Some x → R x y) → EachKey R xs (with_kept ys k y)
+each_refit_second {X} {Y} R xs ys k y h r = each_flip (λ b a. R a b) (with_kept ys k y) xs (each_refit (λ b a. R a b) ys xs k y (each_flip R xs ys h) r)
+
+-- a key taken out of both
+pub each_removed : {X Y : Type 0} (R : X → Y → Type 0) (xs : List (PubKey × X)) (ys : List (PubKey × Y)) (k : PubKey) → EachKey R xs ys
+    → EachKey R (remove_entry (is_at (key_cmp k)) xs) (remove_entry (is_at (key_cmp k)) ys)
+each_removed R [] [] k h = tt
+each_removed R [] (b ∷ bs) k h = absurd h
+each_removed R (a ∷ more) [] k h = absurd h
+each_removed {X} {Y} R (a ∷ more) (b ∷ bs) k h = at (is_at (key_cmp k) a.0) (is_at (key_cmp k) b.0) (ap (λ q. is_at (key_cmp k) q) h.0) (each_removed R more bs k h.2) where
+  at : (t u : Bool) → t ≡ u → EachKey R (remove_entry (is_at (key_cmp k)) more) (remove_entry (is_at (key_cmp k)) bs)
+      → EachKey R (cond t more (a ∷ remove_entry (is_at (key_cmp k)) more)) (cond u bs (b ∷ remove_entry (is_at (key_cmp k)) bs))
+  at true true same rest = h.2
+  at false false same rest = (h.0, h.1, rest)
+  at true false same rest = absurd (let bad : true ≡ false = same in cc)
+  at false true same rest = absurd (let bad : false ≡ true = same in cc)

@@ -1,1 +1,5 @@
 pub mod KeyLemmas
+pub mod OrderLemmas
+pub mod BooksLemmas
+pub mod FreshLemmas
+pub mod FileLemmas

@@ -43,9 +43,8 @@ pub record ArePrepared {X : Type 0} (old : List (PubKey × Parts)) (listed : Lis
   pub are_listed : All (λ key. IsSome (kept_of listed key)) fresh
   pub others : KeepsOthers listed old new
 
--- some fresh keys were noted, one for each listed key that was not kept, and there is room for all that is listed
-pub record IsReady {X : Type 0} (size : X → ℕ × ℕ) (old : List (PubKey × Parts)) (listed : List (PubKey × X)) (new : List (PubKey × Parts)) : Type 0 where
-  pub fresh : List PubKey
+-- beside that, one key is fresh for each that was not kept, and there is room for all that is listed
+pub record IsReady {X : Type 0} (size : X → ℕ × ℕ) (old : List (PubKey × Parts)) (listed : List (PubKey × X)) (fresh : List PubKey) (new : List (PubKey × Parts)) : Type 0 where
   pub prepared : ArePrepared old listed fresh new
   pub count : length fresh ≡ new_keys old listed
   pub room : HaveRoomFor size new listed

@@ -11,7 +11,7 @@ use crate::fault::{BeginFault, MergeFault};
 use crate::joining::{join_records, prepare_records};
 use crate::limit::{KEY_LIMIT, new_books, new_records, within_limit};
 use crate::merging::{merge_books, prepare_books};
-use crate::keep::take_in;
+use crate::keep::{prune_at, take_in};
 use crate::taken::{Pruned, Taken};
 use edge_kit::{Items, PubKey};
 use protect_record::Record;
@@ -187,10 +187,6 @@ impl Books {
         ensures err { OnErr result ((pasts : List (PubKey × Past)) → BooksStand self.old pasts → BooksStand self.new pasts) }
         ensures same { OnErr result (EachKey SameParts self.old self.new) }
     {
-        let Some(record) = self.kept.get_mut(key) else {
-            return Ok(Pruned::Unknown);
-        };
-        record.prune()?;
-        Ok(Pruned::Done)
+        prune_at(&mut self.kept, key)
     }
 }

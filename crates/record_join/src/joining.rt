@@ -26,7 +26,7 @@ pub fn prepare_records(
     alloc: Global,
     others: &BTreeMap<PubKey, Record>,
 ) -> Result<(), AllocError>
-    ensures ready { OnOk result (IsReady parts_size kept.old.entries others.now.entries kept.new.entries) }
+    ensures ready { OnOk result ((fresh : List PubKey) × IsReady parts_size kept.old.entries others.now.entries fresh kept.new.entries) }
     ensures err { OnErr result (EachKey SameParts kept.old.entries kept.new.entries) }
     ensures others { KeepsOthers others.now.entries kept.old.entries kept.new.entries }
 {
@@ -59,8 +59,7 @@ fn room_for_records(
 ) -> Result<(), AllocError>
     requires { fresh.old.items ≡ [] }
     ensures prepared { ArePrepared kept.old.entries others.now.entries fresh.new.items kept.new.entries }
-    ensures count { OnOk result (length fresh.new.items ≡ new_keys kept.old.entries others.now.entries) }
-    ensures room { OnOk result (HaveRoomFor parts_size kept.new.entries others.now.entries) }
+    ensures ready { OnOk result (IsReady parts_size kept.old.entries others.now.entries fresh.new.items kept.new.entries) }
 {
     'others: for (key, record) in others {
         make_room(kept, alloc, key, size_of(record), fresh)?;
@@ -82,8 +81,8 @@ fn join_at(kept: &mut BTreeMap<PubKey, Record>, key: &PubKey, more: &Record)
 }
 
 /// How many blocks and votes a record keeps.
-fn size_of(record: &Record) -> (usize, usize)
-    ensures { result ≡ parts_size record.now }
+fn size_of(other: &Record) -> (usize, usize)
+    ensures { result ≡ parts_size other.now }
 {
-    (record.blocks().count(), record.votes().count())
+    (other.blocks().count(), other.votes().count())
 }

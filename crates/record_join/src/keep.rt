@@ -1,11 +1,13 @@
 //! Changes of the record of one key.
-ghost use Rattle.std.specs.Prelude.{◌≡◌, IsTrue};
-ghost use Rattle.record_join.specs.Taking.{Takes};
+ghost use Rattle.std.specs.Prelude.{◌≡◌, IsTrue, IfOk, OnErr};
+ghost use Rattle.record_join.specs.Taking.{Shrinks, Takes};
+ghost use Rattle.record_join.specs.Preparing.{IsRoomier};
 
-use crate::taken::Taken;
+use crate::taken::{Pruned, Taken};
 use edge_kit::PubKey;
 use protect_record::{Record, Verdict};
 use slash_defs::Message;
+use std::alloc::AllocError;
 use std::collections::BTreeMap;
 
 /// Takes a message into the past of its key, where that lets it pass and there is room beside.
@@ -31,4 +33,21 @@ pub fn take_in(
     }
     record.add(message);
     Taken::Added
+}
+
+/// Prunes the record of a key.
+pub fn prune_at(
+    kept: &mut BTreeMap<PubKey, Record>,
+    key: &PubKey,
+) -> Result<Pruned, AllocError>
+    ensures shrinks { IfOk result (Shrinks kept.old.entries kept.new.entries key.now) }
+    ensures err { OnErr result (IsRoomier kept.old.entries kept.new.entries key.now) }
+{
+    let Some(record) = kept.get_mut(key) else {
+        return Ok(Pruned::Unknown);
+    };
+    let Ok(()) = record.prune() else {
+        return Err(AllocError);
+    };
+    Ok(Pruned::Done)
 }

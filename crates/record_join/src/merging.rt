@@ -26,7 +26,7 @@ pub fn prepare_books(
     books: &[(PubKey, Book)],
 ) -> Result<(), AllocError>
     requires { EachOnce books.now }
-    ensures ready { OnOk result (IsReady book_size kept.old.entries books.now kept.new.entries) }
+    ensures ready { OnOk result ((fresh : List PubKey) × IsReady book_size kept.old.entries books.now fresh kept.new.entries) }
     ensures err { OnErr result (EachKey SameParts kept.old.entries kept.new.entries) }
     ensures others { KeepsOthers books.now kept.old.entries kept.new.entries }
 {
@@ -61,8 +61,7 @@ fn room_for_books(
     requires once { EachOnce books.now }
     requires none { fresh.old.items ≡ [] }
     ensures prepared { ArePrepared kept.old.entries books.now fresh.new.items kept.new.entries }
-    ensures count { OnOk result (length fresh.new.items ≡ new_keys kept.old.entries books.now) }
-    ensures room { OnOk result (HaveRoomFor book_size kept.new.entries books.now) }
+    ensures ready { OnOk result (IsReady book_size kept.old.entries books.now fresh.new.items kept.new.entries) }
 {
     'books: for listed in books {
         let size = (listed.1.blocks.len(), listed.1.votes.len());

@@ -1,0 +1,104 @@
+-- Keys that become known with empty records, and are taken out again.
+use Rattle.std.proofs.Common.{◌≡◌, ℕ, ◌+◌, ◌⊎◌, inl, inr, true, false, Bool, cond, List, [], ◌∷◌, ◌++◌, length, None, Some, Option, refl, sym, ◌∙◌, ap, subst, arith, All}
+use Rattle.std.specs.Prelude.{IsSome, IsSomeAnd, is_some, not, count_by}
+use Rattle.std.specs.Option.{option_to_list}
+use Rattle.std.specs.BTreeMap.{is_at}
+use Rattle.std.specs.Map.{remove_entry}
+use Rattle.std.proofs.lemmas.List.Sums.{fold_push}
+use Rattle.std.proofs.lemmas.List.Elements.{All-push, All-pop, All-weaker, All-nil}
+use Rattle.edge_kit.specs.declared.bytes.PubKey.{PubKey}
+use Rattle.protect_record.specs.Parts.{Parts, SameParts}
+use Rattle.record_join.specs.Keys.{key_cmp, kept_of, with_key, with_kept, EachKey}
+use Rattle.record_join.specs.BooksPasts.{KeepsOthers, new_keys}
+use Rattle.record_join.specs.Preparing.{no_parts, with_each, AreFresh, HasRoomFor, HaveRoomFor, ArePrepared, IsReady, Knows, IsRoomier, MakesRoom}
+use Rattle.record_join.proofs.KeyLemmas.{each_flip, each_none, each_new, each_removed, each_length}
+use Rattle.record_join.proofs.OrderLemmas.{kept_here, kept_apart, at_itself, apart_back, taken_out, changed, length_new, none_in_both, some_in_first, some_in_second, apart_from_first}
+use Rattle.record_join.proofs.BooksLemmas.{roomier_same, same_itself}
+
+-- one more fresh key
+with_each_push : {X : Type 0} (x : X) (kept : List (PubKey × X)) (keys : List PubKey) (key : PubKey) → with_each x kept (keys ++ key ∷ []) ≡ with_key (with_each x kept keys) key x
+with_each_push x kept keys key = fold_push (λ before k. with_key before k x) kept keys key
+
+fresh_push : {X : Type 0} (x : X) (kept : List (PubKey × X)) (keys : List PubKey) (key : PubKey) → AreFresh x kept keys → kept_of (with_each x kept keys) key ≡ None → AreFresh x kept (keys ++ key ∷ [])
+fresh_push x kept [] key fresh none = (none, tt)
+fresh_push x kept (k ∷ ks) key fresh none = (fresh.0, fresh_push x (with_key kept k x) ks key fresh.1 none)
+
+-- one fresh key less
+fresh_front : {X : Type 0} (x : X) (kept : List (PubKey × X)) (keys : List PubKey) (key : PubKey) → AreFresh x kept (keys ++ key ∷ []) → AreFresh x kept keys × (kept_of (with_each x kept keys) key ≡ None)
+fresh_front x kept [] key fresh = (tt, fresh.0)
+fresh_front x kept (k ∷ ks) key fresh = let rest = fresh_front x (with_key kept k x) ks key fresh.1 in ((fresh.0, rest.0), rest.1)
+
+pub length_fresh : {X : Type 0} (x : X) (kept : List (PubKey × X)) (keys : List PubKey) → AreFresh x kept keys → length (with_each x kept keys) ≡ length kept + length keys
+length_fresh x kept [] fresh = omega arith
+length_fresh x kept (k ∷ ks) fresh = let rest = length_fresh x (with_key kept k x) ks fresh.1 in let one = length_new kept k x fresh.0 in omega arith
+
+-- the last fresh key is taken out
+pub one_out : (before now : List (PubKey × Parts)) (old keys : List PubKey) (key : PubKey) → old ≡ keys ++ key ∷ [] → AreFresh no_parts before old → EachKey SameParts (with_each no_parts before old) now
+    → AreFresh no_parts before keys × EachKey SameParts (with_each no_parts before keys) (remove_entry (is_at (key_cmp key)) now)
+one_out before now old keys key is fresh each =
+    let F : List PubKey → Type 0 = λ ks. AreFresh no_parts before ks in
+    let front = fresh_front no_parts before keys key (subst F is fresh) in
+    let E : List PubKey → Type 0 = λ ks. EachKey SameParts (with_each no_parts before ks) now in
+    let G : List (PubKey × Parts) → Type 0 = λ l. EachKey SameParts l now in
+    let H : List (PubKey × Parts) → Type 0 = λ l. EachKey SameParts l (remove_entry (is_at (key_cmp key)) now) in
+    let removed = each_removed SameParts (with_key (with_each no_parts before keys) key no_parts) now key (subst G (with_each_push no_parts before keys key) (subst E is each)) in
+    (front.0, subst H (taken_out (with_each no_parts before keys) key no_parts front.1) removed)
+
+-- where the key is known, there is something kept of it
+pub known_some : (old new : List (PubKey × Parts)) (key : PubKey) (fresh more : List PubKey) → Knows old new key fresh more → IsSome (kept_of new key)
+known_some old new key fresh more (inl h) = rw h.1 h.0
+known_some old new key fresh more (inr h) = rw (h.1.2, kept_here old key h.1.0) refl
+
+known_others : (old new : List (PubKey × Parts)) (key : PubKey) (fresh more : List PubKey) → Knows old new key fresh more → (other : PubKey) → is_at (key_cmp key) other ≡ false → kept_of new other ≡ kept_of old other
+known_others old new key fresh more (inl h) other apart = rw h.1 refl
+known_others old new key fresh more (inr h) other apart = rw h.1.2 (kept_apart old key other h.1.0 apart)
+
+known_noted : (old new : List (PubKey × Parts)) (key : PubKey) (fresh more : List PubKey) → Knows old new key fresh more → (more ≡ fresh) ⊎ (more ≡ fresh ++ key ∷ [])
+known_noted old new key fresh more (inl h) = inl h.2
+known_noted old new key fresh more (inr h) = inr h.2
+
+known_same : (old new : List (PubKey × Parts)) (key : PubKey) (fresh more : List PubKey) → Knows old new key fresh more → (before : List (PubKey × Parts)) → AreFresh no_parts before fresh → EachKey SameParts (with_each no_parts before fresh) old
+    → AreFresh no_parts before more × EachKey SameParts (with_each no_parts before more) new
+known_same old new key fresh more (inl h) before are each =
+    let P : List PubKey → Type 0 = λ ks. AreFresh no_parts before ks × EachKey SameParts (with_each no_parts before ks) new in
+    let E : List (PubKey × Parts) → Type 0 = λ l. EachKey SameParts (with_each no_parts before fresh) l in
+    subst P (sym h.2) (are, subst E (sym h.1) each)
+known_same old new key fresh more (inr h) before are each =
+    let P : List PubKey → Type 0 = λ ks. AreFresh no_parts before ks × EachKey SameParts (with_each no_parts before ks) new in
+    let E : List (PubKey × Parts) → Type 0 = λ l. EachKey SameParts (with_each no_parts before (fresh ++ key ∷ [])) l in
+    let F : List (PubKey × Parts) → Type 0 = λ l. EachKey SameParts l (with_key old key h.1.0) in
+    let none = each_none (λ b a. SameParts a b) old (with_each no_parts before fresh) key (each_flip SameParts (with_each no_parts before fresh) old each) h.0 in
+    let both = each_new SameParts (with_each no_parts before fresh) old key no_parts h.1.0 each h.1.1 in
+    subst P (sym h.2) (fresh_push no_parts before fresh key are none, subst E (sym h.1.2) (subst F (sym (with_each_push no_parts before fresh key)) both))
+
+-- more room changes nothing of another key
+roomier_others : (old new : List (PubKey × Parts)) (key : PubKey) → IsRoomier old new key → (other : PubKey) → is_at (key_cmp key) other ≡ false → kept_of new other ≡ kept_of old other
+roomier_others old new key is other apart = rw (is.others, changed old key other is.roomy (rw is.is_kept refl), apart) refl
+
+-- the key becomes known, and then its record roomier
+pub makes_room : (old mid new : List (PubKey × Parts)) (key : PubKey) (fresh more : List PubKey) → Knows old mid key fresh more → IsRoomier mid new key → MakesRoom old new key fresh more
+makes_room old mid new key fresh more knows roomier = record {
+  noted = known_noted old mid key fresh more knows;
+  same = λ before are each. let at = known_same old mid key fresh more knows before are each in (at.0, roomier_same (with_each no_parts before more) mid new key roomier at.1);
+  others = λ other apart. roomier_others mid new key roomier other apart ∙ known_others old mid key fresh more knows other apart;
+}
+
+-- some of the fresh keys are taken out, and these are left
+pub record IsOnTheWay (start_keys : List PubKey) (start : List (PubKey × Parts)) (keys : List PubKey) (now : List (PubKey × Parts)) : Type 0 where
+  pub same : (before : List (PubKey × Parts)) → AreFresh no_parts before start_keys → EachKey SameParts (with_each no_parts before start_keys) start
+    → AreFresh no_parts before keys × EachKey SameParts (with_each no_parts before keys) now
+  pub others : (key : PubKey) → All (λ other. is_at (key_cmp other) key ≡ false) start_keys → All (λ other. is_at (key_cmp other) key ≡ false) keys × (kept_of now key ≡ kept_of start key)
+
+pub way_on : (start_keys : List PubKey) (start : List (PubKey × Parts)) (old keys : List PubKey) (now new : List (PubKey × Parts)) (key : PubKey) → IsOnTheWay start_keys start old now → old ≡ keys ++ key ∷ []
+    → new ≡ remove_entry (is_at (key_cmp key)) now → ((other : PubKey) → is_at (key_cmp key) other ≡ false → kept_of new other ≡ kept_of now other) → IsOnTheWay start_keys start keys new
+way_on start_keys start old keys now new key way is removed others = record {
+  same = λ before are each.
+      let at = way.same before are each in
+      let E : List (PubKey × Parts) → Type 0 = λ l. EachKey SameParts (with_each no_parts before keys) l in
+      let out = one_out before now old keys key is at.0 at.1 in
+      (out.0, subst E (sym removed) out.1);
+  others = λ other apart.
+      let at = way.others other apart in
+      let parts = All-pop (λ k. is_at (key_cmp k) other ≡ false) old keys (Some key) is at.0 in
+      (parts.0, others other parts.1 ∙ at.1);
+}
