@@ -1,0 +1,189 @@
+-- What is listed is taken in, one after another.
+use Rattle.std.proofs.Common.{◌≡◌, ℕ, suc, ◌+◌, ◌<◌, ◌≤◌, ◌⊎◌, inl, inr, true, false, Bool, cond, List, [], ◌∷◌, ◌++◌, length, take, drop, get_or, fold, None, Some, Option, refl, sym, ◌∙◌, ap, subst, arith, add-one, All}
+use Rattle.std.specs.Prelude.{IsSome, IsSomeAnd, is_some}
+use Rattle.std.specs.Ordering.{eq_by_cmp, match_ordering, ordering_reverse, is_eq}
+use Rattle.std.specs.declared.cmp.Ordering.{Ordering}
+use Rattle.std.specs.declared.cmp.Ordering.TheVariants.{Less, Equal, Greater}
+use Rattle.std.specs.Bool.{Decides}
+use Rattle.std.specs.BTreeMap.{is_at}
+use Rattle.std.specs.List.{IsDistinct}
+use Rattle.std.specs.List.Sorted.{IsStrictlySortedBy}
+use Rattle.std.specs.Map.{keys_of}
+use Rattle.std.proofs.lemmas.List.{take_more, take-append-drop}
+use Rattle.std.proofs.lemmas.List.Sums.{fold_push}
+use Rattle.std.proofs.lemmas.List.Elements.{All-head, All-tail, All-weaker}
+use Rattle.std.proofs.lemmas.Map.Made.{IsDistinct-from_AllPairs}
+use Rattle.edge_kit.specs.declared.bytes.PubKey.{PubKey}
+use Rattle.slash_defs.specs.declared.book.Book.{Book}
+use Rattle.protect_record.specs.Parts.{Parts, SameParts}
+use Rattle.protect_record.specs.Pasts.{Past, no_past}
+use Rattle.protect_record.specs.Standing.{Stands}
+use Rattle.record_join.specs.Keys.{key_cmp, kept_of, with_key, with_kept, EachKey}
+use Rattle.record_join.specs.BooksPasts.{BooksStand, EachOnce, KeepsOthers, gain, known_past, put_past, new_keys}
+use Rattle.record_join.specs.Preparing.{no_parts, with_each, AreFresh, HasRoomFor, HaveRoomFor, ArePrepared, IsReady, MakesRoom}
+use Rattle.record_join.proofs.KeyLemmas.{each_found, each_keys, each_length, each_none, each_new, each_changed}
+use Rattle.record_join.proofs.OrderLemmas.{key_total, key_exact, at_itself, same_key, apart_back, kept_here, kept_apart, put_twice, put_kept, changed, none_in_both, apart_from_first, once_before}
+use Rattle.record_join.proofs.BooksLemmas.{all_same_stand}
+use Rattle.record_join.proofs.FreshLemmas.{prepared_more, prepared_wider, ready_more, length_fresh}
+
+-- ---- a list at a place
+
+pub same_keys : (a b : PubKey) → Decides (eq_by_cmp key_cmp a b) (a ≡ b)
+same_keys a b = (same_key a b, λ e. subst (λ (k : PubKey). eq_by_cmp key_cmp a k ≡ true) e (at_itself a))
+
+pub distinct_once : (books : List (PubKey × Book)) → EachOnce books → IsDistinct (eq_by_cmp key_cmp) (keys_of books)
+distinct_once books once = IsDistinct-from_AllPairs same_keys (keys_of books) once
+
+next_at : {X : Type 0} (xs : List X) (i : ℕ) (x : X) → i < length xs → x ≡ get_or xs i x → take (i + 1) xs ≡ take i xs ++ x ∷ []
+next_at xs i x lt is = take_more xs i x lt ∙ ap (λ y. take i xs ++ y ∷ []) (sym is)
+
+around : {X : Type 0} (xs : List X) (i : ℕ) (x : X) → i < length xs → x ≡ get_or xs i x → (take i xs ++ x ∷ []) ++ drop (i + 1) xs ≡ xs
+around xs i x lt is = ap (λ ys. ys ++ drop (i + 1) xs) (sym (next_at xs i x lt is)) ∙ take-append-drop (i + 1) xs
+
+flat : {X : Type 0} (xs ys : List X) (x : X) → (xs ++ x ∷ []) ++ ys ≡ xs ++ x ∷ ys
+flat [] ys x = refl
+flat (a ∷ more) ys x = ap (λ l. a ∷ l) (flat more ys x)
+
+pub none_before : {X : Type 0} (xs : List (PubKey × X)) (i : ℕ) (x : PubKey × X) → IsDistinct (eq_by_cmp key_cmp) (keys_of xs) → i < length xs → x ≡ get_or xs i x → kept_of (take i xs) x.0 ≡ None
+none_before {X} xs i x distinct lt is =
+    let D : List (PubKey × X) → Type 0 = λ l. IsDistinct (eq_by_cmp key_cmp) (keys_of l) in
+    once_before (take i xs) x (drop (i + 1) xs) (subst D (sym (sym (flat (take i xs) (drop (i + 1) xs) x) ∙ around xs i x lt is)) distinct)
+
+-- ---- room is made for one after another
+
+pub ready_step : {X : Type 0} (size : X → ℕ × ℕ) (old mid new : List (PubKey × Parts)) (xs : List (PubKey × X)) (i : ℕ) (x : PubKey × X) (fresh more : List PubKey) (n : ℕ × ℕ) → IsDistinct (eq_by_cmp key_cmp) (keys_of xs)
+    → i < length xs → x ≡ get_or xs i x → n ≡ size x.1 → IsReady size old (take i xs) fresh mid → MakesRoom mid new x.0 fresh more → IsSomeAnd (kept_of new x.0) (λ parts. HasRoomFor parts n)
+    → length more ≡ length fresh + cond (is_some (kept_of mid x.0)) 0 1 → IsReady size old (take (i + 1) xs) more new
+ready_step {X} size old mid new xs i x fresh more n distinct lt is sized ready makes room noted =
+    let R : ℕ × ℕ → Type 0 = λ m. IsSomeAnd (kept_of new x.0) (λ parts. HasRoomFor parts m) in
+    let P : List (PubKey × X) → Type 0 = λ l. IsReady size old l more new in
+    subst P (sym (next_at xs i x lt is)) (ready_more size old mid new (take i xs) x fresh more ready (none_before xs i x distinct lt is) makes (subst R sized room) noted)
+
+pub prepared_step : {X : Type 0} (old mid new : List (PubKey × Parts)) (xs : List (PubKey × X)) (i : ℕ) (x : PubKey × X) (fresh more : List PubKey) → i < length xs → x ≡ get_or xs i x
+    → ArePrepared old (take i xs) fresh mid → MakesRoom mid new x.0 fresh more → ArePrepared old xs more new
+prepared_step {X} old mid new xs i x fresh more lt is prepared makes =
+    let P : List (PubKey × X) → Type 0 = λ l. ArePrepared old l more new in
+    subst P (around xs i x lt is) (prepared_wider old new (take i xs ++ x ∷ []) (drop (i + 1) xs) more (prepared_more old mid new (take i xs) x fresh more prepared makes))
+
+pub both_same : (a b c d : ℕ) → a ≡ b → c ≡ d → ◌≡◌ {A = ℕ × ℕ} (a, c) (b, d)
+both_same a b c d e f = rw (e, f) refl
+
+-- ---- each record takes in what is listed for it
+
+-- a key of which something is kept gains something
+pub gains_at : {X : Type 0} (f : Past → X → Past) (old new : List (PubKey × Parts)) (pasts : List (PubKey × Past)) (key : PubKey) (x : X) (parts after : Parts) → IsStrictlySortedBy key_cmp (keys_of old) → kept_of old key ≡ Some parts
+    → new ≡ with_kept old key after → ((past : Past) → Stands parts past → Stands after (f past x)) → BooksStand old pasts → BooksStand new (gain f pasts (key, x))
+gains_at f old new pasts key x parts after sorted is_kept is stands each =
+    let found = each_found Stands old pasts key parts each is_kept in
+    let past = found.0 in
+    let S : List PubKey → Type 0 = λ ks. IsStrictlySortedBy key_cmp ks in
+    let there : IsSome (kept_of pasts key) = ap is_some found.1 in
+    let put : gain f pasts (key, x) ≡ with_kept pasts key (f past x) =
+        ap (λ o. with_key pasts key (f (known_past o) x)) found.1 ∙ put_kept pasts key (f past x) (subst S (each_keys Stands old pasts each) sorted) there
+    in
+    let E : List (PubKey × Parts) → Type 0 = λ l. EachKey Stands l (gain f pasts (key, x)) in
+    let F : List (PubKey × Past) → Type 0 = λ l. EachKey Stands (with_kept old key after) l in
+    subst E (sym is) (subst F (sym put) (each_changed Stands old pasts key after (f past x) each (stands past found.2)))
+
+-- what is kept of another key, where one record has changed
+pub others_at : (old new : List (PubKey × Parts)) (key other : PubKey) (after : Parts) → IsSome (kept_of old key) → new ≡ with_kept old key after → is_at (key_cmp key) other ≡ false → kept_of new other ≡ kept_of old other
+others_at old new key other after found is apart = rw (is, changed old key other after found, apart) refl
+
+-- so far the front of what is listed was taken in
+pub record GoesOn {X : Type 0} (f : Past → X → Past) (start : List (PubKey × Parts)) (front : List (PubKey × X)) (now : List (PubKey × Parts)) : Type 0 where
+  pub stands : (pasts : List (PubKey × Past)) → BooksStand start pasts → BooksStand now (fold (gain f) pasts front)
+  pub len : length now ≡ length start
+  pub others : KeepsOthers front start now
+
+pub goes_none : {X : Type 0} (f : Past → X → Past) (start : List (PubKey × Parts)) → GoesOn {X = X} f start [] start
+goes_none f start = record { stands = λ pasts stand. stand; len = refl; others = λ key none. refl }
+
+-- one more is taken in
+pub goes_more : {X : Type 0} (f : Past → X → Past) (start now new : List (PubKey × Parts)) (xs : List (PubKey × X)) (i : ℕ) (x : PubKey × X) → i < length xs → x ≡ get_or xs i x → GoesOn f start (take i xs) now
+    → ((pasts : List (PubKey × Past)) → BooksStand now pasts → BooksStand new (gain f pasts x)) → length new ≡ length now → ((other : PubKey) → is_at (key_cmp x.0) other ≡ false → kept_of new other ≡ kept_of now other)
+    → GoesOn f start (take (i + 1) xs) new
+goes_more {X} f start now new xs i x lt is so_far stands len others =
+    let P : List (PubKey × X) → Type 0 = λ l. GoesOn f start l new in
+    subst P (sym (next_at xs i x lt is)) (record {
+      stands = λ pasts stand.
+          let E : List (PubKey × Past) → Type 0 = λ l. BooksStand new l in
+          subst E (sym (fold_push (gain f) pasts (take i xs) x)) (stands (fold (gain f) pasts (take i xs)) (so_far.stands pasts stand));
+      len = len ∙ so_far.len;
+      others = λ key none.
+          let parts = none_in_both (take i xs) (x ∷ []) key none in
+          others key (apart_back key x.0 (apart_from_first x [] key parts.1)) ∙ so_far.others key parts.0;
+    })
+
+-- the room of the next is still as it was made
+pub room_next : {X : Type 0} (f : Past → X → Past) (size : X → ℕ × ℕ) (start now : List (PubKey × Parts)) (xs : List (PubKey × X)) (i : ℕ) (x : PubKey × X) → IsDistinct (eq_by_cmp key_cmp) (keys_of xs) → i < length xs
+    → x ≡ get_or xs i x → GoesOn f start (take i xs) now → HaveRoomFor size start xs → IsSomeAnd (kept_of now x.0) (λ parts. HasRoomFor parts (size x.1))
+room_next {X} f size start now xs i x distinct lt is so_far room =
+    let P : Option Parts → Type 0 = λ o. IsSomeAnd o (λ parts. HasRoomFor parts (size x.1)) in
+    let Q : PubKey × X → Type 0 = λ y. IsSomeAnd (kept_of start y.0) (λ parts. HasRoomFor parts (size y.1)) in
+    subst P (sym (so_far.others x.0 (none_before xs i x distinct lt is))) (subst Q (sym is) (room i x lt))
+
+-- ---- the fresh keys are taken out, or their records stay
+
+-- a key that is not listed is none of the fresh ones
+apart_from_fresh : {X : Type 0} (listed : List (PubKey × X)) (key k : PubKey) → kept_of listed key ≡ None → IsSome (kept_of listed k) → is_at (key_cmp k) key ≡ false
+apart_from_fresh {X} listed key k none found = at (is_at (key_cmp k) key) refl where
+  at : (b : Bool) → is_at (key_cmp k) key ≡ b → b ≡ false
+  at true e =
+      let same : IsSome (kept_of listed key) = subst (λ (q : PubKey). IsSome (kept_of listed q)) (same_key k key e) found in
+      absurd (let bad : false ≡ true = sym (ap is_some none) ∙ same in cc)
+  at false e = refl
+
+pub others_back : {X : Type 0} (old mid new : List (PubKey × Parts)) (listed : List (PubKey × X)) (fresh : List PubKey) → ArePrepared old listed fresh mid
+    → ((key : PubKey) → All (λ other. is_at (key_cmp other) key ≡ false) fresh → kept_of new key ≡ kept_of mid key) → KeepsOthers listed old new
+others_back old mid new listed fresh prepared out key none =
+    out key (All-weaker (λ k. IsSome (kept_of listed k)) (λ k. is_at (key_cmp k) key ≡ false) (λ k found. apart_from_fresh listed key k none found) fresh prepared.are_listed) ∙ prepared.others key none
+
+-- ---- a key that begins with no past and then gains is as one that was not kept and gains
+
+module _ {X : Type 0} where
+  -- keys that differ go in in either order
+  put_either : (xs : List (PubKey × X)) (j k : PubKey) (x y : X) → is_at (key_cmp j) k ≡ false → with_key (with_key xs j x) k y ≡ with_key (with_key xs k y) j x
+  put_either [] j k x y apart = at (key_cmp j k) refl apart where
+    at : (r : Ordering) → key_cmp j k ≡ r → is_eq r ≡ false → with_key ((j, x) ∷ []) k y ≡ with_key ((k, y) ∷ []) j x
+    at Less e no_tie = rw (key_total.antisymm k j, e) refl
+    at Equal e no_tie = absurd (let bad : true ≡ false = no_tie in cc)
+    at Greater e no_tie = rw (key_total.antisymm k j, e) refl
+  put_either (a ∷ more) j k x y apart = at (key_cmp j a.0) (key_cmp k a.0) refl refl (put_either more j k x y apart) where
+    back : is_at (key_cmp k) j ≡ false
+    back = apart_back j k apart
+
+    -- where one goes before another, the other goes behind it
+    behind : (p q : PubKey) → key_cmp p q ≡ Less → key_cmp q p ≡ Greater
+    behind p q e = key_total.antisymm q p ∙ ap ordering_reverse e
+
+    before : (p q : PubKey) → key_cmp p q ≡ Greater → key_cmp q p ≡ Less
+    before p q e = key_total.antisymm q p ∙ ap ordering_reverse e
+
+    put : Ordering → PubKey → X → List (PubKey × X) → List (PubKey × X)
+    put r q z rest = match_ordering r ((q, z) ∷ a ∷ more) ((a.0, z) ∷ more) (a ∷ rest)
+
+    at : (r s : Ordering) → key_cmp j a.0 ≡ r → key_cmp k a.0 ≡ s → with_key (with_key more j x) k y ≡ with_key (with_key more k y) j x
+        → with_key (match_ordering r ((j, x) ∷ a ∷ more) ((a.0, x) ∷ more) (a ∷ with_key more j x)) k y ≡ with_key (match_ordering s ((k, y) ∷ a ∷ more) ((a.0, y) ∷ more) (a ∷ with_key more k y)) j x
+    at Less Less e f rest = by (key_cmp j k) refl apart where
+      by : (t : Ordering) → key_cmp j k ≡ t → is_eq t ≡ false → with_key ((j, x) ∷ a ∷ more) k y ≡ with_key ((k, y) ∷ a ∷ more) j x
+      by Less g no_tie = rw (g, behind j k g, e, f) refl
+      by Equal g no_tie = absurd (let bad : true ≡ false = no_tie in cc)
+      by Greater g no_tie = rw (g, before j k g, e, f) refl
+    at Less Equal e f rest =
+        let g : key_cmp j k ≡ Less = subst (λ (q : PubKey). key_cmp j q ≡ Less) (sym (key_exact k a.0 f)) e in
+        rw (behind j k g, e, f) refl
+    at Less Greater e f rest =
+        let g : key_cmp j k ≡ Less = key_total.trans j a.0 k e (before k a.0 f) in
+        rw (behind j k g, e, f) refl
+    at Equal Less e f rest =
+        let g : key_cmp k j ≡ Less = subst (λ (q : PubKey). key_cmp k q ≡ Less) (sym (key_exact j a.0 e)) f in
+        rw (behind k j g, e, f) refl
+    at Equal Equal e f rest =
+        let same : j ≡ k = key_exact j a.0 e ∙ sym (key_exact k a.0 f) in
+        absurd (let bad : true ≡ false = sym (subst (λ (q : PubKey). is_at (key_cmp j) q ≡ true) same (at_itself j)) ∙ apart in cc)
+    at Equal Greater e f rest = rw (e, f) refl
+    at Greater Less e f rest =
+        let g : key_cmp k j ≡ Less = key_total.trans k a.0 j f (before j a.0 e) in
+        rw (behind k j g, e, f) refl
+    at Greater Equal e f rest = rw (e, f) refl
+    at Greater Greater e f rest = rw (e, f) (ap (λ l. a ∷ l) rest)

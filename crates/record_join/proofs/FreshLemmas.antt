@@ -1,17 +1,18 @@
 -- Keys that become known with empty records, and are taken out again.
 use Rattle.std.proofs.Common.{◌≡◌, ℕ, ◌+◌, ◌⊎◌, inl, inr, true, false, Bool, cond, List, [], ◌∷◌, ◌++◌, length, None, Some, Option, refl, sym, ◌∙◌, ap, subst, arith, All}
-use Rattle.std.specs.Prelude.{IsSome, IsSomeAnd, is_some, not, count_by}
+use Rattle.std.specs.Prelude.{IsSome, IsSomeAnd, is_some, not}
 use Rattle.std.specs.Option.{option_to_list}
 use Rattle.std.specs.BTreeMap.{is_at}
 use Rattle.std.specs.Map.{remove_entry}
-use Rattle.std.proofs.lemmas.List.Sums.{fold_push}
-use Rattle.std.proofs.lemmas.List.Elements.{All-push, All-pop, All-weaker, All-nil}
+use Rattle.std.specs.List.{AllByRecursion as ByRecursion}
+use Rattle.std.proofs.lemmas.List.Sums.{fold_push, sum_by_push}
+use Rattle.std.proofs.lemmas.List.Elements.{All-push, All-pop, All-weaker, All-nil, All-from_recursion, recursion_from_All}
 use Rattle.edge_kit.specs.declared.bytes.PubKey.{PubKey}
 use Rattle.protect_record.specs.Parts.{Parts, SameParts}
 use Rattle.record_join.specs.Keys.{key_cmp, kept_of, with_key, with_kept, EachKey}
 use Rattle.record_join.specs.BooksPasts.{KeepsOthers, new_keys}
 use Rattle.record_join.specs.Preparing.{no_parts, with_each, AreFresh, HasRoomFor, HaveRoomFor, ArePrepared, IsReady, Knows, IsRoomier, MakesRoom}
-use Rattle.record_join.proofs.KeyLemmas.{each_flip, each_none, each_new, each_removed, each_length}
+use Rattle.record_join.proofs.KeyLemmas.{each_flip, each_none, each_new, each_removed, each_self}
 use Rattle.record_join.proofs.OrderLemmas.{kept_here, kept_apart, at_itself, apart_back, taken_out, changed, length_new, none_in_both, some_in_first, some_in_second, apart_from_first}
 use Rattle.record_join.proofs.BooksLemmas.{roomier_same, same_itself}
 
@@ -102,3 +103,76 @@ way_on start_keys start old keys now new key way is removed others = record {
       let parts = All-pop (λ k. is_at (key_cmp k) other ≡ false) old keys (Some key) is at.0 in
       (parts.0, others other parts.1 ∙ at.1);
 }
+
+-- ---- one more of what is listed
+
+-- what is listed may be more
+pub prepared_wider : {X : Type 0} (old new : List (PubKey × Parts)) (front rest : List (PubKey × X)) (fresh : List PubKey) → ArePrepared old front fresh new → ArePrepared old (front ++ rest) fresh new
+prepared_wider old new front rest fresh is = record {
+  same = is.same;
+  absent = is.absent;
+  are_listed = All-weaker (λ k. IsSome (kept_of front k)) (λ k. IsSome (kept_of (front ++ rest) k)) (λ k found. some_in_first front rest k found) fresh is.are_listed;
+  others = λ key none. is.others key (none_in_both front rest key none).0;
+}
+
+pub prepared_more : {X : Type 0} (old mid new : List (PubKey × Parts)) (front : List (PubKey × X)) (one : PubKey × X) (fresh more : List PubKey) → ArePrepared old front fresh mid → MakesRoom mid new one.0 fresh more
+    → ArePrepared old (front ++ one ∷ []) more new
+prepared_more {X} old mid new front one fresh more is makes =
+    let both = makes.same old is.absent is.same in record {
+      same = both.1;
+      absent = both.0;
+      are_listed = noted makes.noted;
+      others = λ key none.
+          let parts = none_in_both front (one ∷ []) key none in
+          makes.others key (apart_back key one.0 (apart_from_first one [] key parts.1)) ∙ is.others key parts.0;
+    } where
+      wider : ArePrepared old (front ++ one ∷ []) fresh mid
+      wider = prepared_wider old mid front (one ∷ []) fresh is
+
+      here : IsSome (kept_of (one ∷ []) one.0)
+      here = rw (at_itself one.0) refl
+
+      noted : (more ≡ fresh) ⊎ (more ≡ fresh ++ one.0 ∷ []) → All (λ k. IsSome (kept_of (front ++ one ∷ []) k)) more
+      noted (inl e) = subst (λ (ks : List PubKey). All (λ k. IsSome (kept_of (front ++ one ∷ []) k)) ks) (sym e) wider.are_listed
+      noted (inr e) = subst (λ (ks : List PubKey). All (λ k. IsSome (kept_of (front ++ one ∷ []) k)) ks) (sym e)
+          (All-push (λ k. IsSome (kept_of (front ++ one ∷ []) k)) fresh one.0 wider.are_listed (some_in_second front (one ∷ []) one.0 here))
+
+-- a listed key keeps its room where another's changes
+room_kept : {X : Type 0} (size : X → ℕ × ℕ) (old new : List (PubKey × Parts)) (key : PubKey) (front : List (PubKey × X)) → kept_of front key ≡ None
+    → ((other : PubKey) → is_at (key_cmp key) other ≡ false → kept_of new other ≡ kept_of old other) → ByRecursion (λ one. IsSomeAnd (kept_of old one.0) (λ parts. HasRoomFor parts (size one.1))) front
+    → ByRecursion (λ one. IsSomeAnd (kept_of new one.0) (λ parts. HasRoomFor parts (size one.1))) front
+room_kept size old new key [] none others all = tt
+room_kept {X} size old new key (a ∷ more) none others all =
+    let apart : is_at (key_cmp key) a.0 ≡ false = apart_from_first a more key none in
+    let P : Option Parts → Type 0 = λ o. IsSomeAnd o (λ parts. HasRoomFor parts (size a.1)) in
+    (subst P (sym (others a.0 apart)) all.0, room_kept size old new key more (later apart none) others all.1) where
+      later : is_at (key_cmp key) a.0 ≡ false → kept_of (a ∷ more) key ≡ None → kept_of more key ≡ None
+      later apart h = rw apart at h
+
+-- so many more are fresh
+one_or_none : (b : Bool) (n : ℕ) → n + cond b 0 1 ≡ n + cond (not b) 1 0
+one_or_none true n = refl
+one_or_none false n = refl
+
+pub ready_more : {X : Type 0} (size : X → ℕ × ℕ) (old mid new : List (PubKey × Parts)) (front : List (PubKey × X)) (one : PubKey × X) (fresh more : List PubKey) → IsReady size old front fresh mid
+    → kept_of front one.0 ≡ None → MakesRoom mid new one.0 fresh more → IsSomeAnd (kept_of new one.0) (λ parts. HasRoomFor parts (size one.1))
+    → length more ≡ length fresh + cond (is_some (kept_of mid one.0)) 0 1 → IsReady size old (front ++ one ∷ []) more new
+ready_more {X} size old mid new front one fresh more is none makes room noted = record {
+  prepared = prepared_more old mid new front one fresh more is.prepared makes;
+  count =
+      let same : is_some (kept_of mid one.0) ≡ is_some (kept_of old one.0) = ap is_some (is.prepared.others one.0 none) in
+      noted ∙ one_or_none (is_some (kept_of mid one.0)) (length fresh) ∙ ap (λ n. n + cond (not (is_some (kept_of mid one.0))) 1 0) is.count
+      ∙ ap (λ b. new_keys old front + cond (not b) 1 0) same ∙ sym (sum_by_push (λ a. cond (not (is_some (kept_of old a.0))) 1 0) front one);
+  room =
+      let before = room_kept size mid new one.0 front none makes.others (recursion_from_All (λ a. IsSomeAnd (kept_of mid a.0) (λ parts. HasRoomFor parts (size a.1))) front is.room) in
+      All-push (λ a. IsSomeAnd (kept_of new a.0) (λ parts. HasRoomFor parts (size a.1))) front one
+      (All-from_recursion (λ a. IsSomeAnd (kept_of new a.0) (λ parts. HasRoomFor parts (size a.1))) front before) room;
+}
+
+-- nothing is listed yet
+pub ready_none : {X : Type 0} (size : X → ℕ × ℕ) (old : List (PubKey × Parts)) (fresh : List PubKey) → fresh ≡ [] → IsReady {X = X} size old [] fresh old
+ready_none {X} size old fresh is = let P : List PubKey → Type 0 = λ ks. IsReady {X = X} size old [] ks old in subst P (sym is) (record {
+  prepared = record { same = each_self SameParts same_itself old; absent = tt; are_listed = All-nil (λ k. IsSome (kept_of {X = X} [] k)); others = λ key none. refl };
+  count = refl;
+  room = All-nil (λ (a : PubKey × X). IsSomeAnd (kept_of old a.0) (λ parts. HasRoomFor parts (size a.1)));
+})
