@@ -1,5 +1,5 @@
 -- What is listed is taken in, one after another.
-use Rattle.std.proofs.Common.{◌≡◌, ℕ, suc, ◌+◌, ◌<◌, ◌≤◌, ◌⊎◌, inl, inr, true, false, Bool, cond, List, [], ◌∷◌, ◌++◌, length, take, drop, get_or, fold, None, Some, Option, refl, sym, ◌∙◌, ap, subst, arith, add-one, All}
+use Rattle.std.proofs.Common.{◌≡◌, ℕ, suc, ◌+◌, ◌<◌, ◌≤◌, ◌⊎◌, inl, inr, true, false, Bool, cond, List, [], ◌∷◌, ◌++◌, length, take, drop, get_or, fold, None, Some, Option, refl, sym, ◌∙◌, ap, subst, arith, All, Contains}
 use Rattle.std.specs.Prelude.{IsSome, IsSomeAnd, is_some}
 use Rattle.std.specs.Ordering.{eq_by_cmp, match_ordering, ordering_reverse, is_eq}
 use Rattle.std.specs.declared.cmp.Ordering.{Ordering}
@@ -15,11 +15,16 @@ use Rattle.std.proofs.lemmas.List.Elements.{All-head, All-tail, All-weaker}
 use Rattle.std.proofs.lemmas.Map.Made.{IsDistinct-from_AllPairs}
 use Rattle.edge_kit.specs.declared.bytes.PubKey.{PubKey}
 use Rattle.slash_defs.specs.declared.book.Book.{Book}
-use Rattle.protect_record.specs.Parts.{Parts, SameParts}
-use Rattle.protect_record.specs.Pasts.{Past, no_past}
+use Rattle.slash_defs.specs.declared.entry.BlockEntry.{BlockEntry}
+use Rattle.slash_defs.specs.declared.entry.VoteEntry.{VoteEntry}
+use Rattle.protect_record.specs.Floors.{IsDeadBlock, IsDeadVote}
+use Rattle.protect_record.specs.Parts.{Parts, SameParts, no_floors}
+use Rattle.protect_record.specs.Pasts.{Past, no_past, IsPastBlock, IsPastVote}
 use Rattle.protect_record.specs.Standing.{Stands}
 use Rattle.record_join.specs.Keys.{key_cmp, kept_of, with_key, with_kept, EachKey}
-use Rattle.record_join.specs.BooksPasts.{BooksStand, EachOnce, KeepsOthers, gain, known_past, put_past, new_keys}
+use Rattle.record_join.specs.BooksPasts.{BooksStand, EachOnce, IsMergeFault, IsOverLimit, KeepsOthers, gain, known_past, new_keys}
+use Rattle.record_join.specs.declared.fault.MergeFault.{MergeFault}
+use Rattle.record_join.specs.declared.fault.MergeFault.TheVariants as merge_fault
 use Rattle.record_join.specs.Preparing.{no_parts, with_each, AreFresh, HasRoomFor, HaveRoomFor, ArePrepared, IsReady, MakesRoom}
 use Rattle.record_join.proofs.KeyLemmas.{each_found, each_keys, each_length, each_none, each_new, each_changed}
 use Rattle.record_join.proofs.OrderLemmas.{key_total, key_exact, at_itself, same_key, apart_back, kept_here, kept_apart, put_twice, put_kept, changed, none_in_both, apart_from_first, once_before}
@@ -159,16 +164,13 @@ module _ {X : Type 0} where
     before : (p q : PubKey) → key_cmp p q ≡ Greater → key_cmp q p ≡ Less
     before p q e = key_total.antisymm q p ∙ ap ordering_reverse e
 
-    put : Ordering → PubKey → X → List (PubKey × X) → List (PubKey × X)
-    put r q z rest = match_ordering r ((q, z) ∷ a ∷ more) ((a.0, z) ∷ more) (a ∷ rest)
-
     at : (r s : Ordering) → key_cmp j a.0 ≡ r → key_cmp k a.0 ≡ s → with_key (with_key more j x) k y ≡ with_key (with_key more k y) j x
         → with_key (match_ordering r ((j, x) ∷ a ∷ more) ((a.0, x) ∷ more) (a ∷ with_key more j x)) k y ≡ with_key (match_ordering s ((k, y) ∷ a ∷ more) ((a.0, y) ∷ more) (a ∷ with_key more k y)) j x
     at Less Less e f rest = by (key_cmp j k) refl apart where
       by : (t : Ordering) → key_cmp j k ≡ t → is_eq t ≡ false → with_key ((j, x) ∷ a ∷ more) k y ≡ with_key ((k, y) ∷ a ∷ more) j x
-      by Less g no_tie = rw (g, behind j k g, e, f) refl
+      by Less g no_tie = rw (g, behind j k g, f) refl
       by Equal g no_tie = absurd (let bad : true ≡ false = no_tie in cc)
-      by Greater g no_tie = rw (g, before j k g, e, f) refl
+      by Greater g no_tie = rw (g, before j k g, e) refl
     at Less Equal e f rest =
         let g : key_cmp j k ≡ Less = subst (λ (q : PubKey). key_cmp j q ≡ Less) (sym (key_exact k a.0 f)) e in
         rw (behind j k g, e, f) refl
@@ -187,3 +189,78 @@ module _ {X : Type 0} where
         rw (behind k j g, e, f) refl
     at Greater Equal e f rest = rw (e, f) refl
     at Greater Greater e f rest = rw (e, f) (ap (λ l. a ∷ l) rest)
+
+-- to begin with no past is not seen once something was gained
+one_unseen : {X : Type 0} (f : Past → X → Past) (listed : List (PubKey × X)) (pasts : List (PubKey × Past)) (key : PubKey) → kept_of pasts key ≡ None → IsSome (kept_of listed key)
+    → fold (gain f) (with_key pasts key no_past) listed ≡ fold (gain f) pasts listed
+one_unseen f [] pasts key none found = let bad : false ≡ true = found in cc
+one_unseen {X} f (one ∷ more) pasts key none found = at (is_at (key_cmp key) one.0) refl found (λ still later. one_unseen f more (gain f pasts one) key still later) where
+  at : (b : Bool) → is_at (key_cmp key) one.0 ≡ b → IsSome (cond b (Some one.1) (kept_of more key))
+      → (kept_of (gain f pasts one) key ≡ None → IsSome (kept_of more key) → fold (gain f) (with_key (gain f pasts one) key no_past) more ≡ fold (gain f) (gain f pasts one) more) → fold (gain f) (gain f (with_key pasts key no_past) one) more ≡ fold (gain f) (gain f pasts one) more
+  at true e h rest =
+      let same : one.0 ≡ key = sym (same_key key one.0 e) in
+      let known : kept_of (with_key pasts key no_past) one.0 ≡ Some no_past = ap (λ k. kept_of (with_key pasts key no_past) k) same ∙ kept_here pasts key no_past in
+      let absent : kept_of pasts one.0 ≡ None = ap (λ k. kept_of pasts k) same ∙ none in
+      let both : gain f (with_key pasts key no_past) one ≡ gain f pasts one =
+          ap (λ o. with_key (with_key pasts key no_past) one.0 (f (known_past o) one.1)) known ∙ ap (λ k. with_key (with_key pasts k no_past) one.0 (f no_past one.1)) (sym same)
+          ∙ put_twice pasts one.0 no_past (f no_past one.1) ∙ ap (λ o. with_key pasts one.0 (f (known_past o) one.1)) (sym absent)
+      in
+      ap (λ l. fold (gain f) l more) both
+  at false e h rest =
+      let known : kept_of (with_key pasts key no_past) one.0 ≡ kept_of pasts one.0 = kept_apart pasts key one.0 no_past e in
+      let after = f (known_past (kept_of pasts one.0)) one.1 in
+      let both : gain f (with_key pasts key no_past) one ≡ with_key (gain f pasts one) key no_past =
+          ap (λ o. with_key (with_key pasts key no_past) one.0 (f (known_past o) one.1)) known ∙ put_either pasts key one.0 no_past after e
+      in
+      let still : kept_of (gain f pasts one) key ≡ None = kept_apart pasts one.0 key after (apart_back key one.0 e) ∙ none in
+      ap (λ l. fold (gain f) l more) both ∙ rest still h
+
+unseen : {X : Type 0} (f : Past → X → Past) (listed : List (PubKey × X)) (pasts : List (PubKey × Past)) (fresh : List PubKey) → AreFresh no_past pasts fresh → All (λ key. IsSome (kept_of listed key)) fresh
+    → fold (gain f) (with_each no_past pasts fresh) listed ≡ fold (gain f) pasts listed
+unseen f listed pasts [] are all = refl
+unseen f listed pasts (key ∷ keys) are all =
+    unseen f listed (with_key pasts key no_past) keys are.1 (All-tail (λ k. IsSome (kept_of listed k)) key keys all)
+    ∙ one_unseen f listed pasts key are.0 (All-head (λ k. IsSome (kept_of listed k)) key keys all)
+
+-- keys that are fresh in the one are fresh in the other, and may begin in both
+each_fresh : {X Y : Type 0} (R : X → Y → Type 0) (x : X) (y : Y) → R x y → (xs : List (PubKey × X)) (ys : List (PubKey × Y)) (keys : List PubKey) → EachKey R xs ys → AreFresh x xs keys
+    → AreFresh y ys keys × EachKey R (with_each x xs keys) (with_each y ys keys)
+each_fresh R x y r xs ys [] each are = (tt, each)
+each_fresh R x y r xs ys (key ∷ keys) each are =
+    let rest = each_fresh R x y r (with_key xs key x) (with_key ys key y) keys (each_new R xs ys key x y each r) are.1 in
+    ((each_none R xs ys key each are.0, rest.0), rest.1)
+
+no_parts_stand : Stands no_parts no_past
+no_parts_stand = record {
+  floors = refl;
+  blocks = λ e. (λ has. absurd (omega (arith, has.1)), block e);
+  votes = λ e. (λ has. absurd (omega (arith, has.1)), vote e);
+  blocks_in_order = λ i j d lt within. absurd (omega arith);
+  votes_in_order = λ i j d lt within. absurd (omega arith);
+} where
+  block : (e : BlockEntry) → IsPastBlock no_past e × ¬ (IsDeadBlock no_floors e) → Contains [] e
+  block e (inl book, live) = absurd (let h = book.1.1 in omega arith)
+  block e (inr own, live) = absurd (let h = own.2.1 in omega arith)
+
+  vote : (e : VoteEntry) → IsPastVote no_past e × ¬ (IsDeadVote no_floors e) → Contains [] e
+  vote e (inl book, live) = absurd (let h = book.1.1 in omega arith)
+  vote e (inr own, live) = absurd (let h = own.2.1 in omega arith)
+
+-- what the prepared records gained, the pasts gained that were before
+pub all_gained : {X : Type 0} (f : Past → X → Past) (old mid new : List (PubKey × Parts)) (listed : List (PubKey × X)) (fresh : List PubKey) (pasts : List (PubKey × Past)) → EachKey SameParts (with_each no_parts old fresh) mid → AreFresh no_parts old fresh
+    → All (λ key. IsSome (kept_of listed key)) fresh → ((before : List (PubKey × Past)) → BooksStand mid before → BooksStand new (fold (gain f) before listed)) → BooksStand old pasts → BooksStand new (fold (gain f) pasts listed)
+all_gained f old mid new listed fresh pasts same absent are_listed stands stand =
+    let both = each_fresh Stands no_parts no_past no_parts_stand old pasts fresh stand absent in
+    let middle = all_same_stand (with_each no_parts old fresh) mid (with_each no_past pasts fresh) same both.1 in
+    let E : List (PubKey × Past) → Type 0 = λ l. BooksStand new l in
+    subst E (unseen f listed pasts fresh both.0 are_listed) (stands (with_each no_past pasts fresh) middle)
+
+-- so many keys more
+pub length_after : {X : Type 0} (size : X → ℕ × ℕ) (old mid new : List (PubKey × Parts)) (listed : List (PubKey × X)) (fresh : List PubKey) → IsReady size old listed fresh mid → length new ≡ length mid → length new ≡ length old + new_keys old listed
+length_after size old mid new listed fresh ready len =
+    len ∙ sym (each_length SameParts (with_each no_parts old fresh) mid ready.prepared.same) ∙ length_fresh no_parts old fresh ready.prepared.absent ∙ ap (λ n. length old + n) ready.count
+
+-- a fault of numbers is one of what is kept and listed
+pub over_is : {X : Type 0} (kept : List (PubKey × Parts)) (listed : List (PubKey × X)) (have new : ℕ) (fault : MergeFault) → have ≡ length kept → new ≡ new_keys kept listed → IsOverLimit have new fault → IsMergeFault kept listed fault
+over_is kept listed have new (merge_fault.TooManyKeys n m) h k over = (over.0 ∙ h, over.1 ∙ k, over.2)
+over_is kept listed have new merge_fault.OutOfMemory h k over = absurd over

@@ -9,7 +9,7 @@ ghost use Rattle.record_join.specs.BooksPasts.{BooksStand, TakesIn, Prunes, IsBe
 
 use crate::fault::{BeginFault, MergeFault};
 use crate::joining::{join_records, prepare_records};
-use crate::limit::{KEY_LIMIT, new_books, new_records, within_limit};
+use crate::limit::{KEY_LIMIT, new_books, new_records, over_limit};
 use crate::merging::{merge_books, prepare_books};
 use crate::keep::{prune_at, take_in};
 use crate::taken::{Pruned, Taken};
@@ -144,10 +144,13 @@ impl Books {
         ensures others { KeepsOthers file.now.books self.old self.new }
     {
         let books = file.books.as_slice();
-        within_limit(self.kept.len(), new_books(&self.kept, books))?;
-        if prepare_books(&mut self.kept, self.alloc, books).is_err() {
-            return Err(MergeFault::OutOfMemory);
+        let new = new_books(&self.kept, books);
+        if let Some(fault) = over_limit(self.kept.len(), new) {
+            return Err(fault);
         }
+        let Ok(()) = prepare_books(&mut self.kept, self.alloc, books) else {
+            return Err(MergeFault::OutOfMemory);
+        };
         merge_books(&mut self.kept, books);
         Ok(())
     }
@@ -169,10 +172,13 @@ impl Books {
         ensures same { OnErr result (EachKey SameParts self.old self.new) }
         ensures others { KeepsOthers other.now self.old self.new }
     {
-        within_limit(self.kept.len(), new_records(&self.kept, &other.kept))?;
-        if prepare_records(&mut self.kept, self.alloc, &other.kept).is_err() {
-            return Err(MergeFault::OutOfMemory);
+        let new = new_records(&self.kept, &other.kept);
+        if let Some(fault) = over_limit(self.kept.len(), new) {
+            return Err(fault);
         }
+        let Ok(()) = prepare_records(&mut self.kept, self.alloc, &other.kept) else {
+            return Err(MergeFault::OutOfMemory);
+        };
         join_records(&mut self.kept, &other.kept);
         Ok(())
     }

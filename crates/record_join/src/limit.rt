@@ -1,5 +1,5 @@
 //! How many keys are kept at most.
-ghost use Rattle.std.specs.Prelude.{◌≡◌, ◌+◌, ◌<◌, ◌≤◌, OnOk, IfErr, length};
+ghost use Rattle.std.specs.Prelude.{◌≡◌, ◌+◌, ◌≤◌, MatchOption};
 ghost use Rattle.record_join.specs.BooksPasts.{key_limit, new_keys, IsOverLimit};
 
 use crate::fault::MergeFault;
@@ -11,19 +11,14 @@ use std::collections::BTreeMap;
 /// How many keys are kept at most.
 pub const KEY_LIMIT: usize = 65_536;
 
-/// Whether so many keys and so many new ones are no more than may be kept.
-///
-/// # Errors
-///
-/// `TooManyKeys` where they are more.
-pub fn within_limit(have: usize, new: usize) -> Result<(), MergeFault>
-    ensures ok { OnOk result (have + new ≤ key_limit) }
-    ensures err { IfErr result (IsOverLimit have new) }
+/// The fault of so many keys and so many new ones, where they are more than may be kept.
+pub fn over_limit(have: usize, new: usize) -> Option<MergeFault>
+    ensures { MatchOption result (have + new ≤ key_limit) (IsOverLimit have new) }
 {
     if have <= KEY_LIMIT && new <= KEY_LIMIT - have {
-        return Ok(());
+        return None;
     }
-    Err(MergeFault::TooManyKeys {
+    Some(MergeFault::TooManyKeys {
         have: have as u64,
         new: new as u64,
     })
