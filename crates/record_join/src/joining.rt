@@ -84,5 +84,7 @@ fn join_at(kept: &mut BTreeMap<PubKey, Record>, key: &PubKey, more: &Record)
 fn size_of(other: &Record) -> (usize, usize)
     ensures { result ≡ parts_size other.now }
 {
-    (other.blocks().count(), other.votes().count())
+    let blocks = other.blocks();
+    let votes = other.votes();
+    (blocks.count(), votes.count())
 }
