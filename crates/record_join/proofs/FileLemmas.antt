@@ -1,15 +1,17 @@
 -- What is listed is taken in, one after another.
-use Rattle.std.proofs.Common.{◌≡◌, ℕ, suc, ◌+◌, ◌<◌, ◌≤◌, ◌⊎◌, inl, inr, true, false, Bool, cond, List, [], ◌∷◌, ◌++◌, length, take, drop, get_or, fold, None, Some, Option, refl, sym, ◌∙◌, ap, subst, arith, All, Contains}
+use Rattle.std.proofs.Common.{◌≡◌, ℕ, zero, suc, ◌+◌, ◌<◌, ◌≤◌, ◌⊎◌, inl, inr, true, false, Bool, cond, List, [], ◌∷◌, ◌++◌, length, take, drop, get_or, fold, None, Some, Option, refl, sym, ◌∙◌, ap, subst, arith, All, Contains}
 use Rattle.std.specs.Prelude.{IsSome, IsSomeAnd, is_some}
 use Rattle.std.specs.Ordering.{eq_by_cmp, match_ordering, ordering_reverse, is_eq}
 use Rattle.std.specs.declared.cmp.Ordering.{Ordering}
 use Rattle.std.specs.declared.cmp.Ordering.TheVariants.{Less, Equal, Greater}
 use Rattle.std.specs.Bool.{Decides}
 use Rattle.std.specs.BTreeMap.{is_at}
-use Rattle.std.specs.List.{IsDistinct}
+use Rattle.std.specs.List.{IsDistinct, slice_get}
 use Rattle.std.specs.List.Sorted.{IsStrictlySortedBy}
 use Rattle.std.specs.Map.{keys_of}
-use Rattle.std.proofs.lemmas.List.{take_more, take-append-drop}
+use Rattle.std.proofs.lemmas.List.{take_more, take_all, take-append-drop}
+use Rattle.std.proofs.lemmas.Option.{slice_get_within, get_or_from_slice_get}
+use Rattle.std.proofs.lemmas.Map.Keys.{IsDistinct-from_sorted}
 use Rattle.std.proofs.lemmas.List.Sums.{fold_push}
 use Rattle.std.proofs.lemmas.List.Elements.{All-head, All-tail, All-weaker}
 use Rattle.std.proofs.lemmas.Map.Made.{IsDistinct-from_AllPairs}
@@ -19,14 +21,14 @@ use Rattle.slash_defs.specs.declared.entry.BlockEntry.{BlockEntry}
 use Rattle.slash_defs.specs.declared.entry.VoteEntry.{VoteEntry}
 use Rattle.protect_record.specs.Floors.{IsDeadBlock, IsDeadVote}
 use Rattle.protect_record.specs.Parts.{Parts, SameParts, no_floors}
-use Rattle.protect_record.specs.Pasts.{Past, no_past, IsPastBlock, IsPastVote}
+use Rattle.protect_record.specs.Pasts.{Past, no_past, then_past, IsPastBlock, IsPastVote}
 use Rattle.protect_record.specs.Standing.{Stands}
 use Rattle.record_join.specs.Keys.{key_cmp, kept_of, with_key, with_kept, EachKey}
-use Rattle.record_join.specs.BooksPasts.{BooksStand, EachOnce, IsMergeFault, IsOverLimit, KeepsOthers, gain, known_past, new_keys}
+use Rattle.record_join.specs.BooksPasts.{BooksStand, EachOnce, IsMergeFault, IsOverLimit, KeepsOthers, gain, joined, known_past, new_keys}
 use Rattle.record_join.specs.declared.fault.MergeFault.{MergeFault}
 use Rattle.record_join.specs.declared.fault.MergeFault.TheVariants as merge_fault
-use Rattle.record_join.specs.Preparing.{no_parts, with_each, AreFresh, HasRoomFor, HaveRoomFor, ArePrepared, IsReady, MakesRoom}
-use Rattle.record_join.proofs.KeyLemmas.{each_found, each_keys, each_length, each_none, each_new, each_changed}
+use Rattle.record_join.specs.Preparing.{no_parts, with_each, AreFresh, HasRoomFor, HaveRoomFor, ArePrepared, IsReady, MakesRoom, parts_size}
+use Rattle.record_join.proofs.KeyLemmas.{each_found, each_keys, each_length, each_none, each_new, each_changed, each_present}
 use Rattle.record_join.proofs.OrderLemmas.{key_total, key_exact, at_itself, same_key, apart_back, kept_here, kept_apart, put_twice, put_kept, changed, none_in_both, apart_from_first, once_before}
 use Rattle.record_join.proofs.BooksLemmas.{all_same_stand}
 use Rattle.record_join.proofs.FreshLemmas.{prepared_more, prepared_wider, ready_more, length_fresh}
@@ -264,3 +266,79 @@ length_after size old mid new listed fresh ready len =
 pub over_is : {X : Type 0} (kept : List (PubKey × Parts)) (listed : List (PubKey × X)) (have new : ℕ) (fault : MergeFault) → have ≡ length kept → new ≡ new_keys kept listed → IsOverLimit have new fault → IsMergeFault kept listed fault
 over_is kept listed have new (merge_fault.TooManyKeys n m) h k over = (over.0 ∙ h, over.1 ∙ k, over.2)
 over_is kept listed have new merge_fault.OutOfMemory h k over = absurd over
+
+-- ---- records are joined
+
+-- so far the first of the others were joined
+pub record JoinsOn (start joining : List (PubKey × Parts)) (n : ℕ) (now : List (PubKey × Parts)) : Type 0 where
+  pub stands : (pasts more : List (PubKey × Past)) → BooksStand start pasts → BooksStand joining more → BooksStand now (fold (gain then_past) pasts (take n more))
+  pub len : length now ≡ length start
+  pub others : KeepsOthers (take n joining) start now
+
+-- what is at a place of the one fits what is there in the other
+each_at : {X Y : Type 0} (R : X → Y → Type 0) (xs : List (PubKey × X)) (ys : List (PubKey × Y)) (i : ℕ) (x : PubKey × X) (y : PubKey × Y) → EachKey R xs ys → i < length xs
+    → (i < length ys) × ((get_or xs i x).0 ≡ (get_or ys i y).0) × R (get_or xs i x).1 (get_or ys i y).1
+each_at R [] ys i x y h lt = absurd (omega arith)
+each_at R (a ∷ more) [] i x y h lt = absurd h
+each_at R (a ∷ more) (b ∷ bs) zero x y h lt = (omega arith, h.0, h.1)
+each_at R (a ∷ more) (b ∷ bs) (suc i) x y h lt = let rest = each_at R more bs i x y h.2 (omega arith) in (omega (arith, rest.0), rest.1, rest.2)
+
+-- one more is joined
+pub joins_more : (start others now new : List (PubKey × Parts)) (i : ℕ) (x : PubKey × Parts) → i < length others → x ≡ get_or others i x → JoinsOn start others i now
+    → ((pasts : List (PubKey × Past)) (past : Past) → BooksStand now pasts → Stands x.1 past → BooksStand new (gain then_past pasts (x.0, past))) → length new ≡ length now
+    → ((other : PubKey) → is_at (key_cmp x.0) other ≡ false → kept_of new other ≡ kept_of now other) → JoinsOn start others (i + 1) new
+joins_more start others now new i x lt is so_far stands len kept = record {
+  stands = λ pasts more stand each.
+      let y : PubKey × Past = (x.0, no_past) in
+      let at = each_at Stands others more i x y each lt in
+      let q = get_or more i y in
+      let key : x.0 ≡ q.0 = ap (λ (z : PubKey × Parts). z.0) is ∙ at.1 in
+      let S : PubKey × Parts → Type 0 = λ z. Stands z.1 q.1 in
+      let G : PubKey → Type 0 = λ k. BooksStand new (gain then_past (fold (gain then_past) pasts (take i more)) (k, q.1)) in
+      let E : List (PubKey × Past) → Type 0 = λ l. BooksStand new l in
+      let after = stands (fold (gain then_past) pasts (take i more)) q.1 (so_far.stands pasts more stand each) (subst S (sym is) at.2) in
+      let whole = ap (λ l. fold (gain then_past) pasts l) (take_more more i y at.0) ∙ fold_push (gain then_past) pasts (take i more) q in
+      subst E (sym whole) (subst G key after);
+  len = len ∙ so_far.len;
+  others = λ key none.
+      let parts = none_in_both (take i others) (x ∷ []) key (ap (λ l. kept_of l key) (sym (next_at others i x lt is)) ∙ none) in
+      kept key (apart_back key x.0 (apart_from_first x [] key parts.1)) ∙ so_far.others key parts.0;
+}
+
+-- the room of the next is still as it was made
+pub room_next_join : (start others now : List (PubKey × Parts)) (i : ℕ) (x : PubKey × Parts) → IsDistinct (eq_by_cmp key_cmp) (keys_of others) → i < length others → x ≡ get_or others i x → JoinsOn start others i now
+    → HaveRoomFor parts_size start others → IsSomeAnd (kept_of now x.0) (λ parts. HasRoomFor parts (parts_size x.1))
+room_next_join start others now i x distinct lt is so_far room =
+    let P : Option Parts → Type 0 = λ o. IsSomeAnd o (λ parts. HasRoomFor parts (parts_size x.1)) in
+    let Q : PubKey × Parts → Type 0 = λ y. IsSomeAnd (kept_of start y.0) (λ parts. HasRoomFor parts (parts_size y.1)) in
+    subst P (sym (so_far.others x.0 (none_before others i x distinct lt is))) (subst Q (sym is) (room i x lt))
+
+pub joins_none : (start others : List (PubKey × Parts)) → JoinsOn start others 0 start
+joins_none start others = record { stands = λ pasts more stand each. stand; len = refl; others = λ key none. refl }
+
+-- all are joined
+pub joins_all : (start others now : List (PubKey × Parts)) (n : ℕ) → n ≡ length others → JoinsOn start others n now
+    → ((pasts more : List (PubKey × Past)) → BooksStand start pasts → BooksStand others more → BooksStand now (joined pasts more)) × KeepsOthers others start now
+joins_all start others now n all so_far = (
+  λ pasts more stand each.
+      let E : List (PubKey × Past) → Type 0 = λ l. BooksStand now (fold (gain then_past) pasts l) in
+      let past : length more ≤ n = let e = each_length Stands others more each in omega (arith, e, all) in
+      subst E (take_all n more past) (so_far.stands pasts more stand each),
+  let K : List (PubKey × Parts) → Type 0 = λ l. KeepsOthers l start now in subst K (take_all n others (omega (arith, all))) so_far.others,
+)
+
+-- keys in order are distinct
+pub distinct_ordered : {X : Type 0} (xs : List (PubKey × X)) → IsStrictlySortedBy key_cmp (keys_of xs) → IsDistinct (eq_by_cmp key_cmp) (keys_of xs)
+distinct_ordered xs sorted = IsDistinct-from_sorted key_cmp (keys_of xs) sorted
+
+-- what is read at a place stands there
+pub read_at : {X : Type 0} (xs : List X) (i : ℕ) (x : X) → slice_get xs i ≡ Some x → (i < length xs) × (x ≡ get_or xs i x)
+read_at xs i x read = (slice_get_within xs i x read, sym (get_or_from_slice_get xs i x x read))
+
+-- what the prepared records were joined with, the pasts were that were before
+pub all_joined : (old mid new others : List (PubKey × Parts)) (fresh : List PubKey) (pasts more : List (PubKey × Past)) → ArePrepared old others fresh mid
+    → ((before after : List (PubKey × Past)) → BooksStand mid before → BooksStand others after → BooksStand new (joined before after)) → BooksStand old pasts → BooksStand others more → BooksStand new (joined pasts more)
+all_joined old mid new others fresh pasts more prepared stands stand each =
+    all_gained then_past old mid new more fresh pasts prepared.same prepared.absent
+    (All-weaker (λ k. IsSome (kept_of others k)) (λ k. IsSome (kept_of more k)) (λ k found. each_present Stands others more k each found) fresh prepared.are_listed)
+    (λ before s. stands before more s each) stand

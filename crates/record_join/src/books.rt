@@ -8,7 +8,8 @@ ghost use Rattle.record_join.specs.Keys.{kept_of, with_key, EachKey};
 ghost use Rattle.record_join.specs.BooksPasts.{BooksStand, TakesIn, Prunes, IsBeginFault, IsMergeFault, EachOnce, KeepsOthers, with_file, joined, new_keys, key_limit};
 
 use crate::fault::{BeginFault, MergeFault};
-use crate::limit::{KEY_LIMIT, new_books, over_limit};
+use crate::joining::{join_records, prepare_records};
+use crate::limit::{KEY_LIMIT, new_books, new_records, over_limit};
 use crate::merging::{merge_books, prepare_books};
 use crate::keep::{prune_at, take_in};
 use crate::taken::{Pruned, Taken};
@@ -156,6 +157,34 @@ impl Books {
             return Err(MergeFault::OutOfMemory);
         };
         merge_books(&mut self.kept, books);
+        Ok(())
+    }
+
+    /// Joins the records of others: of a key that both keep the two pasts come together, and a key that one of
+    /// them keeps has its past. Keys that the others do not keep stay as they are.
+    ///
+    /// # Errors
+    ///
+    /// `TooManyKeys` exactly where there would be more than 65,536 keys, and `OutOfMemory`. Each record keeps
+    /// what it kept.
+    pub fn join(&mut self, other: &Books) -> Result<(), MergeFault>
+        ensures joined { OnOk result ((pasts others : List (PubKey × Past)) → BooksStand self.old pasts → BooksStand other.now others
+            → BooksStand self.new (joined pasts others)) }
+        ensures within { OnOk result (length self.old + new_keys self.old other.now ≤ key_limit) }
+        ensures len { OnOk result (length self.new ≡ length self.old + new_keys self.old other.now) }
+        ensures fault { IfErr result (IsMergeFault self.old other.now) }
+        ensures err { OnErr result ((pasts : List (PubKey × Past)) → BooksStand self.old pasts → BooksStand self.new pasts) }
+        ensures same { OnErr result (EachKey SameParts self.old self.new) }
+        ensures others { KeepsOthers other.now self.old self.new }
+    {
+        let new = new_records(&self.kept, &other.kept);
+        if let Some(fault) = over_limit(self.kept.len(), new) {
+            return Err(fault);
+        }
+        let Ok(()) = prepare_records(&mut self.kept, self.alloc, &other.kept) else {
+            return Err(MergeFault::OutOfMemory);
+        };
+        join_records(&mut self.kept, &other.kept);
         Ok(())
     }
 

@@ -3,6 +3,7 @@
 
 mod books;
 mod fault;
+mod joining;
 mod keep;
 mod limit;
 mod merging;

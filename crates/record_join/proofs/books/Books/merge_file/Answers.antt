@@ -1,4 +1,3 @@
-use Rattle.std.proofs.Common.{refl}
 use Rattle.protect_record.specs.Parts.{SameParts}
 use Rattle.protect_record.specs.Pasts.{with_book}
 use Rattle.record_join.specs.Preparing.{book_size}
