@@ -1,0 +1,40 @@
+//! What a signature is for.
+ghost use Rattle.std.specs.Prelude.{◌≡◌};
+ghost use Rattle.sign_roots.specs.Domains.{domain_type};
+
+/// What a signature is for (consensus-specs, "Domain types").
+#[derive(Clone, Copy, PartialEq, Eq, Debug)]
+pub enum DomainKind {
+    /// A block, or its header.
+    BeaconProposer,
+    /// The data of an attestation.
+    BeaconAttester,
+    /// The epoch that a proposer reveals its randomness for.
+    Randao,
+    /// A deposit's message. On every fork it is signed under the version at genesis and a genesis
+    /// root of zeros (consensus-specs, `compute_domain`).
+    Deposit,
+    /// An exit.
+    VoluntaryExit,
+    /// The slot that an aggregator is chosen for.
+    SelectionProof,
+    /// An aggregate, with its aggregator and the proof of its choice.
+    AggregateAndProof,
+}
+
+impl DomainKind {
+    /// Its domain type, of 4 bytes.
+    pub fn bytes(self) -> [u8; 4]
+        ensures { result ≡ domain_type self }
+    {
+        match self {
+            DomainKind::BeaconProposer => [0, 0, 0, 0],
+            DomainKind::BeaconAttester => [1, 0, 0, 0],
+            DomainKind::Randao => [2, 0, 0, 0],
+            DomainKind::Deposit => [3, 0, 0, 0],
+            DomainKind::VoluntaryExit => [4, 0, 0, 0],
+            DomainKind::SelectionProof => [5, 0, 0, 0],
+            DomainKind::AggregateAndProof => [6, 0, 0, 0],
+        }
+    }
+}
