@@ -11,7 +11,8 @@ pub enum DomainKind {
     BeaconAttester,
     /// The epoch that a proposer reveals its randomness for.
     Randao,
-    /// A deposit's message.
+    /// A deposit's message. On every fork it is signed under the version at genesis and a genesis
+    /// root of zeros (consensus-specs, `compute_domain`).
     Deposit,
     /// An exit.
     VoluntaryExit,
