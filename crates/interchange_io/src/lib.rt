@@ -14,7 +14,7 @@ pub use fault::{ReadFault, VersionText};
 pub use laws::{united_books, written_order};
 pub use member::Member;
 pub use reading::{FILE_LIMIT, read};
-pub use writing::write;
+pub use writing::{write, write_text};
 
 #[cfg(test)]
 mod tests;

@@ -20,12 +20,12 @@ use std::collections::{BTreeMap, BTreeSet};
 /// names, the keys in byte order and each once, the entries of a key in file order, equal ones once, both
 /// lists always there, an absent root left out, hex digits in lower case and decimals without leading
 /// zeros. The error is want of memory.
-pub fn write(alloc: Global, file: &File) -> Result<Vec<u8>, AllocError>
-    ensures text { IfOk result (λ bytes. bytes.items ≡ file_text file.now) }
+pub fn write_text(alloc: Global, file: &File) -> Result<String, AllocError>
+    ensures text { IfOk result (λ text. string_bytes text ≡ file_text file.now) }
 
     // What is written reads as the file in its written order.
-    ensures reads_back { IfOk result (λ bytes. length bytes.items ≤ file_limit
-        → file_of bytes.items ≡ Ok (canonical file.now)) }
+    ensures reads_back { IfOk result (λ text. length (string_bytes text) ≤ file_limit
+        → file_of (string_bytes text) ≡ Ok (canonical file.now)) }
 {
     let sorted = sorted_books(alloc, file.books.as_slice())?;
     let mut out = String::new(alloc);
@@ -34,7 +34,18 @@ pub fn write(alloc: Global, file: &File) -> Result<Vec<u8>, AllocError>
     push_text(&mut out, ",\"metadata\":")?;
     push_metadata(alloc, &mut out, &file.genesis)?;
     push_text(&mut out, "}")?;
-    Ok(out.into_bytes())
+    Ok(out)
+}
+
+/// The bytes of the one text of a file, as `write_text` gives it. The error is want of memory.
+pub fn write(alloc: Global, file: &File) -> Result<Vec<u8>, AllocError>
+    ensures text { IfOk result (λ bytes. bytes.items ≡ file_text file.now) }
+
+    // What is written reads as the file in its written order.
+    ensures reads_back { IfOk result (λ bytes. length bytes.items ≤ file_limit
+        → file_of bytes.items ≡ Ok (canonical file.now)) }
+{
+    Ok(write_text(alloc, file)?.into_bytes())
 }
 
 fn push_metadata(alloc: Global, out: &mut String, genesis: &Root) -> Result<(), AllocError>

@@ -1,0 +1,62 @@
+-- No answer holds a float.
+use Rattle.std.proofs.Common.{◌≡◌, ℕ, false, refl, List, Option, Some, None}
+use Rattle.std.specs.Prelude.{codes, decimal}
+use Rattle.slash_defs.specs.declared.entry.BlockEntry.{BlockEntry}
+use Rattle.slash_defs.specs.declared.entry.VoteEntry.{VoteEntry}
+use Rattle.edge_kit.specs.declared.bytes.Root.{Root}
+use Rattle.protect_record.specs.declared.verdict.Verdict.{Verdict}
+use Rattle.protect_record.specs.declared.verdict.Verdict.TheVariants as verdict
+use Rattle.interchange_io.specs.declared.fault.ReadFault.{ReadFault}
+use Rattle.interchange_io.specs.declared.fault.ReadFault.TheVariants as fault
+use Rattle.serde_json.specs.Data.{string, member, no_members}
+use Rattle.serde_json.specs.Written.{has_float}
+use Rattle.session_format.specs.Answers.{with_root, with_entry, block_data, vote_data, verdict_data, fault_data, answer_data}
+use Rattle.session_format.specs.declared.answer.Answer.{Answer}
+use Rattle.session_format.specs.declared.answer.Answer.TheVariants as answer
+
+plain_block : (kept : BlockEntry) (reason : List ℕ) → has_float (with_entry (block_data kept) reason) ≡ false
+plain_block kept reason = at kept.root where
+  at : (root : Option Root) → has_float (with_entry (with_root root (member (codes "slot") (string (decimal kept.slot)) no_members)) reason) ≡ false
+  at None = refl
+  at (Some root) = refl
+
+plain_vote : (kept : VoteEntry) (reason : List ℕ) → has_float (with_entry (vote_data kept) reason) ≡ false
+plain_vote kept reason = at kept.root where
+  at : (root : Option Root) → has_float (with_entry (with_root root
+      (member (codes "source_epoch") (string (decimal kept.source)) (member (codes "target_epoch") (string (decimal kept.target)) no_members))) reason) ≡ false
+  at None = refl
+  at (Some root) = refl
+
+plain_verdict : (v : Verdict) → has_float (verdict_data v) ≡ false
+plain_verdict verdict.Pass = refl
+plain_verdict (verdict.SlotBelow floor) = refl
+plain_verdict (verdict.DoubleBlock kept) = plain_block kept (codes "double_block")
+plain_verdict (verdict.SourceBelow floor) = refl
+plain_verdict (verdict.TargetBelow floor) = refl
+plain_verdict (verdict.DoubleVote kept) = plain_vote kept (codes "double_vote")
+plain_verdict (verdict.Surrounds kept) = plain_vote kept (codes "surrounds")
+plain_verdict (verdict.Surrounded kept) = plain_vote kept (codes "surrounded")
+
+plain_fault : (f : ReadFault) → has_float (fault_data f) ≡ false
+plain_fault (fault.TooLong len) = refl
+plain_fault fault.NotUtf8 = refl
+plain_fault fault.Json = refl
+plain_fault (fault.Missing m) = refl
+plain_fault (fault.Version text) = refl
+plain_fault (fault.BadNumber m) = refl
+plain_fault (fault.BadHex m) = refl
+
+pub no_float : (a : Answer) → has_float (answer_data a) ≡ false
+no_float (answer.Merged keys) = refl
+no_float answer.Active = refl
+no_float (answer.Signed signature root) = refl
+no_float (answer.Unsigned c) = refl
+no_float (answer.Exported file) = refl
+no_float answer.Pruned = refl
+no_float (answer.BadRequest m) = refl
+no_float (answer.BadFile f) = plain_fault f
+no_float (answer.GenesisDiffers kept given) = refl
+no_float (answer.TooManyKeys have new) = refl
+no_float answer.Unknown = refl
+no_float answer.NotActive = refl
+no_float (answer.Refused v) = plain_verdict v

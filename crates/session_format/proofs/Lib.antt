@@ -1,0 +1,4 @@
+pub mod EachLemmas
+pub mod LineLemmas
+pub mod ObjectLemmas
+pub mod AnswerLemmas

@@ -1,0 +1,120 @@
+-- The answer of a line as JSON, and its bytes.
+use Rattle.std.specs.Prelude.{ℕ, List, [], ◌∷◌, ◌++◌, Option, Some, None, codes, decimal}
+use Rattle.hex.specs.Hex.{encode_lower}
+use Rattle.slash_defs.specs.declared.entry.BlockEntry.{BlockEntry}
+use Rattle.slash_defs.specs.declared.entry.VoteEntry.{VoteEntry}
+use Rattle.edge_kit.specs.declared.bytes.Root.{Root}
+use Rattle.protect_record.specs.declared.verdict.Verdict.{Verdict}
+use Rattle.protect_record.specs.declared.verdict.Verdict.TheVariants as verdict
+use Rattle.interchange_io.specs.Members.{name_of}
+use Rattle.interchange_io.specs.Writing.{file_text}
+use Rattle.interchange_io.specs.declared.fault.ReadFault.{ReadFault}
+use Rattle.interchange_io.specs.declared.fault.ReadFault.TheVariants as fault
+use Rattle.serde_json.specs.Data.{Data, string, object, Members, member, no_members}
+use Rattle.serde_json.specs.Written.{compact_text}
+use Rattle.session_format.specs.Members.{member_name}
+use Rattle.session_format.specs.declared.answer.Answer.{Answer}
+use Rattle.session_format.specs.declared.answer.Answer.TheVariants as answer
+use Rattle.session_format.specs.declared.answer.Cause.{Cause}
+use Rattle.session_format.specs.declared.answer.Cause.TheVariants as cause
+
+-- `0x` and lower-case digits
+abbrev pub hex_text : List ℕ → List ℕ
+hex_text bytes = codes "0x" ++ encode_lower bytes
+
+abbrev pub cause_name : Cause → List ℕ
+cause_name cause.NoKey = codes "no_key"
+cause_name cause.Fault = codes "fault"
+
+-- a signing root before the other members, where it is known
+abbrev pub with_root : Option Root → Members → Data
+with_root None others = object others
+with_root (Some root) others = object (member (codes "signing_root") (string (hex_text root.0)) others)
+
+-- an entry as an interchange file has it (EIP-3076)
+abbrev pub block_data : BlockEntry → Data
+block_data kept = with_root kept.root (member (codes "slot") (string (decimal kept.slot)) no_members)
+
+abbrev pub vote_data : VoteEntry → Data
+vote_data kept = with_root kept.root
+    (member (codes "source_epoch") (string (decimal kept.source))
+    (member (codes "target_epoch") (string (decimal kept.target)) no_members))
+
+-- done, with nothing more to say
+abbrev pub done : List ℕ → Data
+done word = object (member (codes "answer") (string word) no_members)
+
+-- refused for this reason, with further members before it
+abbrev pub with_reason : List ℕ → Data
+with_reason reason = object (member (codes "answer") (string (codes "refused")) (member (codes "reason") (string reason) no_members))
+
+abbrev pub with_one : List ℕ → Data → List ℕ → Data
+with_one name value reason =
+    object (member (codes "answer") (string (codes "refused"))
+    (member name value
+    (member (codes "reason") (string reason) no_members)))
+
+abbrev pub with_entry : Data → List ℕ → Data
+with_entry entry reason = with_one (codes "entry") entry reason
+
+abbrev pub with_floor : ℕ → List ℕ → Data
+with_floor floor reason = with_one (codes "floor") (string (decimal floor)) reason
+
+abbrev pub with_member : List ℕ → List ℕ → Data
+with_member name reason = with_one (codes "member") (string name) reason
+
+abbrev pub verdict_data : Verdict → Data
+verdict_data verdict.Pass = with_reason (codes "pass")
+verdict_data (verdict.SlotBelow floor) = with_floor floor (codes "slot_below")
+verdict_data (verdict.DoubleBlock kept) = with_entry (block_data kept) (codes "double_block")
+verdict_data (verdict.SourceBelow floor) = with_floor floor (codes "source_below")
+verdict_data (verdict.TargetBelow floor) = with_floor floor (codes "target_below")
+verdict_data (verdict.DoubleVote kept) = with_entry (vote_data kept) (codes "double_vote")
+verdict_data (verdict.Surrounds kept) = with_entry (vote_data kept) (codes "surrounds")
+verdict_data (verdict.Surrounded kept) = with_entry (vote_data kept) (codes "surrounded")
+
+-- why a text is no interchange file
+abbrev pub fault_data : ReadFault → Data
+fault_data (fault.TooLong len) = with_one (codes "len") (string (decimal len)) (codes "too_long")
+fault_data fault.NotUtf8 = with_reason (codes "not_utf8")
+fault_data fault.Json = with_reason (codes "json")
+fault_data (fault.Missing m) = with_member (name_of m) (codes "missing")
+fault_data (fault.Version text) =
+    object (member (codes "answer") (string (codes "refused"))
+    (member (codes "reason") (string (codes "version"))
+    (member (codes "text") (string text) no_members)))
+fault_data (fault.BadNumber m) = with_member (name_of m) (codes "bad_number")
+fault_data (fault.BadHex m) = with_member (name_of m) (codes "bad_hex")
+
+abbrev pub answer_data : Answer → Data
+answer_data (answer.Merged keys) =
+    object (member (codes "answer") (string (codes "merged")) (member (codes "keys") (string (decimal keys)) no_members))
+answer_data answer.Active = done (codes "active")
+answer_data (answer.Signed signature root) =
+    object (member (codes "answer") (string (codes "signed"))
+    (member (codes "signature") (string (hex_text signature.0))
+    (member (codes "signing_root") (string (hex_text root.0)) no_members)))
+answer_data (answer.Unsigned c) =
+    object (member (codes "answer") (string (codes "unsigned")) (member (codes "cause") (string (cause_name c)) no_members))
+answer_data (answer.Exported file) =
+    object (member (codes "answer") (string (codes "exported")) (member (codes "file") (string (file_text file)) no_members))
+answer_data answer.Pruned = done (codes "pruned")
+answer_data (answer.BadRequest m) = with_member (member_name m) (codes "bad_request")
+answer_data (answer.BadFile f) = fault_data f
+answer_data (answer.GenesisDiffers kept given) =
+    object (member (codes "answer") (string (codes "refused"))
+    (member (codes "given") (string (hex_text given.0))
+    (member (codes "kept") (string (hex_text kept.0))
+    (member (codes "reason") (string (codes "genesis_differs")) no_members))))
+answer_data (answer.TooManyKeys have new) =
+    object (member (codes "answer") (string (codes "refused"))
+    (member (codes "have") (string (decimal have))
+    (member (codes "new") (string (decimal new))
+    (member (codes "reason") (string (codes "too_many_keys")) no_members))))
+answer_data answer.Unknown = with_reason (codes "unknown")
+answer_data answer.NotActive = with_reason (codes "not_active")
+answer_data (answer.Refused v) = verdict_data v
+
+-- the bytes of the answer's line
+unfoldable pub answer_text : Answer → List ℕ
+answer_text a = compact_text (answer_data a) ++ 10 ∷ []

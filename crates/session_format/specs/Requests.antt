@@ -1,0 +1,186 @@
+-- The request that a line is, under the session's domains.
+use Rattle.std.specs.Prelude.{ℕ, List, nat_le, if◌then◌else◌, Option, Some, None, option_map, option_and_then, is_some, ok_or, Result, Ok, Err, codes}
+use Rattle.std.specs.Str.{is_utf8, bytes_eq}
+use Rattle.edge_kit.specs.Texts.{quoted_number, hex_bytes}
+use Rattle.edge_kit.specs.declared.bytes.PubKey.{PubKey}
+use Rattle.edge_kit.specs.declared.bytes.Root.{Root}
+use Rattle.serde_json.specs.Data.{Data, Items}
+use Rattle.serde_json.specs.Read.{read}
+use Rattle.serde_json.specs.Find.{get, as_str, as_array, as_object}
+use Rattle.slash_defs.specs.declared.book.File.{File}
+use Rattle.slash_defs.specs.declared.message.Message.TheVariants as message
+use Rattle.interchange_io.specs.Reading.{file_of}
+use Rattle.interchange_io.specs.declared.fault.ReadFault.{ReadFault}
+use Rattle.phase0_types.specs.Values.{ValueOf}
+use Rattle.phase0_types.specs.Reading.{read_at}
+use Rattle.phase0_types.specs.Containers.{attestation_data, beacon_block_header}
+use Rattle.phase0_types.specs.declared.fault.ReadFault.{ReadFault as ShapeFault}
+use Rattle.sign_roots.specs.declared.domains.Domains.{Domains}
+use Rattle.signer_link.specs.declared.signer.SignObject.TheVariants as object
+use Rattle.check_sign.specs.Machine.{moment_limit}
+use Rattle.session_format.specs.Members.{inside}
+use Rattle.session_format.specs.Steps.{◌>>=◌, each}
+use Rattle.session_format.specs.Objects.{root, header_from, details_from, block_message, vote_message}
+use Rattle.session_format.specs.declared.member.Member.{Member}
+use Rattle.session_format.specs.declared.member.Member.TheVariants as member
+use Rattle.session_format.specs.declared.request.Op.{Op}
+use Rattle.session_format.specs.declared.request.Op.TheVariants as op
+use Rattle.session_format.specs.declared.request.Request.{Request}
+
+-- the JSON value of a line of UTF-8
+unfoldable pub data_of : List ℕ → Option Data
+data_of line = if is_utf8 line then read line else None
+
+abbrev pub text_at : List ℕ → Data → Option (List ℕ)
+text_at name d = option_and_then as_str (get name d)
+
+abbrev pub pub_key : List ℕ → PubKey
+pub_key bytes = record { 0 = bytes }
+
+-- the key that a text is
+abbrev pub key_in : Member → Option (List ℕ) → Result PubKey Member
+key_in m text = ok_or (option_map pub_key (option_and_then (hex_bytes 48) text)) m
+
+abbrev pub key_at : Data → Result PubKey Member
+key_at d = key_in member.Pubkey (text_at (codes "pubkey") d)
+
+-- the number in quotes that a member is
+abbrev pub number_at : List ℕ → Member → Data → Result ℕ Member
+number_at name m d = ok_or (option_and_then quoted_number (text_at name d)) m
+
+abbrev pub root_at : Data → Result Root Member
+root_at d = ok_or (option_map root (option_and_then (hex_bytes 32) (text_at (codes "signing_root") d))) member.SigningRoot
+
+-- a moment within the limit
+abbrev pub moment_in : Option ℕ → Result (Option ℕ) Member
+moment_in None = Err member.Epoch
+moment_in (Some epoch) = if nat_le epoch moment_limit then Ok (Some epoch) else Err member.Epoch
+
+abbrev pub epoch_in : Option Data → Result (Option ℕ) Member
+epoch_in None = Ok None
+epoch_in (Some d) = moment_in (option_and_then quoted_number (as_str d))
+
+-- the moment, where the member is there
+abbrev pub epoch_at : Data → Result (Option ℕ) Member
+epoch_at d = epoch_in (get (codes "epoch") d)
+
+-- ---- what each op asks for
+
+-- to merge a file, or a text that is none
+abbrev pub merge_of : Result File ReadFault → Op
+merge_of (Ok file) = op.Merge file
+merge_of (Err fault) = op.BadFile fault
+
+abbrev pub merge_in : Option (List ℕ) → Result Op Member
+merge_in None = Err member.File
+merge_in (Some text) = Ok (merge_of (file_of text))
+
+abbrev pub merge_at : Data → Result Op Member
+merge_at d = merge_in (text_at (codes "file") d)
+
+abbrev pub activate_at : Data → Result Op Member
+activate_at d = do
+  key ← key_at d
+  Ok (op.Activate key)
+
+-- a block of its slot and signing root
+abbrev pub plain_block : PubKey → Data → Result Op Member
+plain_block key d = do
+  slot ← number_at (codes "slot") member.Slot d
+  signing ← root_at d
+  Ok (op.Propose key (message.Block slot signing) None)
+
+-- a block of its header
+abbrev pub header_block : Domains → PubKey → Result (ValueOf beacon_block_header) ShapeFault → Result Op Member
+header_block domains key (Ok value) = Ok (op.Propose key (block_message domains (header_from value)) (Some (object.Header (header_from value))))
+header_block domains key (Err fault) = Err (inside member.Header fault)
+
+-- where the header is there, the plain members are ignored
+abbrev pub block_by : Domains → PubKey → Data → Option Data → Result Op Member
+block_by domains key d None = plain_block key d
+block_by domains key d (Some header) = header_block domains key (read_at beacon_block_header None header)
+
+abbrev pub block_at : Domains → Data → Result Op Member
+block_at domains d = do
+  key ← key_at d
+  block_by domains key d (get (codes "header") d)
+
+-- a vote of its epochs and signing root
+abbrev pub plain_vote : PubKey → Data → Result Op Member
+plain_vote key d = do
+  source ← number_at (codes "source_epoch") member.SourceEpoch d
+  target ← number_at (codes "target_epoch") member.TargetEpoch d
+  signing ← root_at d
+  Ok (op.Propose key (message.Vote source target signing) None)
+
+-- a vote of its attestation data
+abbrev pub details_vote : Domains → PubKey → Result (ValueOf attestation_data) ShapeFault → Result Op Member
+details_vote domains key (Ok value) = Ok (op.Propose key (vote_message domains (details_from value)) (Some (object.Attestation (details_from value))))
+details_vote domains key (Err fault) = Err (inside member.Attestation fault)
+
+-- where the attestation data is there, the plain members are ignored
+abbrev pub vote_by : Domains → PubKey → Data → Option Data → Result Op Member
+vote_by domains key d None = plain_vote key d
+vote_by domains key d (Some details) = details_vote domains key (read_at attestation_data None details)
+
+abbrev pub vote_at : Domains → Data → Result Op Member
+vote_at domains d = do
+  key ← key_at d
+  vote_by domains key d (get (codes "attestation") d)
+
+-- a key of the list
+abbrev pub listed_key : Data → Result PubKey Member
+listed_key d = key_in member.Pubkeys (as_str d)
+
+abbrev pub keys_in : Option Items → Result (List PubKey) Member
+keys_in None = Err member.Pubkeys
+keys_in (Some ds) = each listed_key ds
+
+-- the keys, where the member is there
+abbrev pub asked_keys : Option Data → Result (Option (List PubKey)) Member
+asked_keys None = Ok None
+asked_keys (Some d) = do
+  keys ← keys_in (as_array d)
+  Ok (Some keys)
+
+abbrev pub export_at : Data → Result Op Member
+export_at d = do
+  keys ← asked_keys (get (codes "pubkeys") d)
+  Ok (op.Export keys)
+
+abbrev pub prune_at : Data → Result Op Member
+prune_at d = do
+  key ← key_at d
+  Ok (op.Prune key)
+
+-- by the text of the member `op`
+abbrev pub by_op : Domains → Option (List ℕ) → Data → Result Op Member
+by_op domains None d = Err member.Op
+by_op domains (Some name) d = if bytes_eq name (codes "merge") then merge_at d
+    else if bytes_eq name (codes "activate") then activate_at d
+    else if bytes_eq name (codes "block") then block_at domains d
+    else if bytes_eq name (codes "vote") then vote_at domains d
+    else if bytes_eq name (codes "export") then export_at d
+    else if bytes_eq name (codes "prune") then prune_at d
+    else Err member.Op
+
+abbrev pub op_in : Domains → Data → Result Op Member
+op_in domains d = by_op domains (text_at (codes "op") d) d
+
+-- what is asked for, and then the moment
+abbrev pub members_of : Domains → Data → Result Request Member
+members_of domains d = do
+  asked ← op_in domains d
+  epoch ← epoch_at d
+  Ok (record { op = asked; epoch = epoch })
+
+abbrev pub request_in : Domains → Data → Result Request Member
+request_in domains d = if is_some (as_object d) then members_of domains d else Err member.Line
+
+abbrev pub of_data : Domains → Option Data → Result Request Member
+of_data domains None = Err member.Line
+of_data domains (Some d) = request_in domains d
+
+-- the request, or the first member that is absent or has no reading
+unfoldable pub request_of : Domains → List ℕ → Result Request Member
+request_of domains line = of_data domains (data_of line)

@@ -1,0 +1,101 @@
+//! The answer of a line, and its bytes.
+ghost use Rattle.std.specs.Prelude.{◌≡◌, IfOk, string_bytes};
+ghost use Rattle.serde_json.specs.View.{view};
+ghost use Rattle.session_format.specs.Answers.{answer_data, answer_text, cause_name};
+
+use crate::member::Member;
+use crate::values::{
+    exported, fault_value, genesis_differs, merged, signed, too_many_keys, verdict_value, with_name,
+};
+use edge_kit::{Root, Sig};
+use interchange_io::ReadFault;
+use protect_record::Verdict;
+use serde_json::{Value, json};
+use slash_defs::File;
+use std::alloc::{AllocError, Global};
+
+/// Why a granted proposal has no signature.
+#[derive(Clone, Copy, PartialEq, Eq, Debug)]
+pub enum Cause {
+    /// The signer does not hold the key.
+    NoKey,
+    /// The signer failed.
+    Fault,
+}
+
+impl Cause {
+    /// The cause's name in a line.
+    pub fn name(self) -> &'static str
+        ensures { result.now ≡ cause_name self }
+    {
+        match self {
+            Cause::NoKey => "no_key",
+            Cause::Fault => "fault",
+        }
+    }
+}
+
+/// The answer of a line.
+#[derive(Drop)]
+pub enum Answer {
+    /// The file is merged; how many keys it lists.
+    Merged { keys: u64 },
+    /// The key is active.
+    Active,
+    /// The signature of the message's root.
+    Signed { signature: Sig, root: Root },
+    /// The proposal was granted, and has no signature.
+    Unsigned(Cause),
+    /// The interchange file of the keys.
+    Exported(File),
+    /// The key's record is pruned.
+    Pruned,
+    /// A member of the line is absent or has no reading. Nothing was done.
+    BadRequest(Member),
+    /// The text is no interchange file. Nothing was done.
+    BadFile(ReadFault),
+    /// The file is of another chain. Nothing was done.
+    GenesisDiffers { kept: Root, given: Root },
+    /// There would be too many keys. Nothing was done.
+    TooManyKeys { have: u64, new: u64 },
+    /// No past is kept of the key.
+    Unknown,
+    /// The key is not active.
+    NotActive,
+    /// The key's past forbids the message.
+    Refused(Verdict),
+}
+
+impl Answer {
+    /// The bytes of the answer's line: compact JSON, members in byte order of their names, and a newline.
+    /// The error is want of memory.
+    pub fn line(&self, alloc: Global) -> Result<String, AllocError>
+        ensures { IfOk result (λ text. string_bytes text ≡ answer_text self.now) }
+    {
+        let mut text = self.value(alloc)?.to_string(alloc)?;
+        text.push('\n')?;
+        Ok(text)
+    }
+
+    fn value(&self, alloc: Global) -> Result<Value, AllocError>
+        ensures { IfOk result (λ v. view v ≡ answer_data self.now) }
+    {
+        match self {
+            Answer::Merged { keys } => merged(alloc, *keys),
+            Answer::Active => json!(in alloc; {"answer": "active"}),
+            Answer::Signed { signature, root } => signed(alloc, signature, root),
+            Answer::Unsigned(cause) => {
+                json!(in alloc; {"answer": "unsigned", "cause": cause.name()})
+            }
+            Answer::Exported(file) => exported(alloc, file),
+            Answer::Pruned => json!(in alloc; {"answer": "pruned"}),
+            Answer::BadRequest(member) => with_name(alloc, member.name(), "bad_request"),
+            Answer::BadFile(fault) => fault_value(alloc, fault),
+            Answer::GenesisDiffers { kept, given } => genesis_differs(alloc, kept, given),
+            Answer::TooManyKeys { have, new } => too_many_keys(alloc, *have, *new),
+            Answer::Unknown => json!(in alloc; {"answer": "refused", "reason": "unknown"}),
+            Answer::NotActive => json!(in alloc; {"answer": "refused", "reason": "not_active"}),
+            Answer::Refused(verdict) => verdict_value(alloc, verdict),
+        }
+    }
+}

@@ -1,0 +1,19 @@
+//! The lines of a session: the request that a line is, and the line of an answer.
+#![tactic(auto)]
+
+mod answer;
+mod member;
+mod objects;
+mod ops;
+mod reading;
+mod request;
+mod texts;
+mod values;
+
+pub use answer::{Answer, Cause};
+pub use member::Member;
+pub use reading::read_request;
+pub use request::{Keys, Op, Request};
+
+#[cfg(test)]
+mod tests;

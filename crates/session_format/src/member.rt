@@ -1,0 +1,65 @@
+//! The members of a line.
+ghost use Rattle.std.specs.Prelude.{◌≡◌};
+ghost use Rattle.session_format.specs.Members.{member_name, inside};
+
+use phase0_types::ReadFault;
+
+/// The first member of a line that is absent or has no reading.
+#[derive(Clone, Copy, PartialEq, Eq, Debug)]
+pub enum Member {
+    /// The line is no JSON object in UTF-8.
+    Line,
+    Op,
+    /// The member `file` is no text.
+    File,
+    Pubkey,
+    Pubkeys,
+    Slot,
+    SourceEpoch,
+    TargetEpoch,
+    SigningRoot,
+    /// The member `header` is no object.
+    Header,
+    /// The member `attestation` is no object.
+    Attestation,
+    /// A member inside `header` or `attestation`.
+    Inside(phase0_types::Member),
+    /// The moment is no number in quotes, or above 576,460,752,303,423,487.
+    Epoch,
+}
+
+impl Member {
+    /// The member's name in a line.
+    pub fn name(self) -> &'static str
+        ensures { result.now ≡ member_name self }
+    {
+        match self {
+            Member::Line => "line",
+            Member::Op => "op",
+            Member::File => "file",
+            Member::Pubkey => "pubkey",
+            Member::Pubkeys => "pubkeys",
+            Member::Slot => "slot",
+            Member::SourceEpoch => "source_epoch",
+            Member::TargetEpoch => "target_epoch",
+            Member::SigningRoot => "signing_root",
+            Member::Header => "header",
+            Member::Attestation => "attestation",
+            Member::Inside(member) => member.name(),
+            Member::Epoch => "epoch",
+        }
+    }
+}
+
+/// The member that a container's fault names; the whole where the value itself is no object.
+pub(crate) fn member_of(whole: Member, fault: ReadFault) -> Member
+    ensures { result ≡ inside whole fault }
+{
+    match fault {
+        ReadFault::Json => whole,
+        ReadFault::Missing(member)
+        | ReadFault::BadNumber(member)
+        | ReadFault::BadHex(member)
+        | ReadFault::TooLong(member) => Member::Inside(member),
+    }
+}

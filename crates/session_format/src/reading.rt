@@ -1,0 +1,140 @@
+//! Reading the request of a line.
+ghost use Rattle.std.specs.Prelude.{◌≡◌, IfOk};
+ghost use Rattle.serde_json.specs.View.{view};
+ghost use Rattle.session_format.specs.Requests.{epoch_at, op_in, request_in, request_of};
+ghost use Rattle.session_format.specs.Steps.{Gives};
+
+use crate::member::Member;
+use crate::objects::{block_of, vote_of};
+use crate::ops::{activate_of, export_of, merge_of, prune_of};
+use crate::request::{Op, Request};
+use crate::texts::text_of;
+use check_sign::MOMENT_LIMIT;
+use edge_kit::read_quoted;
+use serde_json::Value;
+use sign_roots::Domains;
+use std::alloc::{AllocError, AllocFailed, Global};
+
+/// Why a line has no request.
+#[derive(Drop)]
+pub(crate) enum Unread {
+    /// Memory ran out.
+    Memory,
+    /// The member is absent or has no reading.
+    Member(Member),
+}
+
+impl From<AllocError> for Unread {
+    ghost use Rattle.std.specs.Prelude.{◌≡◌};
+    ghost use Rattle.session_format.specs.declared.reading.Unread.TheVariants.{Memory};
+
+    ghost from_gives = { λ _ u. u ≡ Memory };
+
+    fn from(_error: AllocError) -> Unread {
+        Unread::Memory
+    }
+}
+
+impl<T: Drop> From<AllocFailed<T>> for Unread {
+    ghost use Rattle.std.specs.Prelude.{◌≡◌};
+    ghost use Rattle.session_format.specs.declared.reading.Unread.TheVariants.{Memory};
+
+    ghost from_gives = { λ _ u. u ≡ Memory };
+
+    fn from(_error: AllocFailed<T>) -> Unread {
+        Unread::Memory
+    }
+}
+
+impl From<Member> for Unread {
+    ghost use Rattle.std.specs.Prelude.{◌≡◌};
+    ghost use Rattle.session_format.specs.declared.reading.Unread.TheVariants.{Member};
+
+    ghost from_gives = { λ member u. u ≡ Member member };
+
+    fn from(member: Member) -> Unread {
+        Unread::Member(member)
+    }
+}
+
+/// The request of a line under the session's domains, or the first member, in the order `op`, then the op's
+/// own, then `epoch`, that is absent or has no reading. Where an object (`header`, `attestation`) is there,
+/// the plain members are ignored, and so are members that the op does not name. The error outside is want
+/// of memory.
+pub fn read_request(
+    alloc: Global,
+    domains: &Domains,
+    line: &[u8],
+) -> Result<Result<Request, Member>, AllocError>
+    ensures { IfOk result (λ read. read ≡ request_of domains.now line.now) }
+{
+    match read_line(alloc, domains, line) {
+        Ok(request) => Ok(Ok(request)),
+        Err(Unread::Member(member)) => Ok(Err(member)),
+        Err(Unread::Memory) => Err(AllocError),
+    }
+}
+
+fn read_line(alloc: Global, domains: &Domains, line: &[u8]) -> Result<Request, Unread>
+    ensures { Gives result (request_of domains.now line.now) }
+{
+    match Value::from_slice(alloc, line) {
+        Ok(value) => read_members(alloc, domains, &value),
+        Err(error) => {
+            if error.is_memory() {
+                Err(Unread::Memory)
+            } else {
+                Err(Unread::Member(Member::Line))
+            }
+        }
+    }
+}
+
+fn read_members(alloc: Global, domains: &Domains, value: &Value) -> Result<Request, Unread>
+    ensures { Gives result (request_in domains.now (view value.now)) }
+{
+    if !value.is_object() {
+        return Err(Unread::Member(Member::Line));
+    }
+    let op = op_of(alloc, domains, value)?;
+    let epoch = epoch_of(value)?;
+    Ok(Request { op, epoch })
+}
+
+fn op_of(alloc: Global, domains: &Domains, value: &Value) -> Result<Op, Unread>
+    ensures { Gives result (op_in domains.now (view value.now)) }
+{
+    let Some(op) = text_of(value, "op") else {
+        return Err(Unread::Member(Member::Op));
+    };
+    if op == "merge" {
+        merge_of(alloc, value)
+    } else if op == "activate" {
+        activate_of(value)
+    } else if op == "block" {
+        block_of(alloc, domains, value)
+    } else if op == "vote" {
+        vote_of(alloc, domains, value)
+    } else if op == "export" {
+        export_of(alloc, value)
+    } else if op == "prune" {
+        prune_of(value)
+    } else {
+        Err(Unread::Member(Member::Op))
+    }
+}
+
+fn epoch_of(value: &Value) -> Result<Option<u64>, Member>
+    ensures { result ≡ epoch_at (view value.now) }
+{
+    let Some(member) = value.get("epoch") else {
+        return Ok(None);
+    };
+    let Some(epoch) = member.as_str().and_then(|text| read_quoted(text)) else {
+        return Err(Member::Epoch);
+    };
+    if epoch > MOMENT_LIMIT {
+        return Err(Member::Epoch);
+    }
+    Ok(Some(epoch))
+}

@@ -1,0 +1,46 @@
+//! The request of a line.
+use edge_kit::{Items, PubKey};
+use interchange_io::ReadFault;
+use signer_link::SignObject;
+use slash_defs::{File, Message};
+
+/// Keys, in the order of the line.
+pub type Keys = Items<PubKey>;
+
+/// What a line asks for.
+#[derive(Drop)]
+pub enum Op {
+    /// To merge an interchange file (EIP-3076).
+    Merge {
+        file: File,
+    },
+    /// To merge a text that is no interchange file, for this cause.
+    BadFile {
+        fault: ReadFault,
+    },
+    /// To make a key active.
+    Activate {
+        key: PubKey,
+    },
+    /// To sign a block or a vote. The object is there where the line gave it in place of the signing root.
+    Propose {
+        key: PubKey,
+        message: Message,
+        object: Option<SignObject>,
+    },
+    /// To write an interchange file of these keys, or of all that are kept.
+    Export {
+        keys: Option<Keys>,
+    },
+    /// To prune the record of a key.
+    Prune {
+        key: PubKey,
+    },
+}
+
+/// The request of a line: what it asks for, and the moment, an epoch, where it names one.
+#[derive(Drop)]
+pub struct Request {
+    pub op: Op,
+    pub epoch: Option<u64>,
+}

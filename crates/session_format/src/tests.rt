@@ -1,0 +1,339 @@
+//! Lines and their requests, and answers and their lines.
+use crate::{Answer, Cause, Member, Op, Request, read_request};
+use edge_kit::{Items, PubKey, Root, Sig};
+use interchange_io::{ReadFault, VersionText};
+use protect_record::Verdict;
+use sign_roots::{Domains, Fork};
+use signer_link::SignObject;
+use slash_defs::{BlockEntry, Book, File, Message, VoteEntry};
+use std::alloc::{AllocError, Global};
+use std::test::Fail;
+
+const KEY: &str =
+    "0x111111111111111111111111111111111111111111111111111111111111111111111111111111111111111111111111";
+
+const ROOT: &str = "0xaaaaaaaaaaaaaaaaaaaaaaaaaaaaaaaaaaaaaaaaaaaaaaaaaaaaaaaaaaaaaaaa";
+
+const HEADER: &str =
+    r#"{"slot":"5","proposer_index":"7","parent_root":"0x1111111111111111111111111111111111111111111111111111111111111111","state_root":"0x2222222222222222222222222222222222222222222222222222222222222222","body_root":"0x3333333333333333333333333333333333333333333333333333333333333333"}"#;
+
+const DETAILS: &str =
+    r#"{"slot":"331","index":"5","beacon_block_root":"0x4444444444444444444444444444444444444444444444444444444444444444","source":{"epoch":"9","root":"0x5555555555555555555555555555555555555555555555555555555555555555"},"target":{"epoch":"10","root":"0x6666666666666666666666666666666666666666666666666666666666666666"}}"#;
+
+const FILE: &str =
+    r#"{\"metadata\":{\"interchange_format_version\":\"5\",\"genesis_validators_root\":\"%\"},\"data\":[{\"pubkey\":\"~\"}]}"#;
+
+/// The text with its marks filled in: `~` is a key, `%` a root.
+fn with_bytes(alloc: Global, marked: &str) -> Result<String, AllocError> {
+    let mut text = String::new(alloc);
+    for mark in marked.chars() {
+        match mark {
+            '~' => text.push_str(KEY)?,
+            '%' => text.push_str(ROOT)?,
+            other => text.push(other)?,
+        }
+    }
+    Ok(text)
+}
+
+/// The text with its marks filled in: `@` is a header, `$` attestation data, `&` a file.
+fn filled(alloc: Global, marked: &str) -> Result<String, AllocError> {
+    let mut text = String::new(alloc);
+    for mark in marked.chars() {
+        match mark {
+            '@' => text.push_str(HEADER)?,
+            '$' => text.push_str(DETAILS)?,
+            '&' => text.push_str(FILE)?,
+            other => text.push(other)?,
+        }
+    }
+    with_bytes(alloc, text.as_str())
+}
+
+/// A chain whose version changes at epoch 10.
+fn domains() -> Domains {
+    let fork = Fork {
+        previous_version: [0, 0, 0, 1],
+        current_version: [0, 0, 0, 2],
+        epoch: 10,
+    };
+    Domains::new(fork, Root([0xcc; 32]))
+}
+
+/// A message in words.
+fn message_words(alloc: Global, message: &Message) -> Result<String, AllocError> {
+    match message {
+        Message::Block { slot, root } => {
+            let root = hex::encode(alloc, &root.0)?;
+            format!(in alloc; "block {} {}", *slot, root.as_str())
+        }
+        Message::Vote {
+            source,
+            target,
+            root,
+        } => {
+            let root = hex::encode(alloc, &root.0)?;
+            format!(in alloc; "vote {} {} {}", *source, *target, root.as_str())
+        }
+    }
+}
+
+/// What a request asks for, in words.
+fn op_words(alloc: Global, op: &Op) -> Result<String, AllocError> {
+    match op {
+        Op::Merge { file } => format!(in alloc; "merge {}", file.books.len()),
+        Op::BadFile { fault } => fault.to_string(alloc),
+        Op::Activate { .. } => String::from_str(alloc, "activate"),
+        Op::Propose {
+            message,
+            object,
+            ..
+        } => {
+            let message = message_words(alloc, message)?;
+            let object = match object {
+                None => "",
+                Some(SignObject::Header(_)) => " header",
+                Some(SignObject::Attestation(_)) => " attestation",
+            };
+            format!(in alloc; "{}{}", message.as_str(), object)
+        }
+        Op::Export { keys: Some(keys) } => format!(in alloc; "export {}", keys.len()),
+        Op::Export { keys: None } => String::from_str(alloc, "export all"),
+        Op::Prune { .. } => String::from_str(alloc, "prune"),
+    }
+}
+
+/// The request that a line is, in words, or the member that it is refused for.
+fn outcome(alloc: Global, line: &[u8]) -> Result<String, AllocError> {
+    match read_request(alloc, &domains(), line)? {
+        Ok(Request { op, epoch: None }) => op_words(alloc, &op),
+        Ok(
+            Request {
+                op,
+                epoch: Some(epoch),
+            },
+        ) => {
+            let op = op_words(alloc, &op)?;
+            format!(in alloc; "{} at {}", op.as_str(), epoch)
+        }
+        Err(member) => format!(in alloc; "no {}", member.name()),
+    }
+}
+
+const OUTCOMES: [(&str, &str); 44] = [
+    // Each op.
+    (r#"{"op":"merge","file":"&"}"#, "merge 1"),
+    (
+        r#"{"op":"merge","file":"{}"}"#,
+        "`metadata` is missing or of another kind",
+    ),
+    (r#"{"op":"activate","pubkey":"~"}"#, "activate"),
+    (
+        r#" { "epoch" : "7" , "pubkey" : "~" , "op" : "activate" , "more" : [1] } "#,
+        "activate at 7",
+    ),
+    (
+        r#"{"op":"block","pubkey":"~","slot":"18446744073709551615","signing_root":"%"}"#,
+        "block 18446744073709551615 aaaaaaaaaaaaaaaaaaaaaaaaaaaaaaaaaaaaaaaaaaaaaaaaaaaaaaaaaaaaaaaa",
+    ),
+    (
+        r#"{"op":"vote","pubkey":"~","source_epoch":"3","target_epoch":"4","signing_root":"%"}"#,
+        "vote 3 4 aaaaaaaaaaaaaaaaaaaaaaaaaaaaaaaaaaaaaaaaaaaaaaaaaaaaaaaaaaaaaaaa",
+    ),
+    (
+        r#"{"op":"block","pubkey":"~","header":@}"#,
+        "block 5 21752b394a560bd74d4b94662d99b4ee18c22c767803c10bcd4c75fc318f3ffe header",
+    ),
+    (
+        r#"{"op":"vote","pubkey":"~","attestation":$}"#,
+        "vote 9 10 be43ab42c529c4b6c4bb3c7ef68b22b6a8553b7e2d67d942ffde712363a8bf3a attestation",
+    ),
+    (r#"{"op":"export"}"#, "export all"),
+    (r#"{"op":"export","pubkeys":[]}"#, "export 0"),
+    (r#"{"op":"export","pubkeys":["~","~"]}"#, "export 2"),
+    (r#"{"op":"prune","pubkey":"~"}"#, "prune"),
+    // An object wins over the plain members.
+    (
+        r#"{"op":"block","pubkey":"~","slot":"9","signing_root":7,"header":@}"#,
+        "block 5 21752b394a560bd74d4b94662d99b4ee18c22c767803c10bcd4c75fc318f3ffe header",
+    ),
+    (
+        r#"{"op":"vote","pubkey":"~","source_epoch":"1","attestation":$}"#,
+        "vote 9 10 be43ab42c529c4b6c4bb3c7ef68b22b6a8553b7e2d67d942ffde712363a8bf3a attestation",
+    ),
+    // What is no object in a line.
+    ("", "no line"),
+    ("{", "no line"),
+    ("[]", "no line"),
+    (r#""op""#, "no line"),
+    // What is absent or has no reading.
+    ("{}", "no op"),
+    (r#"{"op":null}"#, "no op"),
+    (r#"{"op":"Activate"}"#, "no op"),
+    (r#"{"op":"merge"}"#, "no file"),
+    (r#"{"op":"merge","file":{}}"#, "no file"),
+    (r#"{"op":"activate","pubkey":"0x11"}"#, "no pubkey"),
+    (r#"{"op":"prune"}"#, "no pubkey"),
+    (r#"{"op":"export","pubkeys":null}"#, "no pubkeys"),
+    (r#"{"op":"export","pubkeys":["~",null]}"#, "no pubkeys"),
+    (r#"{"op":"block","pubkey":"~","slot":5}"#, "no slot"),
+    (
+        r#"{"op":"block","pubkey":"~","slot":"5"}"#,
+        "no signing_root",
+    ),
+    (
+        r#"{"op":"block","pubkey":"~","header":null,"slot":"5","signing_root":"%"}"#,
+        "no header",
+    ),
+    (r#"{"op":"block","pubkey":"~","header":"5"}"#, "no header"),
+    (
+        r#"{"op":"block","pubkey":"~","header":{"slot":"5"}}"#,
+        "no proposer_index",
+    ),
+    (
+        r#"{"op":"block","pubkey":"~","header":{"slot":5}}"#,
+        "no slot",
+    ),
+    (r#"{"op":"vote","pubkey":"~"}"#, "no source_epoch"),
+    (
+        r#"{"op":"vote","pubkey":"~","source_epoch":"1"}"#,
+        "no target_epoch",
+    ),
+    (
+        r#"{"op":"vote","pubkey":"~","attestation":[]}"#,
+        "no attestation",
+    ),
+    (r#"{"op":"export","epoch":null}"#, "no epoch"),
+    (r#"{"op":"export","epoch":7}"#, "no epoch"),
+    // The greatest moment.
+    (
+        r#"{"op":"export","epoch":"576460752303423487"}"#,
+        "export all at 576460752303423487",
+    ),
+    (
+        r#"{"op":"export","epoch":"576460752303423488"}"#,
+        "no epoch",
+    ),
+    // Where two refusals hold, the first in the order of the members.
+    (r#"{"op":"block","epoch":7}"#, "no pubkey"),
+    (r#"{"op":"block","slot":5,"signing_root":5}"#, "no pubkey"),
+    (
+        r#"{"op":"block","pubkey":"~","header":7,"epoch":7}"#,
+        "no header",
+    ),
+    (r#"{"op":"merge","file":"{}","epoch":7}"#, "no epoch"),
+];
+
+#[test]
+fn each_line_has_its_request(rt: HostRuntime) -> Result<(), Fail> {
+    let alloc = rt.alloc();
+    for (marked, wanted) in OUTCOMES {
+        let line = filled(alloc, marked)?;
+        let found = outcome(alloc, line.as_bytes())?;
+        assert_eq!(rt; found.as_str(), wanted, "at {marked}");
+    }
+    let found = outcome(alloc, b"{\"op\":\"\xff\"}")?;
+    assert_eq!(rt; found.as_str(), "no line");
+    Ok(())
+}
+
+/// An interchange file of one key that has signed nothing.
+fn one_key(alloc: Global) -> Result<File, AllocError> {
+    let book = Book {
+        blocks: Items::new(alloc),
+        votes: Items::new(alloc),
+    };
+    let mut books = Vec::new(alloc);
+    books.push((PubKey([0x11; 48]), book))?;
+    Ok(File {
+        genesis: Root([0xaa; 32]),
+        books: Items::from_vec(books),
+    })
+}
+
+/// The answer at a place of `LINES`.
+fn answer_at(alloc: Global, place: usize) -> Result<Answer, AllocError> {
+    let root = Some(Root([0xaa; 32]));
+    let block = BlockEntry { slot: 5, root };
+    let vote = VoteEntry {
+        target: 4,
+        source: 3,
+        root: None,
+    };
+    Ok(match place {
+        0 => Answer::Merged { keys: 1 },
+        1 => Answer::Active,
+        2 => Answer::Signed {
+            signature: Sig([0xbb; 96]),
+            root: Root([0xaa; 32]),
+        },
+        3 => Answer::Unsigned(Cause::NoKey),
+        4 => Answer::Unsigned(Cause::Fault),
+        5 => Answer::Exported(one_key(alloc)?),
+        6 => Answer::Pruned,
+        7 => Answer::BadRequest(Member::Header),
+        8 => Answer::BadRequest(Member::Inside(phase0_types::Member::ProposerIndex)),
+        9 => Answer::BadFile(ReadFault::TooLong(268_435_457)),
+        10 => Answer::BadFile(ReadFault::NotUtf8),
+        11 => Answer::BadFile(ReadFault::Json),
+        12 => Answer::BadFile(ReadFault::Missing(interchange_io::Member::Data)),
+        13 => Answer::BadFile(ReadFault::Version(VersionText::new(String::from_str(
+            alloc, "4\"",
+        )?))),
+        14 => Answer::BadFile(ReadFault::BadNumber(interchange_io::Member::Slot)),
+        15 => Answer::BadFile(ReadFault::BadHex(interchange_io::Member::Pubkey)),
+        16 => Answer::GenesisDiffers {
+            kept: Root([0; 32]),
+            given: Root([0x11; 32]),
+        },
+        17 => Answer::TooManyKeys {
+            have: 7,
+            new: 18_446_744_073_709_551_615,
+        },
+        18 => Answer::Unknown,
+        19 => Answer::NotActive,
+        20 => Answer::Refused(Verdict::SlotBelow(5)),
+        21 => Answer::Refused(Verdict::DoubleBlock(block)),
+        22 => Answer::Refused(Verdict::TargetBelow(4)),
+        _ => Answer::Refused(Verdict::Surrounds(vote)),
+    })
+}
+
+const LINES: [&str; 24] = [
+    r#"{"answer":"merged","keys":"1"}"#,
+    r#"{"answer":"active"}"#,
+    r#"{"answer":"signed","signature":"0xbbbbbbbbbbbbbbbbbbbbbbbbbbbbbbbbbbbbbbbbbbbbbbbbbbbbbbbbbbbbbbbbbbbbbbbbbbbbbbbbbbbbbbbbbbbbbbbbbbbbbbbbbbbbbbbbbbbbbbbbbbbbbbbbbbbbbbbbbbbbbbbbbbbbbbbbbbbbbbbbbbbbbbbbbbbbbbbbbbbbbbbbbbbbbbbb","signing_root":"%"}"#,
+    r#"{"answer":"unsigned","cause":"no_key"}"#,
+    r#"{"answer":"unsigned","cause":"fault"}"#,
+    r#"{"answer":"exported","file":"{\"data\":[{\"pubkey\":\"~\",\"signed_attestations\":[],\"signed_blocks\":[]}],\"metadata\":{\"genesis_validators_root\":\"%\",\"interchange_format_version\":\"5\"}}"}"#,
+    r#"{"answer":"pruned"}"#,
+    r#"{"answer":"refused","member":"header","reason":"bad_request"}"#,
+    r#"{"answer":"refused","member":"proposer_index","reason":"bad_request"}"#,
+    r#"{"answer":"refused","len":"268435457","reason":"too_long"}"#,
+    r#"{"answer":"refused","reason":"not_utf8"}"#,
+    r#"{"answer":"refused","reason":"json"}"#,
+    r#"{"answer":"refused","member":"data","reason":"missing"}"#,
+    r#"{"answer":"refused","reason":"version","text":"4\""}"#,
+    r#"{"answer":"refused","member":"slot","reason":"bad_number"}"#,
+    r#"{"answer":"refused","member":"pubkey","reason":"bad_hex"}"#,
+    r#"{"answer":"refused","given":"0x1111111111111111111111111111111111111111111111111111111111111111","kept":"0x0000000000000000000000000000000000000000000000000000000000000000","reason":"genesis_differs"}"#,
+    r#"{"answer":"refused","have":"7","new":"18446744073709551615","reason":"too_many_keys"}"#,
+    r#"{"answer":"refused","reason":"unknown"}"#,
+    r#"{"answer":"refused","reason":"not_active"}"#,
+    r#"{"answer":"refused","floor":"5","reason":"slot_below"}"#,
+    r#"{"answer":"refused","entry":{"signing_root":"%","slot":"5"},"reason":"double_block"}"#,
+    r#"{"answer":"refused","floor":"4","reason":"target_below"}"#,
+    r#"{"answer":"refused","entry":{"source_epoch":"3","target_epoch":"4"},"reason":"surrounds"}"#,
+];
+
+#[test]
+fn each_answer_has_its_line(rt: HostRuntime) -> Result<(), Fail> {
+    let alloc = rt.alloc();
+    for (place, marked) in LINES.iter().enumerate() {
+        let found = answer_at(alloc, place)?.line(alloc)?;
+        let mut wanted = with_bytes(alloc, marked)?;
+        wanted.push('\n')?;
+        assert_eq!(rt; found.as_str(), wanted.as_str());
+    }
+    Ok(())
+}
