@@ -12,3 +12,4 @@ pub mod OnceLemmas
 pub mod ReadsBackLemmas
 pub mod ContentLemmas
 pub mod UnitedLemmas
+pub mod FileLemmas

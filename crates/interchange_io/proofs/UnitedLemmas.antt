@@ -2,6 +2,9 @@
 use Rattle.std.proofs.Common.{◌≡◌, Bool, true, false, not, ◌||◌, cond, List, [], ◌∷◌, ◌++◌, fold, bytes_eq, refl, sym, ap, ◌∙◌, subst, append_assoc, append-nil}
 use Rattle.std.specs.List.{AllByRecursion, IsDistinct, filter, list_any}
 use Rattle.std.specs.Map.{keys_of}
+use Rattle.std.specs.Bool.{Decides}
+use Rattle.std.specs.Prelude.{AllPairs, ◌≢◌}
+use Rattle.std.proofs.lemmas.Map.Made.{AllPairs-from_IsDistinct}
 use Rattle.std.proofs.lemmas.Slice.Eq.{bytes_eq-Decides}
 use Rattle.edge_kit.specs.declared.bytes.PubKey.{PubKey}
 use Rattle.slash_defs.specs.declared.book.Book.{Book}
@@ -161,3 +164,14 @@ united_is_united books = record {
   blocks = λ key. listed_fold (λ book. book.blocks) (λ a b. refl) key books [] nothing_once;
   votes = λ key. listed_fold (λ book. book.votes) (λ a b. refl) key books [] nothing_once;
 }
+
+once_fold : (books found : List Listed) → Once found → Once (fold with_book found books)
+once_fold [] found once = once
+once_fold (new ∷ books) found once = once_fold books (with_book found new) (once_with found new once)
+
+decides : (a b : PubKey) → Decides (is_same a b) (a ≡ b)
+decides a b = (same_key a b, λ e. (bytes_eq-Decides a.0 b.0).1 (ap (λ (k : PubKey). k.0) e))
+
+-- no key stands twice
+pub united_once : (books : List Listed) → AllPairs (λ a b. a ≢ b) (keys_of (united books))
+united_once books = AllPairs-from_IsDistinct decides (keys_of (united books)) (once_fold books [] nothing_once)

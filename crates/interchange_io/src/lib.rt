@@ -11,7 +11,7 @@ mod sorted;
 mod writing;
 
 pub use fault::{ReadFault, VersionText};
-pub use laws::{united_books, written_order};
+pub use laws::{files_list_once, united_books, written_order};
 pub use member::Member;
 pub use reading::{FILE_LIMIT, read};
 pub use writing::{write, write_text};

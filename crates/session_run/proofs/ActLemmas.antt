@@ -25,10 +25,13 @@ use Rattle.check_sign.specs.declared.call.DeskReply.TheVariants as reply
 use Rattle.check_sign.specs.declared.call.Outcome.{Outcome}
 use Rattle.check_sign.specs.declared.call.Outcome.TheVariants as outcome
 use Rattle.session_format.specs.Answers.{answer_text}
+use Rattle.interchange_io.specs.declared.fault.ReadFault.{ReadFault}
+use Rattle.session_format.specs.declared.answer.Answer.TheVariants as answer
 use Rattle.session_format.specs.declared.request.Op.{Op}
 use Rattle.session_format.specs.declared.request.Op.TheVariants as op
 use Rattle.session_format.specs.declared.request.Request.{Request}
-use Rattle.session_run.specs.Turns.{Place, IsAnswered, IsUnfaulted, CanCall, state_by, noted_by, told_by, unfaulted_under, call_of, calls, call_at, op_answer, outcome_of, reply_answer, sign_request, signed_answer, asked_of, moment_at, state_after, noted_both}
+use Rattle.session_format.specs.declared.member.Member.{Member}
+use Rattle.session_run.specs.Turns.{Place, IsAnswered, IsUnfaulted, CanCall, state_by, noted_by, answer_of, moment_by, told_by, unfaulted_under, call_of, calls, call_at, op_answer, outcome_of, reply_answer, sign_request, signed_answer, asked_of, moment_at, state_after, noted_both}
 use Rattle.session_run.specs.Acts.{Pair, Signs, Acts, ActsBy, Did, CalledOnly, IsGiven, Turned, Undone, Unanswered, LeftUndone}
 
 pub answered_given : (g : OpenGrant) (s : SignReply) → IsGiven s → IsAnswered (reply.Granted g) s
@@ -94,25 +97,39 @@ op_answered kept (op.Export None) now c r s e = refl
 op_answered kept (op.Export (Some keys)) now c r s e = refl
 op_answered kept (op.Prune key) now c r s e = refl
 
-pub did : {T E : Type 0} (bytes : T → List ℕ) (result : Result T E) (domains : Domains) (o : Op) (moment : ℕ) (before now : Pair) (c : DeskCall) → call_of (keys_of before.desk.keys) o moment ≡ Some c
-    → IfOk result (λ text. (r : DeskReply) × (s : SignReply) × Acts (sign_request domains o) before now c r s (outcome_of s) × IsAnswered r s × (bytes text ≡ answer_text (reply_answer r s)))
+pub did : {T E : Type 0} (bytes : T → List ℕ) (result : Result T E) (domains : Domains) (o : Op) (moment : ℕ) (before now : Pair) (c : DeskCall) (request : SignRequest) → call_of (keys_of before.desk.keys) o moment ≡ Some c → request ≡ sign_request domains o
+    → IfOk result (λ text. (r : DeskReply) × (s : SignReply) × Acts request before now c r s (outcome_of s) × IsAnswered r s × (bytes text ≡ answer_text (reply_answer r s)))
     → IfOk result (λ text. Did domains o moment before now (bytes text))
-did bytes (Ok text) domains o moment before now c is h =
+did bytes (Ok text) domains o moment before now c request is asks h =
     let P : Option DeskCall → Type 0 = λ x. ActsBy (sign_request domains o) x before now h.0 h.1 (outcome_of h.1) in
+    let R : SignRequest → Type 0 = λ x. Acts x before now c h.0 h.1 (outcome_of h.1) in
     record {
       reply = h.0;
       signing = h.1;
-      acts = subst P (sym is) h.2;
+      acts = subst P (sym is) (subst R asks h.2);
       answered = h.3;
       text_is = h.4 ∙ ap answer_text (sym (op_answered (keys_of before.desk.keys) o moment c h.0 h.1 is));
     }
-did bytes (Err e) domains o moment before now c is h = tt
+did bytes (Err e) domains o moment before now c request is asks h = tt
 
-pub called_only : {T E : Type 0} (result : Result T E) (domains : Domains) (o : Op) (moment : ℕ) (before now : Pair) (c : DeskCall) → call_of (keys_of before.desk.keys) o moment ≡ Some c
-    → OnErr result ((r : DeskReply) × (s : SignReply) × Acts (sign_request domains o) before now c r s outcome.Dropped)
+pub called_only : {T E : Type 0} (result : Result T E) (domains : Domains) (o : Op) (moment : ℕ) (before now : Pair) (c : DeskCall) (request : SignRequest) → call_of (keys_of before.desk.keys) o moment ≡ Some c → request ≡ sign_request domains o
+    → OnErr result ((r : DeskReply) × (s : SignReply) × Acts request before now c r s outcome.Dropped)
     → OnErr result (LeftUndone domains o moment before now)
-called_only (Ok text) domains o moment before now c is h = tt
-called_only (Err e) domains o moment before now c is h = inr (record { call = c; is_call = is; reply = h.0; signing = h.1; acts = h.2 })
+called_only (Ok text) domains o moment before now c request is asks h = tt
+called_only (Err e) domains o moment before now c request is asks h =
+    let R : SignRequest → Type 0 = λ x. Acts x before now c h.0 h.1 outcome.Dropped in
+    inr (record { call = c; is_call = is; reply = h.0; signing = h.1; acts = subst R asks h.2 })
+
+-- a text that is no file does nothing
+did_nothing : (domains : Domains) (o : Op) (moment : ℕ) (pair : Pair) (fault : ReadFault) (text : List ℕ) → o ≡ op.BadFile fault → text ≡ answer_text (answer.BadFile fault) → Did domains o moment pair pair text
+did_nothing domains o moment pair fault text is text_is =
+    let P : Op → Type 0 = λ x. Did domains x moment pair pair text in
+    subst P (sym is) (record { reply = reply.Active; signing = signing.NoKey; acts = refl; answered = tt; text_is = text_is })
+
+pub done_nothing : {T E : Type 0} (bytes : T → List ℕ) (result : Result T E) (domains : Domains) (o : Op) (moment : ℕ) (pair : Pair) (fault : ReadFault) → o ≡ op.BadFile fault
+    → IfOk result (λ text. bytes text ≡ answer_text (answer.BadFile fault)) → IfOk result (λ text. Did domains o moment pair pair (bytes text))
+done_nothing bytes (Ok text) domains o moment pair fault is h = did_nothing domains o moment pair fault (bytes text) is h
+done_nothing bytes (Err e) domains o moment pair fault is h = tt
 
 -- ---- a line
 
@@ -143,15 +160,15 @@ by_telling : (request : SignRequest) (kept : List PubKey) (o : Op) (moment : ℕ
 by_telling request kept (op.BadFile fault) moment before now r s out same =
     let P : Pair → Type 0 = λ p. ByTelling request before p None r s in
     subst P (sym same) (Tells-nil before.told, omega arith, λ n. tt)
-by_telling request kept (op.Merge file) moment before now r s out acts = called_telling request before now _ _ r s out acts
-by_telling request kept (op.Activate key) moment before now r s out acts = called_telling request before now _ _ r s out acts
-by_telling request kept (op.Propose key m object) moment before now r s out acts = called_telling request before now _ _ r s out acts
-by_telling request kept (op.Export None) moment before now r s out acts = called_telling request before now _ _ r s out acts
-by_telling request kept (op.Export (Some keys)) moment before now r s out acts = called_telling request before now _ _ r s out acts
-by_telling request kept (op.Prune key) moment before now r s out acts = called_telling request before now _ _ r s out acts
+by_telling request kept (op.Merge file) moment before now r s out acts = called_telling request before now (call.Merge file) (call.Merge file) r s out acts
+by_telling request kept (op.Activate key) moment before now r s out acts = called_telling request before now (call.Activate key moment) (call.Activate key 0) r s out acts
+by_telling request kept (op.Propose key m object) moment before now r s out acts = called_telling request before now (call.Propose key m moment) (call.Propose key m 0) r s out acts
+by_telling request kept (op.Export None) moment before now r s out acts = called_telling request before now (call.Export kept) (call.Export []) r s out acts
+by_telling request kept (op.Export (Some keys)) moment before now r s out acts = called_telling request before now (call.Export keys) (call.Export keys) r s out acts
+by_telling request kept (op.Prune key) moment before now r s out acts = called_telling request before now (call.Prune key) (call.Prune key) r s out acts
 
 -- a request that did what it asks
-pub turned_did : (domains : Domains) (moment : ℕ) (q : Request) (before now : Pair) (text : List ℕ) → Did domains q.op (moment_at moment q) before now text
+turned_did : (domains : Domains) (moment : ℕ) (q : Request) (before now : Pair) (text : List ℕ) → Did domains q.op (moment_at moment q) before now text
     → (r : DeskReply) × (s : SignReply) × Turned domains moment (Ok q) before now r s × (text ≡ answer_text (op_answer q.op r s))
 turned_did domains moment q before now text d =
     let request = sign_request domains q.op in
@@ -172,7 +189,7 @@ turned_did domains moment q before now text d =
     )
 
 -- one that did not
-pub unanswered : (domains : Domains) (moment : ℕ) (q : Request) (before now : Pair) → LeftUndone domains q.op (moment_at moment q) before now → Unanswered domains moment (Ok q) before now
+unanswered : (domains : Domains) (moment : ℕ) (q : Request) (before now : Pair) → LeftUndone domains q.op (moment_at moment q) before now → Unanswered domains moment (Ok q) before now
 unanswered domains moment q before now (inl same) = inl same
 unanswered domains moment q before now (inr c) = inr (record {
   request = q;
@@ -183,3 +200,18 @@ unanswered domains moment q before now (inr c) = inr (record {
   signing = c.signing;
   acts = c.acts;
 })
+
+-- the same, of what a line reads as
+pub ok_answered : (domains : Domains) (moment : ℕ) (read : Result Request Member) (q : Request) (before now : Pair) (at : ℕ) (text : List ℕ) → read ≡ Ok q → Did domains q.op at before now text → at ≡ moment_at moment q
+    → (r : DeskReply) × (s : SignReply) × Turned domains moment read before now r s × (text ≡ answer_text (answer_of read r s)) × (at ≡ moment_by moment read)
+ok_answered domains moment read q before now at text is d at_is =
+    let D : ℕ → Type 0 = λ n. Did domains q.op n before now text in
+    let t = turned_did domains moment q before now text (subst D at_is d) in
+    let P : Result Request Member → Type 0 = λ x. (r : DeskReply) × (s : SignReply) × Turned domains moment x before now r s × (text ≡ answer_text (answer_of x r s)) × (at ≡ moment_by moment x) in
+    subst P (sym is) (t.0, t.1, t.2, t.3, at_is)
+
+pub ok_unanswered : (domains : Domains) (moment : ℕ) (read : Result Request Member) (q : Request) (before now : Pair) (at : ℕ) → read ≡ Ok q → LeftUndone domains q.op at before now → at ≡ moment_at moment q → Unanswered domains moment read before now
+ok_unanswered domains moment read q before now at is u at_is =
+    let D : ℕ → Type 0 = λ n. LeftUndone domains q.op n before now in
+    let P : Result Request Member → Type 0 = λ x. Unanswered domains moment x before now in
+    subst P (sym is) (unanswered domains moment q before now (subst D at_is u))

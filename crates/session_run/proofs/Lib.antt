@@ -1,4 +1,5 @@
 pub mod LineLemmas
+pub mod OnceLemmas
 pub mod ActLemmas
 pub mod SafeLemmas
 pub mod RunLemmas

@@ -211,6 +211,10 @@ inserted (x ∷ xs) key q h = inserted_at (key_cmp key x) x xs key q (inserted x
 
 stays_active : (state : State) (c : DeskCall) (r : DeskReply) → StaysActive state.active (after state c r).active
 stays_active state (call.Activate key now) reply.Active = inserted state.active key
+stays_active state (call.Merge file) (reply.Merged keys) = λ q h. h
+stays_active state (call.Propose key m now) (reply.Granted grant) = λ q h. h
+stays_active state (call.Settle grant o) reply.Settled = λ q h. h
+stays_active state (call.Prune key) (reply.Pruned book) = λ q h. h
 stays_active state c r = λ q h. h
 
 -- ---- both

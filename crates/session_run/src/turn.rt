@@ -41,8 +41,15 @@ pub fn act<S: Signer>(
     };
     match call_for(desk, op, now)? {
         Ok(call) => call_desk(alloc, &request, desk, signer, call),
-        Err(fault) => Answer::BadFile(fault).line(alloc),
+        Err(fault) => bad_file_line(alloc, fault),
     }
+}
+
+/// The answer's line to a text that is no file.
+fn bad_file_line(alloc: Global, fault: ReadFault) -> Result<String, AllocError>
+    ensures { IfOk result (λ text. string_bytes text ≡ answer_text (Answer.BadFile fault)) }
+{
+    Answer::BadFile(fault).line(alloc)
 }
 
 /// What a message was made of, where the line gave it.

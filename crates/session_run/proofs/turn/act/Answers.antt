@@ -1,9 +1,14 @@
-use Rattle.std.proofs.Common.{string_bytes}
-use Rattle.session_run.proofs.ActLemmas.{acted, unacted}
+use Rattle.std.proofs.Common.{string_bytes, rules, ap}
+use Rattle.session_run.proofs.ActLemmas.{did, called_only, done_nothing}
 use Rattle.session_run.proofs.turn.act.Goals as goal
 
-pub returns-in-Granted-clause-done : goal.returns-in-Granted-clause-done
-returns-in-Granted-clause-done g c = acted string_bytes _ _ _ _ _ _ _ _ c.call_for.ensures c.in-Granted.ensures.machine c.in-Granted.ensures.events c.sign.ensures.done
+pub returns-in-Ok-clause-done : goal.returns-in-Ok-clause-done
+returns-in-Ok-clause-done g c =
+    did string_bytes _ _ _ _ _ _ _ _ (search rules) (ap (λ o. record { fork = c.args.domains.now.fork; genesis = c.args.domains.now.genesis; object = o }) c.object_in.ensures) c.call_desk.ensures.done
 
-pub returns-in-Granted-clause-undone : goal.returns-in-Granted-clause-undone
-returns-in-Granted-clause-undone g c = unacted _ _ _ _ _ _ _ _ _ c.call_for.ensures c.in-Granted.ensures.machine c.in-Granted.ensures.events c.sign.ensures.undone
+pub returns-in-Ok-clause-undone : goal.returns-in-Ok-clause-undone
+returns-in-Ok-clause-undone g c =
+    called_only _ _ _ _ _ _ _ _ (search rules) (ap (λ o. record { fork = c.args.domains.now.fork; genesis = c.args.domains.now.genesis; object = o }) c.object_in.ensures) c.call_desk.ensures.undone
+
+pub returns-in-Err-clause-done : goal.returns-in-Err-clause-done
+returns-in-Err-clause-done g c = done_nothing string_bytes _ _ _ _ _ _ (search rules) c.bad_file_line.ensures

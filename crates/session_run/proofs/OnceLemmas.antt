@@ -1,0 +1,134 @@
+-- A request that was read has its moment within the limit, and a file that it merges lists each key once.
+use Rattle.std.proofs.Common.{◌≡◌, ℕ, ◌≤◌, Bool, true, false, cond, List, Option, Some, None, Result, Ok, Err, refl, sym, subst, nat_le, bytes_eq, arith}
+use Rattle.std.specs.Prelude.{is_some, unwrap_or, IfOk, codes}
+use Rattle.std.proofs.lemmas.Grind.{common_steps}
+use Rattle.edge_kit.specs.declared.bytes.PubKey.{PubKey}
+use Rattle.serde_json.specs.Data.{Data, Items}
+use Rattle.serde_json.specs.Find.{get, as_object, as_str}
+use Rattle.std.specs.Option.{option_and_then}
+use Rattle.edge_kit.specs.Texts.{quoted_number}
+use Rattle.slash_defs.specs.declared.book.File.{File}
+use Rattle.interchange_io.specs.Reading.{file_of}
+use Rattle.interchange_io.specs.declared.fault.ReadFault.{ReadFault}
+use Rattle.interchange_io.proofs.FileLemmas.{lists_once}
+use Rattle.phase0_types.specs.Values.{ValueOf}
+use Rattle.phase0_types.specs.Reading.{read_at}
+use Rattle.phase0_types.specs.Containers.{attestation_data, beacon_block_header}
+use Rattle.phase0_types.specs.declared.fault.ReadFault.{ReadFault as ShapeFault}
+use Rattle.sign_roots.specs.declared.domains.Domains.{Domains}
+use Rattle.check_sign.specs.Machine.{moment_limit}
+use Rattle.session_format.specs.Steps.{◌>>=◌}
+use Rattle.session_format.specs.Requests.{data_of, request_of, of_data, request_in, members_of, op_in, by_op, text_at, key_at, merge_at, merge_in, merge_of, activate_at, block_at, block_by, plain_block, header_block, vote_at, vote_by, plain_vote, details_vote, export_at, asked_keys, keys_in, prune_at, epoch_at, epoch_in, moment_in, number_at, root_at}
+use Rattle.session_format.specs.declared.member.Member.{Member}
+use Rattle.session_format.specs.declared.member.Member.TheVariants as member
+use Rattle.session_format.specs.declared.request.Op.{Op}
+use Rattle.session_format.specs.declared.request.Request.{Request}
+use Rattle.session_run.specs.Acts.{ListsOnce}
+
+-- what was read, if anything, is such
+abbrev IfRead : {A : Type 0} → (A → Type 0) → Result A Member → Type 0
+IfRead P (Ok x) = P x
+IfRead P (Err e) = Unit {0}
+
+then : {A B : Type 0} (Q : B → Type 0) (r : Result A Member) (f : A → Result B Member) → ((x : A) → IfRead Q (f x)) → IfRead Q (r >>= f)
+then Q (Ok x) f h = h x
+then Q (Err e) f h = tt
+
+then_such : {A B : Type 0} (P : A → Type 0) (Q : B → Type 0) (r : Result A Member) (f : A → Result B Member) → IfRead P r → ((x : A) → P x → IfRead Q (f x)) → IfRead Q (r >>= f)
+then_such P Q (Ok x) f p h = h x p
+then_such P Q (Err e) f p h = tt
+
+by_test : {A : Type 0} (P : A → Type 0) (b : Bool) (x y : Result A Member) → IfRead P x → IfRead P y → IfRead P (cond b x y)
+by_test P true x y h k = h
+by_test P false x y h k = k
+
+-- ---- what each op asks for
+
+merge_such : (text : List ℕ) (r : Result File ReadFault) → file_of text ≡ r → ListsOnce (merge_of r)
+merge_such text (Ok file) e = lists_once text file e
+merge_such text (Err fault) e = tt
+
+merges : (text : Option (List ℕ)) → IfRead ListsOnce (merge_in text)
+merges None = tt
+merges (Some text) = merge_such text (file_of text) refl
+
+plain_blocks : (key : PubKey) (d : Data) → IfRead ListsOnce (plain_block key d)
+plain_blocks key d = then ListsOnce (number_at (codes "slot") member.Slot d) _ (λ slot. then ListsOnce (root_at d) _ (λ signing. tt))
+
+header_blocks : (domains : Domains) (key : PubKey) (r : Result (ValueOf beacon_block_header) ShapeFault) → IfRead ListsOnce (header_block domains key r)
+header_blocks domains key (Ok v) = tt
+header_blocks domains key (Err e) = tt
+
+blocks_by : (domains : Domains) (key : PubKey) (d : Data) (header : Option Data) → IfRead ListsOnce (block_by domains key d header)
+blocks_by domains key d None = plain_blocks key d
+blocks_by domains key d (Some header) = header_blocks domains key (read_at beacon_block_header None header)
+
+plain_votes : (key : PubKey) (d : Data) → IfRead ListsOnce (plain_vote key d)
+plain_votes key d = then ListsOnce (number_at (codes "source_epoch") member.SourceEpoch d) _ (λ source. then ListsOnce (number_at (codes "target_epoch") member.TargetEpoch d) _ (λ target. then ListsOnce (root_at d) _ (λ signing. tt)))
+
+details_votes : (domains : Domains) (key : PubKey) (r : Result (ValueOf attestation_data) ShapeFault) → IfRead ListsOnce (details_vote domains key r)
+details_votes domains key (Ok v) = tt
+details_votes domains key (Err e) = tt
+
+votes_by : (domains : Domains) (key : PubKey) (d : Data) (details : Option Data) → IfRead ListsOnce (vote_by domains key d details)
+votes_by domains key d None = plain_votes key d
+votes_by domains key d (Some details) = details_votes domains key (read_at attestation_data None details)
+
+ops : (domains : Domains) (name : Option (List ℕ)) (d : Data) → IfRead ListsOnce (by_op domains name d)
+ops domains None d = tt
+ops domains (Some name) d =
+    by_test ListsOnce (bytes_eq name (codes "merge")) (merge_at d) _ (merges (text_at (codes "file") d))
+    (by_test ListsOnce (bytes_eq name (codes "activate")) (activate_at d) _ (then ListsOnce (key_at d) _ (λ key. tt))
+    (by_test ListsOnce (bytes_eq name (codes "block")) (block_at domains d) _ (then ListsOnce (key_at d) _ (λ key. blocks_by domains key d (get (codes "header") d)))
+    (by_test ListsOnce (bytes_eq name (codes "vote")) (vote_at domains d) _ (then ListsOnce (key_at d) _ (λ key. votes_by domains key d (get (codes "attestation") d)))
+    (by_test ListsOnce (bytes_eq name (codes "export")) (export_at d) _ (then ListsOnce (asked_keys (get (codes "pubkeys") d)) _ (λ keys. tt))
+    (by_test ListsOnce (bytes_eq name (codes "prune")) (prune_at d) _ (then ListsOnce (key_at d) _ (λ key. tt)) tt)))))
+
+-- ---- the moment
+
+abbrev WithinLimit : Option ℕ → Type 0
+WithinLimit epoch = unwrap_or epoch 0 ≤ moment_limit
+
+le_from : (n m : ℕ) → nat_le n m ≡ true → n ≤ m
+le_from n m e = grind (arith, common_steps)
+
+moments_by : (b : Bool) (epoch : ℕ) → nat_le epoch moment_limit ≡ b → IfRead WithinLimit (cond b (Ok (Some epoch)) (Err member.Epoch))
+moments_by true epoch e = le_from epoch moment_limit e
+moments_by false epoch e = tt
+
+moments : (o : Option ℕ) → IfRead WithinLimit (moment_in o)
+moments None = tt
+moments (Some epoch) = moments_by (nat_le epoch moment_limit) epoch refl
+
+epochs : (o : Option Data) → IfRead WithinLimit (epoch_in o)
+epochs None = omega arith
+epochs (Some d) = moments (option_and_then quoted_number (as_str d))
+
+-- ---- the request
+
+abbrev pub IsSuch : Request → Type 0
+IsSuch q = WithinLimit q.epoch × ListsOnce q.op
+
+members_such : (domains : Domains) (d : Data) → IfRead IsSuch (members_of domains d)
+members_such domains d = then_such ListsOnce IsSuch (op_in domains d) _ (ops domains (text_at (codes "op") d) d)
+    (λ asked once. then_such WithinLimit IsSuch (epoch_at d) _ (epochs (get (codes "epoch") d)) (λ epoch within. (within, once)))
+
+data_such : (domains : Domains) (d : Option Data) → IfRead IsSuch (of_data domains d)
+data_such domains None = tt
+data_such domains (Some d) = by_test IsSuch (is_some (as_object d)) (members_of domains d) (Err member.Line) (members_such domains d) tt
+
+such : (domains : Domains) (line : List ℕ) → IfRead IsSuch (request_of domains line)
+unfolding request_of
+such domains line = data_such domains (data_of line)
+
+pub within_limit : (domains : Domains) (line : List ℕ) (q : Result Request Member) → q ≡ request_of domains line → IfOk q (λ r. unwrap_or r.epoch 0 ≤ moment_limit)
+within_limit domains line q e = at q (let P : Result Request Member → Type 0 = λ r. IfRead IsSuch r in subst P (sym e) (such domains line)) where
+  at : (r : Result Request Member) → IfRead IsSuch r → IfOk r (λ r. unwrap_or r.epoch 0 ≤ moment_limit)
+  at (Ok r) h = h.0
+  at (Err m) h = tt
+
+pub files_once : (domains : Domains) (line : List ℕ) (q : Result Request Member) → q ≡ request_of domains line → IfOk q (λ r. ListsOnce r.op)
+files_once domains line q e = at q (let P : Result Request Member → Type 0 = λ r. IfRead IsSuch r in subst P (sym e) (such domains line)) where
+  at : (r : Result Request Member) → IfRead IsSuch r → IfOk r (λ r. ListsOnce r.op)
+  at (Ok r) h = h.1
+  at (Err m) h = tt
