@@ -1,0 +1,78 @@
+-- What the words ask the program to do, as `clap` reads them by the table.
+use Rattle.std.specs.Prelude.{Bool, true, false, List, [], ◌∷◌, ◌||◌, Option, Some, None, Result, Ok, Err, option_map, option_and_then, if◌then◌else◌, codes}
+use Rattle.std.specs.Str.{bytes_eq}
+use Rattle.edge_kit.specs.Texts.{hex_bytes}
+use Rattle.edge_kit.specs.declared.bytes.Root.{Root}
+use Rattle.phase0_types.specs.declared.fork.Fork.{Fork}
+use Rattle.clap.specs.Words.{Kinds, Row, Text, fault_of, first_of, subcommand_of}
+use Rattle.clap.specs.declared.error.kind.ErrorKind.{ErrorKind}
+use Rattle.clap.specs.declared.error.kind.ErrorKind.TheVariants.{DisplayHelp, DisplayVersion}
+use Rattle.command_line.specs.Forks.{fork_at}
+use Rattle.command_line.specs.Table.{table}
+use Rattle.command_line.specs.declared.planned.Plan.{Plan}
+use Rattle.command_line.specs.declared.planned.Plan.TheVariants.{Session, Shown}
+use Rattle.command_line.specs.declared.planned.Usage.{Usage}
+
+-- what words ask for: a session, the text of help or the version, or nothing that there is
+pub data Asked : Type 0 where
+  session : Root → Fork → Asked
+  shown : Asked
+  nothing : Asked
+
+-- what an answer takes the words to ask for
+abbrev pub taken_as : Result Plan Usage → Asked
+taken_as (Ok (Session genesis fork)) = session genesis fork
+taken_as (Ok (Shown text)) = shown
+taken_as (Err usage) = nothing
+
+-- what is asked for, if anything that there is
+abbrev pub or_nothing : Option Asked → Asked
+or_nothing None = nothing
+or_nothing (Some asked) = asked
+
+-- the root that the value of `--genesis` writes
+abbrev pub genesis_in : List Row → Option Root
+genesis_in options = option_map (λ bytes. record { 0 = bytes }) (option_and_then (hex_bytes 32) (first_of (codes "genesis") options))
+
+-- the fork that the value of `--fork`, or its default, writes
+abbrev pub fork_in : List Row → Option Fork
+fork_in options = option_and_then fork_at (first_of (codes "fork") options)
+
+-- the session of these options
+abbrev pub session_in : List Row → Asked
+session_in options = or_nothing (option_and_then (λ genesis. option_map (session genesis) (fork_in options)) (genesis_in options))
+
+-- help on the program, or on the command that is named
+abbrev pub help_on : Option Text → Asked
+help_on None = shown
+help_on (Some name) = if bytes_eq name (codes "session") || bytes_eq name (codes "help") then shown else nothing
+
+-- the help that is asked for with the value of `COMMAND`
+abbrev pub help_in : List Row → Asked
+help_in options = help_on (first_of (codes "command") options)
+
+-- what a subcommand with its options asks for
+abbrev pub asked_in : Text → List Row → Asked
+asked_in name options =
+    if bytes_eq name (codes "session") then session_in options
+    else (if bytes_eq name (codes "help") then help_in options else nothing)
+
+-- what the subcommand that the words name asks for
+abbrev pub asked_at : Option (Text × List Row) → Asked
+asked_at None = nothing
+asked_at (Some p) = asked_in p.0 p.1
+
+-- `clap` shows help or the version
+abbrev pub is_display : ErrorKind → Bool
+is_display DisplayHelp = true
+is_display DisplayVersion = true
+is_display _ = false
+
+-- where `clap` takes the words, what the subcommand asks for; else what the first kind of its error is
+abbrev pub asked_by : Kinds → Option (Text × List Row) → Asked
+asked_by [] subcommand = asked_at subcommand
+asked_by (kind ∷ kinds) subcommand = if is_display kind then shown else nothing
+
+-- what the words ask for
+abbrev pub asked_of : List Text → Asked
+asked_of words = asked_by (fault_of table words) (subcommand_of table words)

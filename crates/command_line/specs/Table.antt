@@ -1,0 +1,45 @@
+-- The program's command line: its subcommands, their options, and what stands where an option is absent.
+use Rattle.std.specs.Prelude.{[], ◌∷◌, Some, true, codes}
+use Rattle.clap.specs.Words.{App, Rule, Shape, new_app, new_rule, with_rule, with_subcommand}
+use Rattle.clap.specs.declared.builder.action.ArgAction.TheVariants.{Set}
+
+-- `--genesis HEX32`, which must be given
+abbrev pub genesis_rule : Rule
+genesis_rule = record (new_rule (codes "genesis")) {
+  long = Some (codes "genesis");
+  action = Some Set;
+  value_names = 1;
+  required = true;
+}
+
+-- `--fork PREVIOUS:CURRENT:EPOCH`, both versions zero from epoch 0 on where it is absent
+abbrev pub fork_rule : Rule
+fork_rule = record (new_rule (codes "fork")) {
+  long = Some (codes "fork");
+  action = Some Set;
+  value_names = 1;
+  defaults = codes "0x00000000:0x00000000:0" ∷ [];
+}
+
+-- the command `session` with its options
+abbrev pub session_shape : Shape
+session_shape = (with_rule (with_rule (new_app (codes "session")) genesis_rule) fork_rule).top
+
+-- `help [COMMAND]`: a command's name, or none
+abbrev pub help_shape : Shape
+help_shape = (with_rule (new_app (codes "help")) (record (new_rule (codes "command")) {
+  action = Some Set;
+  value_names = 1;
+})).top
+
+-- the program, of which a subcommand must be named
+abbrev pub program_shape : Shape
+program_shape = record (new_app (codes "validator")).top {
+  has_version = true;
+  subcommand_required = true;
+  disable_help_subcommand = true;
+}
+
+-- the whole command line
+abbrev pub table : App
+table = with_subcommand (with_subcommand (record { top = program_shape; subs = [] }) session_shape) help_shape

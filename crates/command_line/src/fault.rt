@@ -1,0 +1,32 @@
+//! Words that `clap` takes, and that are no command all the same.
+ghost use Rattle.std.specs.Prelude.{◌≡◌, IfOk};
+ghost use Rattle.command_line.specs.Plans.{nothing, taken_as};
+
+use crate::planned::{Plan, Usage};
+use std::alloc::{AllocError, Global};
+use thiserror::Error;
+
+/// Why words that `clap` takes are no command.
+#[derive(Clone, Copy, Debug, Error)]
+pub(crate) enum Fault<'a> {
+    /// No command is named.
+    #[error("error: no command is named")]
+    NoCommand,
+    /// There is no command of this name.
+    #[error("error: unrecognized subcommand '{0}'")]
+    Command(&'a str),
+    /// The value of `--genesis` is out of form.
+    #[error("error: invalid value '{0}' for '--genesis <HEX32>': 0x and 64 hex digits are wanted")]
+    Genesis(&'a str),
+    /// The value of `--fork` is out of form.
+    #[error("error: invalid value '{0}' for '--fork <PREVIOUS:CURRENT:EPOCH>': two versions, each 0x and 8 hex digits, and an epoch in decimal below 2^64 are wanted, joined by :")]
+    Fork(&'a str),
+}
+
+/// The answer to words with a fault.
+pub(crate) fn refused(alloc: Global, fault: Fault<'_>) -> Result<Result<Plan, Usage>, AllocError>
+    ensures { IfOk result (λ answer. taken_as answer ≡ nothing) }
+{
+    let text = format!(in alloc; "{fault}\n\nFor more information, try '--help'.\n")?;
+    Ok(Err(Usage::new(text)))
+}

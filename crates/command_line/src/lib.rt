@@ -1,0 +1,15 @@
+//! The command line: what the words ask the program to do, by `clap`.
+#![tactic(auto)]
+
+mod command;
+mod fault;
+mod fork_text;
+mod options;
+mod planned;
+mod words;
+
+pub use planned::{Plan, ShownText, Usage};
+pub use words::plan;
+
+#[cfg(test)]
+mod tests;

@@ -1,0 +1,93 @@
+//! What the words ask the program to do, and the texts that answer other words.
+ghost use Rattle.std.specs.Prelude.{◌≡◌, string_bytes};
+
+use edge_kit::Root;
+use phase0_types::Fork;
+use std::fmt;
+use std::marker::Model;
+use thiserror::Error;
+
+/// What the words ask the program to do.
+#[derive(Debug, Drop)]
+pub enum Plan {
+    /// A session over standard input and output, for the chain of this genesis validators root, whose
+    /// signing domains are those of this fork.
+    Session { genesis: Root, fork: Fork },
+    /// Nothing but a text, for standard output: the words ask for help or for the version.
+    Shown(ShownText),
+}
+
+/// The text that `--help` or `--version` asks for, which contracts see as its bytes. It ends in a
+/// newline.
+#[derive(Drop)]
+pub struct ShownText {
+    text: String,
+}
+
+impl Model for ShownText {
+    ghost use Rattle.std.specs.Prelude.{ℕ, List, string_bytes};
+
+    ghost Value = { List ℕ };
+
+    ghost view = { λ s. string_bytes s.text };
+}
+
+impl ShownText {
+    /// The text of a string.
+    pub fn new(text: String) -> Self
+        ensures { result ≡ string_bytes text }
+    {
+        ShownText { text }
+    }
+
+    /// The text, lent.
+    pub fn as_str(&self) -> &str
+        ensures { result.now ≡ self.now }
+    {
+        self.text.as_str()
+    }
+}
+
+impl fmt::Debug for ShownText {
+    fn fmt<W: fmt::Write>(&self, f: &mut fmt::Formatter<W>) -> fmt::Result {
+        write!(f, "{:?}", self.text.as_str())
+    }
+}
+
+/// The words are no command. It holds what is told of them, which contracts see as its bytes: what is
+/// wrong, the usage and where to find help, of several lines, the last of which ends in a newline.
+#[derive(Drop, Error)]
+#[error("{}", .text.as_str())]
+pub struct Usage {
+    text: String,
+}
+
+impl Model for Usage {
+    ghost use Rattle.std.specs.Prelude.{ℕ, List, string_bytes};
+
+    ghost Value = { List ℕ };
+
+    ghost view = { λ u. string_bytes u.text };
+}
+
+impl Usage {
+    /// The text of a string.
+    pub fn new(text: String) -> Self
+        ensures { result ≡ string_bytes text }
+    {
+        Usage { text }
+    }
+
+    /// The text, lent.
+    pub fn as_str(&self) -> &str
+        ensures { result.now ≡ self.now }
+    {
+        self.text.as_str()
+    }
+}
+
+impl fmt::Debug for Usage {
+    fn fmt<W: fmt::Write>(&self, f: &mut fmt::Formatter<W>) -> fmt::Result {
+        write!(f, "{:?}", self.text.as_str())
+    }
+}

@@ -1,0 +1,212 @@
+//! Command lines, and what they come to.
+use crate::{Plan, Usage, plan};
+use edge_kit::Root;
+use phase0_types::Fork;
+use std::alloc::{AllocError, Global};
+use std::test::Fail;
+
+const ROOT: &str = "0xabababababababababababababababababababababababababababababababab";
+
+const ROOT_IN_CAPITALS: &str = "0xABABABABABABABABABABABABABABABABABABABABABABABABABABABABABABABAB";
+
+const ROOT_OF_63_DIGITS: &str = "0xabababababababababababababababababababababababababababababababa";
+
+const GENESIS_IS_ROOT: &str =
+    "--genesis=0xabababababababababababababababababababababababababababababababab";
+
+const FORK: &str = "0x01000000:0x02000000:18446744073709551615";
+
+/// The answer to the words behind the program's name.
+fn answer(alloc: Global, words: &[&str]) -> Result<Result<Plan, Usage>, AllocError> {
+    let mut list = Vec::new(alloc);
+    list.push(String::from_str(alloc, "validator")?)?;
+    for word in words {
+        list.push(String::from_str(alloc, word)?)?;
+    }
+    plan(alloc, list.as_slice())
+}
+
+#[test]
+fn sessions_have_their_genesis_and_fork(rt: HostRuntime) -> Result<(), Fail> {
+    let zero = Fork {
+        previous_version: [0; 4],
+        current_version: [0; 4],
+        epoch: 0,
+    };
+    let last = Fork {
+        previous_version: [1, 0, 0, 0],
+        current_version: [2, 0, 0, 0],
+        epoch: u64::MAX,
+    };
+    let rows: [(&[&str], Fork); 5] = [
+        (&["session", "--genesis", ROOT], zero),
+        (&["session", "--genesis", ROOT_IN_CAPITALS], zero),
+        (&["session", GENESIS_IS_ROOT], zero),
+        (&["session", "--genesis", ROOT, "--fork", FORK], last),
+        (&["session", "--fork", FORK, "--genesis", ROOT], last),
+    ];
+    for (words, wanted) in rows {
+        let Ok(Plan::Session { genesis, fork }) = answer(rt.alloc(), words)? else {
+            return Err(Fail::from("no session"));
+        };
+        assert_eq!(rt; genesis, Root([0xab; 32]), "{words:?}");
+        assert_eq!(rt; fork, wanted, "{words:?}");
+    }
+    Ok(())
+}
+
+#[test]
+fn faulty_words_are_usage(rt: HostRuntime) -> Result<(), Fail> {
+    let rows: [(&[&str], &str); 16] = [
+        (&[], "requires a subcommand"),
+        (&["serve"], "unrecognized subcommand 'serve'"),
+        (&["session"], "not provided:\n  --genesis <HEX32>"),
+        (
+            &["session", "--genesis"],
+            "a value is required for '--genesis <HEX32>'",
+        ),
+        (
+            &["session", "--genesis", ROOT_OF_63_DIGITS],
+            "for '--genesis <HEX32>': 0x and 64",
+        ),
+        (
+            &["session", "--genesis", &ROOT[2..]],
+            "for '--genesis <HEX32>': 0x and 64",
+        ),
+        (
+            &["session", "--genesis", ROOT, "--genesis", ROOT],
+            "cannot be used multiple times",
+        ),
+        (
+            &["session", "--genesis", ROOT, "more"],
+            "unexpected argument 'more'",
+        ),
+        (
+            &["session", "--genesis", ROOT, "--watch"],
+            "unexpected argument '--watch'",
+        ),
+        (
+            &["session", GENESIS_IS_ROOT, "--fork"],
+            "a value is required for '--fork",
+        ),
+        (
+            &[
+                "session",
+                GENESIS_IS_ROOT,
+                "--fork",
+                "0x01000000:0x02000000",
+            ],
+            "value '0x01000000:0x02000000' for '--fork",
+        ),
+        (
+            &[
+                "session",
+                GENESIS_IS_ROOT,
+                "--fork",
+                "0x01000000:0x02000000:0:0",
+            ],
+            "for '--fork <PREVIOUS:CURRENT:EPOCH>': two versions",
+        ),
+        (
+            &[
+                "session",
+                GENESIS_IS_ROOT,
+                "--fork",
+                "0x01000000:0x020000:0",
+            ],
+            "for '--fork",
+        ),
+        (
+            &[
+                "session",
+                GENESIS_IS_ROOT,
+                "--fork",
+                "0x01000000:0x02000000:000000000000000000001",
+            ],
+            "for '--fork",
+        ),
+        (
+            &[
+                "session",
+                GENESIS_IS_ROOT,
+                "--fork",
+                "0x01000000:0x02000000:18446744073709551616",
+            ],
+            "for '--fork",
+        ),
+        (&["help", "serve"], "unrecognized subcommand 'serve'"),
+    ];
+    for (words, wanted) in rows {
+        let Err(usage) = answer(rt.alloc(), words)? else {
+            return Err(Fail::from("no usage error"));
+        };
+        let text = usage.as_str();
+        assert!(rt;
+            text.starts_with("error: ") && text.contains(wanted),
+            "{words:?}: {text}"
+        );
+        assert!(rt;
+            text.ends_with("\n\nFor more information, try '--help'.\n"),
+            "{text}"
+        );
+    }
+    let nothing: [String; 0] = [];
+    assert!(rt; plan(rt.alloc(), &nothing)?.is_err());
+    Ok(())
+}
+
+const SCREEN: &str = "Ethereum validator client that never signs two messages that get a key slashed
+
+Usage: validator <COMMAND>
+
+Commands:
+  session  Answers signing requests, one JSON object a line, from standard input
+  help     Shows this help, or that of a command
+
+Options:
+  -h, --help     Print help
+  -V, --version  Print version
+
+Options of session:
+      --genesis <HEX32>
+          Genesis validators root of the chain: 0x and 64 hex digits [required]
+      --fork <PREVIOUS:CURRENT:EPOCH>
+          Fork of the signing domains: two versions, each 0x and 8 hex digits, and the epoch from
+          which the second holds, in decimal [default: 0x00000000:0x00000000:0]
+
+A session reads requests from standard input, one JSON object a line, and writes the answer to each
+to standard output, until the input ends. What it signed it remembers for the length of the run.
+Hex digits may be of either case.
+";
+
+const SESSION_SCREEN: &str = "Answers signing requests, one JSON object a line, from standard input
+
+Usage: validator session [OPTIONS] --genesis <HEX32>
+
+Options:
+      --genesis <HEX32>                Genesis validators root of the chain: 0x and 64 hex digits
+      --fork <PREVIOUS:CURRENT:EPOCH>  Fork of the signing domains: two versions, each 0x and 8
+                                       hex digits, and the epoch from which the second holds,
+                                       in decimal [default: 0x00000000:0x00000000:0]
+  -h, --help                           Print help
+";
+
+#[test]
+fn help_and_version_are_shown(rt: HostRuntime) -> Result<(), Fail> {
+    let rows: [(&[&str], &str); 7] = [
+        (&["--help"], SCREEN),
+        (&["-h"], SCREEN),
+        (&["help"], SCREEN),
+        (&["session", "--help"], SESSION_SCREEN),
+        (&["help", "session"], SESSION_SCREEN),
+        (&["--version"], "validator 0.1.0\n"),
+        (&["-V", "serve"], "validator 0.1.0\n"),
+    ];
+    for (words, wanted) in rows {
+        let Ok(Plan::Shown(text)) = answer(rt.alloc(), words)? else {
+            return Err(Fail::from("nothing shown"));
+        };
+        assert!(rt; text.as_str() == wanted, "{words:?}: {text:?}");
+    }
+    Ok(())
+}

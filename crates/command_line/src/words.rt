@@ -1,0 +1,112 @@
+//! The words of a command line as a plan.
+ghost use Rattle.std.specs.Prelude.{◌≡◌, ◌≢◌, IfOk, map, option_map, string_bytes, if◌then◌else◌};
+ghost use Rattle.clap.specs.Words.{found_of, kind_of, rows_of, subcommand_rows_of};
+ghost use Rattle.clap.specs.declared.error.kind.ErrorKind.TheVariants.{OutOfMemory};
+ghost use Rattle.command_line.specs.Plans.{asked_at, asked_in, asked_of, help_on, is_display, nothing, session_in, shown, taken_as};
+
+use crate::command::{help, program, session};
+use crate::fault::{Fault, refused};
+use crate::options::{fork_of, genesis_of, text_of};
+use crate::planned::{Plan, ShownText, Usage};
+use clap::error::ErrorKind;
+use clap::{ArgMatches, Command, Error};
+use std::alloc::{AllocError, Global};
+
+/// What the words ask the program to do, the first of which is the program's name:
+///
+/// - `session` with `--genesis`, `0x` and 64 hex digits, and maybe `--fork`, two versions and an epoch
+///   joined by `:`, each version `0x` and 8 hex digits, the epoch 1 to 20 decimal digits below 2^64;
+///   `0x00000000:0x00000000:0` where it is absent. Hex digits are of either case.
+/// - `--help` anywhere before a fault, `help`, `help` with a command's name, and `--version`: a text.
+///
+/// The words are read as `clap` reads them. The inner error comes exactly where they are none of these;
+/// the outer one is want of memory, and nothing stands after it.
+pub fn plan(alloc: Global, words: &[String]) -> Result<Result<Plan, Usage>, AllocError>
+    ensures { IfOk result (λ answer. taken_as answer ≡ asked_of (map string_bytes words.now)) }
+{
+    let program = program(alloc)?;
+    match program.try_get_matches_from(words) {
+        Ok(matches) => planned(alloc, &matches),
+        Err(error) => told(alloc, &error),
+    }
+}
+
+/// The answer where `clap` takes no matches from the words: what it says of them.
+fn told(alloc: Global, error: &Error) -> Result<Result<Plan, Usage>, AllocError>
+    ensures { IfOk result (λ answer. (kind_of error.now ≢ OutOfMemory)
+        × (taken_as answer ≡ (if is_display (kind_of error.now) then shown else nothing))) }
+{
+    match error.kind() {
+        ErrorKind::OutOfMemory => Err(AllocError),
+        ErrorKind::DisplayHelp | ErrorKind::DisplayVersion => {
+            let text = format!(in alloc; "{error}")?;
+            Ok(Ok(Plan::Shown(ShownText::new(text))))
+        }
+        _ => {
+            let text = format!(in alloc; "{error}")?;
+            Ok(Err(Usage::new(text)))
+        }
+    }
+}
+
+/// The answer where `clap` takes the words.
+fn planned(alloc: Global, matches: &ArgMatches<'_>) -> Result<Result<Plan, Usage>, AllocError>
+    ensures { IfOk result (λ answer. taken_as answer ≡ asked_at (subcommand_rows_of matches.now)) }
+{
+    match matches.subcommand() {
+        Some((name, options)) => command_plan(alloc, name, options),
+        None => refused(alloc, Fault::NoCommand),
+    }
+}
+
+/// The answer to a command with its options.
+fn command_plan(
+    alloc: Global,
+    name: &str,
+    options: &ArgMatches<'_>,
+) -> Result<Result<Plan, Usage>, AllocError>
+    ensures { IfOk result (λ answer. taken_as answer ≡ asked_in name.now (rows_of (found_of options.now))) }
+{
+    if name == "session" {
+        return session_plan(alloc, options);
+    }
+    if name == "help" {
+        return help_plan(alloc, text_of(options, "command"));
+    }
+    refused(alloc, Fault::Command(name))
+}
+
+/// The answer to `session`.
+fn session_plan(alloc: Global, options: &ArgMatches<'_>) -> Result<Result<Plan, Usage>, AllocError>
+    ensures { IfOk result (λ answer. taken_as answer ≡ session_in (rows_of (found_of options.now))) }
+{
+    let Some(genesis) = genesis_of(options) else {
+        let text = text_of(options, "genesis").unwrap_or("");
+        return refused(alloc, Fault::Genesis(text));
+    };
+    let Some(fork) = fork_of(options) else {
+        let text = text_of(options, "fork").unwrap_or("");
+        return refused(alloc, Fault::Fork(text));
+    };
+    Ok(Ok(Plan::Session { genesis, fork }))
+}
+
+/// The answer to `help`, on a command or on the program.
+fn help_plan(alloc: Global, command: Option<&str>) -> Result<Result<Plan, Usage>, AllocError>
+    ensures { IfOk result (λ answer. taken_as answer ≡ help_on (option_map (λ s. s.now) command.entry)) }
+{
+    match command {
+        None => shown_help(program(alloc)?),
+        Some("session") => shown_help(session(alloc)?.bin_name("validator session")?),
+        Some("help") => shown_help(help(alloc)?.bin_name("validator help")?),
+        Some(other) => refused(alloc, Fault::Command(other)),
+    }
+}
+
+/// The help of a command.
+fn shown_help(mut command: Command<'_>) -> Result<Result<Plan, Usage>, AllocError>
+    ensures { IfOk result (λ answer. taken_as answer ≡ shown) }
+{
+    let text = command.render_help()?;
+    Ok(Ok(Plan::Shown(ShownText::new(text))))
+}
