@@ -1,2 +1,1 @@
-pub mod PlanLemmas
 pub mod CauseLemmas

@@ -1,19 +1,20 @@
 //! The top call, and a session.
-ghost use Rattle.std.specs.Prelude.{◌≡◌, ◌≢◌, ◌⊎◌, [], map, string_bytes, None, IsSome};
+ghost use Rattle.std.specs.Prelude.{◌≡◌, ◌≢◌, ◌⊎◌, [], map, string_bytes, Ok};
 ghost use Rattle.edge_kit.specs.Causes.{Rose};
 ghost use Rattle.session_run.specs.Runs.{WithinLimits};
-ghost use Rattle.validator_cli.specs.Plans.{plan_of};
-ghost use Rattle.validator_cli.specs.Endings.{EndsAs, Outside};
+ghost use Rattle.command_line.specs.Plans.{asked_of, taken_as, nothing};
+ghost use Rattle.validator_cli.specs.Endings.{EndsAs, IsSession, Outside, Refuses, RunEnds};
 
-use crate::command::{plan, usage_line};
 use crate::ending::Ending;
 use crate::node::Node;
-use crate::planned::Plan;
+use crate::usage::usage_line;
 use check_sign::{Desk, Events};
+use command_line::{Plan, Usage, plan};
 use edge_kit::{Clock, Disk, Disks, Door, Sink, Source};
 use session_run::{Status, close, serve_lines};
+use sign_roots::Domains;
 use signer_link::Signer;
-use std::alloc::Global;
+use std::alloc::{AllocError, Global};
 use std::sync::Wait;
 use std::thread::Threads;
 
@@ -40,15 +41,16 @@ pub fn run_validator<
     input: &mut I,
     out: &mut O,
 ) -> Ending<D, S, N, R>
-    ensures ending { EndsAs (plan_of (map string_bytes words.now))
+    ensures ending { RunEnds (asked_of (map string_bytes words.now))
         (record { left = I.left input.old; held = O.held out.old; told = S.told signer; reads_failed = I.faults input.old; writes_failed = O.faults out.old; signs_failed = S.faults signer })
         (record { left = I.left input.new; held = O.held out.new; told = S.told result.signer; reads_failed = I.faults input.new; writes_failed = O.faults out.new; signs_failed = S.faults result.signer })
         result.events result.status }
-    ensures usage { result.status ≡ Status.Usage → plan_of (map string_bytes words.now) ≡ None }
-    ensures no_command { plan_of (map string_bytes words.now) ≡ None → (result.status ≡ Status.Usage) ⊎ (result.status ≡ Status.WriteFault) }
+    ensures usage { result.status ≡ Status.Usage → asked_of (map string_bytes words.now) ≡ nothing }
+    ensures no_command { asked_of (map string_bytes words.now) ≡ nothing
+        → (result.status ≡ Status.Usage) ⊎ (result.status ≡ Status.WriteFault) ⊎ (result.status ≡ Status.OutOfMemory) }
     ensures read_fault { result.status ≡ Status.ReadFault → Rose (I.faults input.old) (I.faults input.new) }
     ensures write_fault { result.status ≡ Status.WriteFault → Rose (O.faults out.old) (O.faults out.new) }
-    ensures complete { IsSome (plan_of (map string_bytes words.now)) → WithinLimits (I.left input.old)
+    ensures complete { asked_of (map string_bytes words.now) ≢ nothing → WithinLimits (I.left input.old)
         → ¬ (Rose (I.faults input.old) (I.faults input.new)) → ¬ (Rose (O.faults out.old) (O.faults out.new))
         → (result.status ≡ Status.Done) ⊎ (result.status ≡ Status.OutOfMemory) }
     ensures disks { result.disks ≡ disks }
@@ -77,18 +79,55 @@ fn run_words<D: Disk, S: Signer, I: Source, O: Sink>(
     input: &mut I,
     out: &mut O,
 ) -> (Status, Disks<D>, S, Events)
-    ensures ending { EndsAs (plan_of (map string_bytes words.now))
+    ensures ending { RunEnds (asked_of (map string_bytes words.now))
         (record { left = I.left input.old; held = O.held out.old; told = S.told signer; reads_failed = I.faults input.old; writes_failed = O.faults out.old; signs_failed = S.faults signer })
         (record { left = I.left input.new; held = O.held out.new; told = S.told result.2; reads_failed = I.faults input.new; writes_failed = O.faults out.new; signs_failed = S.faults result.2 })
         result.3 result.0 }
     ensures disks { result.1 ≡ disks }
 {
-    match plan(words) {
-        Ok(plan) => run_session(alloc, &plan, disks, signer, input, out),
-        Err(_) => {
-            let status = close(out, Status::Usage, usage_line());
+    let Ok(planned) = plan(alloc, words) else {
+        return (Status::OutOfMemory, disks, signer, Events::new(alloc));
+    };
+    match planned {
+        Ok(plan) => run_plan(alloc, &plan, disks, signer, input, out),
+        Err(usage) => {
+            let status = refuse(alloc, &usage, out);
             (status, disks, signer, Events::new(alloc))
         }
+    }
+}
+
+/// Does what is planned.
+fn run_plan<D: Disk, S: Signer, I: Source, O: Sink>(
+    alloc: Global,
+    plan: &Plan,
+    disks: Disks<D>,
+    signer: S,
+    input: &mut I,
+    out: &mut O,
+) -> (Status, Disks<D>, S, Events)
+    ensures ending { EndsAs (taken_as (Ok plan.now))
+        (record { left = I.left input.old; held = O.held out.old; told = S.told signer; reads_failed = I.faults input.old; writes_failed = O.faults out.old; signs_failed = S.faults signer })
+        (record { left = I.left input.new; held = O.held out.new; told = S.told result.2; reads_failed = I.faults input.new; writes_failed = O.faults out.new; signs_failed = S.faults result.2 })
+        result.3 result.0 }
+    ensures disks { result.1 ≡ disks }
+{
+    match plan {
+        Plan::Session { .. } => run_session(alloc, plan, disks, signer, input, out),
+        Plan::Shown(text) => {
+            let status = close(out, Status::Done, text.as_str());
+            (status, disks, signer, Events::new(alloc))
+        }
+    }
+}
+
+/// Closes the output where the words are no command.
+fn refuse<O: Sink>(alloc: Global, usage: &Usage, out: &mut O) -> Status
+    ensures { Refuses (O.held out.old) (O.held out.new) (O.faults out.old) (O.faults out.new) result }
+{
+    match usage_line(alloc, usage) {
+        Ok(text) => close(out, Status::Usage, text.as_str()),
+        Err(AllocError) => Status::OutOfMemory,
     }
 }
 
@@ -102,15 +141,19 @@ pub fn run_session<D: Disk, S: Signer, I: Source, O: Sink>(
     input: &mut I,
     out: &mut O,
 ) -> (Status, Disks<D>, S, Events)
-    ensures ending { EndsAs (Some plan.now)
+    requires { IsSession plan.now }
+    ensures ending { EndsAs (taken_as (Ok plan.now))
         (record { left = I.left input.old; held = O.held out.old; told = S.told signer; reads_failed = I.faults input.old; writes_failed = O.faults out.old; signs_failed = S.faults signer })
         (record { left = I.left input.new; held = O.held out.new; told = S.told result.2; reads_failed = I.faults input.new; writes_failed = O.faults out.new; signs_failed = S.faults result.2 })
         result.3 result.0 }
     ensures disks { result.1 ≡ disks }
 {
-    let Plan::Session { genesis } = *plan;
+    let Plan::Session { genesis, fork } = plan else {
+        return (Status::Usage, disks, signer, Events::new(alloc));
+    };
+    let domains = Domains::new(*fork, *genesis);
     let mut signer = signer;
-    let mut desk = Desk::new(alloc);
-    let status = serve_lines(alloc, genesis, &mut desk, &mut signer, input, out);
+    let mut desk = Desk::new(alloc, *genesis);
+    let status = serve_lines(alloc, &domains, &mut desk, &mut signer, input, out);
     (status, disks, signer, desk.end())
 }
