@@ -1,7 +1,7 @@
-use Rattle.std.proofs.Common.{◌≡◌, ◌+◌, ◌*◌, ◌<◌, ◌≤◌, ◌∙◌, sym, ap, length, length-drop, drop, get_or, arith, count_by, []}
+use Rattle.std.proofs.Common.{◌+◌, ◌∙◌, ap, length-drop, get_or, arith, count_by, []}
 use Rattle.std.proofs.lemmas.List.{take_rest}
 use Rattle.slash_defs.specs.declared.message.Message.TheVariants.{Block}
-use Rattle.slash_defs.specs.Lists.{unsafe_pairs, is_unsafe}
+use Rattle.slash_defs.specs.Lists.{is_unsafe}
 use Rattle.slash_defs.proofs.PairLemmas.{pairs_more, pairs_end, safe_from_none, none_from_safe}
 use Rattle.slash_defs.proofs.lists.conflict_pairs.Goals as goal
 

@@ -1,4 +1,4 @@
-use Rattle.std.proofs.Common.{◌≡◌, ◌∷◌, length, sym, ap, ◌∙◌, arith}
+use Rattle.std.proofs.Common.{◌≡◌, length, arith}
 use Rattle.ssz_roots.specs.PackingLaws.{merkle_root-one}
 use Rattle.phase0_types.specs.Roots.{root_of}
 use Rattle.phase0_types.specs.Containers.{beacon_block, beacon_block_header}
