@@ -16,7 +16,6 @@ use Rattle.std.proofs.lemmas.List.Sums.{fold_push}
 use Rattle.std.proofs.lemmas.List.Elements.{All-head, All-tail, All-weaker}
 use Rattle.std.proofs.lemmas.Map.Made.{IsDistinct-from_AllPairs}
 use Rattle.edge_kit.specs.declared.bytes.PubKey.{PubKey}
-use Rattle.slash_defs.specs.declared.book.Book.{Book}
 use Rattle.slash_defs.specs.declared.entry.BlockEntry.{BlockEntry}
 use Rattle.slash_defs.specs.declared.entry.VoteEntry.{VoteEntry}
 use Rattle.protect_record.specs.Floors.{IsDeadBlock, IsDeadVote}
@@ -38,8 +37,8 @@ use Rattle.record_join.proofs.FreshLemmas.{prepared_more, prepared_wider, ready_
 pub same_keys : (a b : PubKey) → Decides (eq_by_cmp key_cmp a b) (a ≡ b)
 same_keys a b = (same_key a b, λ e. subst (λ (k : PubKey). eq_by_cmp key_cmp a k ≡ true) e (at_itself a))
 
-pub distinct_once : (books : List (PubKey × Book)) → EachOnce books → IsDistinct (eq_by_cmp key_cmp) (keys_of books)
-distinct_once books once = IsDistinct-from_AllPairs same_keys (keys_of books) once
+pub distinct_once : {X : Type 0} (listed : List (PubKey × X)) → EachOnce listed → IsDistinct (eq_by_cmp key_cmp) (keys_of listed)
+distinct_once listed once = IsDistinct-from_AllPairs same_keys (keys_of listed) once
 
 next_at : {X : Type 0} (xs : List X) (i : ℕ) (x : X) → i < length xs → x ≡ get_or xs i x → take (i + 1) xs ≡ take i xs ++ x ∷ []
 next_at xs i x lt is = take_more xs i x lt ∙ ap (λ y. take i xs ++ y ∷ []) (sym is)

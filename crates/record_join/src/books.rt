@@ -18,6 +18,7 @@ use protect_record::Record;
 use slash_defs::{File, Message};
 use std::alloc::{AllocError, Global};
 use std::collections::BTreeMap;
+use std::collections::btree_map::Iter;
 use std::marker::Model;
 
 /// Keys in order, each once.
@@ -83,6 +84,13 @@ impl Books {
     {
         let keys = self.kept.keys().copied().collect(alloc)?;
         Ok(Items::from_vec(keys))
+    }
+
+    /// Each key with its record, in key order. Takes no memory.
+    pub fn iter(&self) -> Iter<'_, PubKey, Record>
+        ensures { result ≡ self.now }
+    {
+        self.kept.iter()
     }
 
     /// Begins to keep a key that is not kept, with no past. A key that is kept stays as it is.
