@@ -10,10 +10,10 @@ use Rattle.std.proofs.lemmas.Map.Keys.{IsDistinct-head, IsDistinct-tail}
 use Rattle.edge_kit.specs.declared.bytes.PubKey.{PubKey}
 use Rattle.slash_defs.specs.declared.message.Message.{Message}
 use Rattle.slash_defs.specs.Slashing.{Slashable}
-use Rattle.protect_record.specs.Pasts.{Past, no_past, then_past}
+use Rattle.protect_record.specs.Pasts.{Past, then_past}
 use Rattle.protect_record.specs.Passing.{Passes, BookRefuses}
 use Rattle.protect_record.specs.PastLaws.{passes-then_past_first, passes-then_past_second}
-use Rattle.record_join.specs.Keys.{key_cmp, kept_of, with_key}
+use Rattle.record_join.specs.Keys.{key_cmp, kept_of}
 use Rattle.record_join.specs.BooksPasts.{EachOnce, PassesAt, gain, gained, joined, known_past}
 use Rattle.record_join.proofs.OrderLemmas.{same_key, apart_back, kept_here, kept_apart}
 use Rattle.record_join.proofs.FileLemmas.{distinct_once}
@@ -36,7 +36,7 @@ gained_list {X} f pasts (one ∷ more) key distinct = at (is_at (key_cmp key) on
       let same : key ≡ one.0 = same_key key one.0 e in
       let later : kept_of more key ≡ None = ap (λ k. kept_of more k) same ∙ none_listed one.0 more (IsDistinct-head (eq_by_cmp key_cmp) one.0 (keys_of more) distinct) in
       let here : kept_of (gain f pasts one) key ≡ Some (f (known_past (kept_of pasts key)) one.1) =
-          ap (λ k. kept_of (gain f pasts one) k) same ∙ kept_here pasts one.0 (f (known_past (kept_of pasts one.0)) one.1) ∙ ap (λ k. Some (f (known_past (kept_of pasts k)) one.1)) (sym same)
+      ap (λ k. kept_of (gain f pasts one) k) same ∙ kept_here pasts one.0 (f (known_past (kept_of pasts one.0)) one.1) ∙ ap (λ k. Some (f (known_past (kept_of pasts k)) one.1)) (sym same)
       in
       rest ∙ ap (λ o. gained f (kept_of (gain f pasts one) key) o) later ∙ here
   at false e rest = rest ∙ ap (λ o. gained f o (kept_of more key)) (kept_apart pasts one.0 key (f (known_past (kept_of pasts one.0)) one.1) (apart_back key one.0 e))

@@ -9,9 +9,9 @@ ghost use Rattle.record_join.specs.BooksPasts.{BooksStand, TakesIn, Prunes, IsBe
 
 use crate::fault::{BeginFault, MergeFault};
 use crate::joining::{join_records, prepare_records};
+use crate::keep::{prune_at, take_in};
 use crate::limit::{KEY_LIMIT, new_books, new_records, over_limit};
 use crate::merging::{merge_books, prepare_books};
-use crate::keep::{prune_at, take_in};
 use crate::taken::{Pruned, Taken};
 use edge_kit::{Items, PubKey};
 use protect_record::Record;
