@@ -12,7 +12,7 @@ use Rattle.protect_record.specs.Exporting.{prune_book}
 use Rattle.protect_record.specs.declared.verdict.Verdict.{Verdict}
 use Rattle.protect_record.specs.declared.verdict.Verdict.TheVariants as verdict
 use Rattle.record_join.specs.Keys.{kept_of, with_key, with_kept, EachKey}
-use Rattle.record_join.specs.Taking.{Judged, Grew, Takes, Shrank, Shrinks}
+use Rattle.record_join.specs.Taking.{Judged, Takes, Shrinks}
 use Rattle.record_join.specs.BooksPasts.{BooksStand, IsRefusal, TakesIn, Prunes, own_grown, own_grown_from}
 use Rattle.record_join.specs.Preparing.{IsRoomier}
 use Rattle.record_join.specs.declared.taken.Taken.{Taken}

@@ -1,5 +1,5 @@
 -- What is listed is taken in, one after another.
-use Rattle.std.proofs.Common.{◌≡◌, ℕ, zero, suc, ◌+◌, ◌<◌, ◌≤◌, ◌⊎◌, inl, inr, true, false, Bool, cond, List, [], ◌∷◌, ◌++◌, length, take, drop, get_or, fold, None, Some, Option, refl, sym, ◌∙◌, ap, subst, arith, All, Contains}
+use Rattle.std.proofs.Common.{◌≡◌, ℕ, zero, suc, ◌+◌, ◌<◌, ◌≤◌, inl, inr, true, false, Bool, cond, List, [], ◌∷◌, ◌++◌, length, take, drop, get_or, fold, None, Some, Option, refl, sym, ◌∙◌, ap, subst, arith, All, Contains}
 use Rattle.std.specs.Prelude.{IsSome, IsSomeAnd, is_some}
 use Rattle.std.specs.Ordering.{eq_by_cmp, match_ordering, ordering_reverse, is_eq}
 use Rattle.std.specs.declared.cmp.Ordering.{Ordering}
@@ -16,7 +16,6 @@ use Rattle.std.proofs.lemmas.List.Sums.{fold_push}
 use Rattle.std.proofs.lemmas.List.Elements.{All-head, All-tail, All-weaker}
 use Rattle.std.proofs.lemmas.Map.Made.{IsDistinct-from_AllPairs}
 use Rattle.edge_kit.specs.declared.bytes.PubKey.{PubKey}
-use Rattle.slash_defs.specs.declared.book.Book.{Book}
 use Rattle.slash_defs.specs.declared.entry.BlockEntry.{BlockEntry}
 use Rattle.slash_defs.specs.declared.entry.VoteEntry.{VoteEntry}
 use Rattle.protect_record.specs.Floors.{IsDeadBlock, IsDeadVote}
@@ -38,8 +37,8 @@ use Rattle.record_join.proofs.FreshLemmas.{prepared_more, prepared_wider, ready_
 pub same_keys : (a b : PubKey) → Decides (eq_by_cmp key_cmp a b) (a ≡ b)
 same_keys a b = (same_key a b, λ e. subst (λ (k : PubKey). eq_by_cmp key_cmp a k ≡ true) e (at_itself a))
 
-pub distinct_once : (books : List (PubKey × Book)) → EachOnce books → IsDistinct (eq_by_cmp key_cmp) (keys_of books)
-distinct_once books once = IsDistinct-from_AllPairs same_keys (keys_of books) once
+pub distinct_once : {X : Type 0} (listed : List (PubKey × X)) → EachOnce listed → IsDistinct (eq_by_cmp key_cmp) (keys_of listed)
+distinct_once listed once = IsDistinct-from_AllPairs same_keys (keys_of listed) once
 
 next_at : {X : Type 0} (xs : List X) (i : ℕ) (x : X) → i < length xs → x ≡ get_or xs i x → take (i + 1) xs ≡ take i xs ++ x ∷ []
 next_at xs i x lt is = take_more xs i x lt ∙ ap (λ y. take i xs ++ y ∷ []) (sym is)
@@ -86,7 +85,7 @@ gains_at f old new pasts key x parts after sorted is_kept is stands each =
     let S : List PubKey → Type 0 = λ ks. IsStrictlySortedBy key_cmp ks in
     let there : IsSome (kept_of pasts key) = ap is_some found.1 in
     let put : gain f pasts (key, x) ≡ with_kept pasts key (f past x) =
-        ap (λ o. with_key pasts key (f (known_past o) x)) found.1 ∙ put_kept pasts key (f past x) (subst S (each_keys Stands old pasts each) sorted) there
+    ap (λ o. with_key pasts key (f (known_past o) x)) found.1 ∙ put_kept pasts key (f past x) (subst S (each_keys Stands old pasts each) sorted) there
     in
     let E : List (PubKey × Parts) → Type 0 = λ l. EachKey Stands l (gain f pasts (key, x)) in
     let F : List (PubKey × Past) → Type 0 = λ l. EachKey Stands (with_kept old key after) l in
@@ -204,15 +203,15 @@ one_unseen {X} f (one ∷ more) pasts key none found = at (is_at (key_cmp key) o
       let known : kept_of (with_key pasts key no_past) one.0 ≡ Some no_past = ap (λ k. kept_of (with_key pasts key no_past) k) same ∙ kept_here pasts key no_past in
       let absent : kept_of pasts one.0 ≡ None = ap (λ k. kept_of pasts k) same ∙ none in
       let both : gain f (with_key pasts key no_past) one ≡ gain f pasts one =
-          ap (λ o. with_key (with_key pasts key no_past) one.0 (f (known_past o) one.1)) known ∙ ap (λ k. with_key (with_key pasts k no_past) one.0 (f no_past one.1)) (sym same)
-          ∙ put_twice pasts one.0 no_past (f no_past one.1) ∙ ap (λ o. with_key pasts one.0 (f (known_past o) one.1)) (sym absent)
+      ap (λ o. with_key (with_key pasts key no_past) one.0 (f (known_past o) one.1)) known ∙ ap (λ k. with_key (with_key pasts k no_past) one.0 (f no_past one.1)) (sym same)
+      ∙ put_twice pasts one.0 no_past (f no_past one.1) ∙ ap (λ o. with_key pasts one.0 (f (known_past o) one.1)) (sym absent)
       in
       ap (λ l. fold (gain f) l more) both
   at false e h rest =
       let known : kept_of (with_key pasts key no_past) one.0 ≡ kept_of pasts one.0 = kept_apart pasts key one.0 no_past e in
       let after = f (known_past (kept_of pasts one.0)) one.1 in
       let both : gain f (with_key pasts key no_past) one ≡ with_key (gain f pasts one) key no_past =
-          ap (λ o. with_key (with_key pasts key no_past) one.0 (f (known_past o) one.1)) known ∙ put_either pasts key one.0 no_past after e
+      ap (λ o. with_key (with_key pasts key no_past) one.0 (f (known_past o) one.1)) known ∙ put_either pasts key one.0 no_past after e
       in
       let still : kept_of (gain f pasts one) key ≡ None = kept_apart pasts one.0 key after (apart_back key one.0 e) ∙ none in
       ap (λ l. fold (gain f) l more) both ∙ rest still h

@@ -1,7 +1,6 @@
 -- Keys that become known with empty records, and are taken out again.
 use Rattle.std.proofs.Common.{◌≡◌, ℕ, ◌+◌, ◌⊎◌, inl, inr, true, false, Bool, cond, List, [], ◌∷◌, ◌++◌, length, None, Some, Option, refl, sym, ◌∙◌, ap, subst, arith, All}
 use Rattle.std.specs.Prelude.{IsSome, IsSomeAnd, is_some, not}
-use Rattle.std.specs.Option.{option_to_list}
 use Rattle.std.specs.BTreeMap.{is_at}
 use Rattle.std.specs.Map.{remove_entry}
 use Rattle.std.specs.List.{AllByRecursion as ByRecursion}
@@ -9,9 +8,9 @@ use Rattle.std.proofs.lemmas.List.Sums.{fold_push, sum_by_push}
 use Rattle.std.proofs.lemmas.List.Elements.{All-push, All-pop, All-weaker, All-nil, All-from_recursion, recursion_from_All}
 use Rattle.edge_kit.specs.declared.bytes.PubKey.{PubKey}
 use Rattle.protect_record.specs.Parts.{Parts, SameParts}
-use Rattle.record_join.specs.Keys.{key_cmp, kept_of, with_key, with_kept, EachKey}
-use Rattle.record_join.specs.BooksPasts.{KeepsOthers, new_keys}
-use Rattle.record_join.specs.Preparing.{no_parts, with_each, AreFresh, HasRoomFor, HaveRoomFor, ArePrepared, IsReady, Knows, IsRoomier, MakesRoom}
+use Rattle.record_join.specs.Keys.{key_cmp, kept_of, with_key, EachKey}
+use Rattle.record_join.specs.BooksPasts.{new_keys}
+use Rattle.record_join.specs.Preparing.{no_parts, with_each, AreFresh, HasRoomFor, ArePrepared, IsReady, Knows, IsRoomier, MakesRoom}
 use Rattle.record_join.proofs.KeyLemmas.{each_flip, each_none, each_new, each_removed, each_self}
 use Rattle.record_join.proofs.OrderLemmas.{kept_here, kept_apart, at_itself, apart_back, taken_out, changed, length_new, none_in_both, some_in_first, some_in_second, apart_from_first}
 use Rattle.record_join.proofs.BooksLemmas.{roomier_same, same_itself}
@@ -87,7 +86,7 @@ makes_room old mid new key fresh more knows roomier = record {
 -- some of the fresh keys are taken out, and these are left
 pub record IsOnTheWay (start_keys : List PubKey) (start : List (PubKey × Parts)) (keys : List PubKey) (now : List (PubKey × Parts)) : Type 0 where
   pub same : (before : List (PubKey × Parts)) → AreFresh no_parts before start_keys → EachKey SameParts (with_each no_parts before start_keys) start
-    → AreFresh no_parts before keys × EachKey SameParts (with_each no_parts before keys) now
+      → AreFresh no_parts before keys × EachKey SameParts (with_each no_parts before keys) now
   pub others : (key : PubKey) → All (λ other. is_at (key_cmp other) key ≡ false) start_keys → All (λ other. is_at (key_cmp other) key ≡ false) keys × (kept_of now key ≡ kept_of start key)
 
 pub way_on : (start_keys : List PubKey) (start : List (PubKey × Parts)) (old keys : List PubKey) (now new : List (PubKey × Parts)) (key : PubKey) → IsOnTheWay start_keys start old now → old ≡ keys ++ key ∷ []

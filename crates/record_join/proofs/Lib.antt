@@ -3,3 +3,4 @@ pub mod OrderLemmas
 pub mod BooksLemmas
 pub mod FreshLemmas
 pub mod FileLemmas
+pub mod LawLemmas

@@ -60,8 +60,17 @@ abbrev pub new_keys : {X Y : Type 0} → List (PubKey × X) → List (PubKey × 
 new_keys kept listed = count_by (λ one. not (is_some (kept_of kept one.0))) listed
 
 -- no key is listed twice
-abbrev pub EachOnce : List (PubKey × Book) → Type 0
-EachOnce books = AllPairs (λ a b. a ≢ b) (keys_of books)
+abbrev pub EachOnce : {X : Type 0} → List (PubKey × X) → Type 0
+EachOnce listed = AllPairs (λ a b. a ≢ b) (keys_of listed)
+
+-- what is kept of a key after something was listed for it, if anything was
+abbrev pub gained : {X : Type 0} → (Past → X → Past) → Option Past → Option X → Option Past
+gained gains past None = past
+gained gains past (Some x) = Some (gains (known_past past) x)
+
+-- the key is kept, and its past lets the message pass
+abbrev pub PassesAt : List (PubKey × Past) → PubKey → Message → Type 0
+PassesAt pasts key m = IsSomeAnd (kept_of pasts key) (λ past. Passes past m)
 
 -- a key that is not listed has what it had
 abbrev pub KeepsOthers : {X : Type 0} → List (PubKey × X) → List (PubKey × Parts) → List (PubKey × Parts) → Type 0

@@ -67,5 +67,5 @@ pub record IsRoomier (old new : List (PubKey × Parts)) (key : PubKey) : Type 0 
 pub record MakesRoom (old new : List (PubKey × Parts)) (key : PubKey) (fresh more : List PubKey) : Type 0 where
   pub noted : (more ≡ fresh) ⊎ (more ≡ fresh ++ key ∷ [])
   pub same : (before : List (PubKey × Parts)) → AreFresh no_parts before fresh → EachKey SameParts (with_each no_parts before fresh) old
-    → AreFresh no_parts before more × EachKey SameParts (with_each no_parts before more) new
+      → AreFresh no_parts before more × EachKey SameParts (with_each no_parts before more) new
   pub others : (other : PubKey) → is_at (key_cmp key) other ≡ false → kept_of new other ≡ kept_of old other

@@ -9,15 +9,16 @@ ghost use Rattle.record_join.specs.BooksPasts.{BooksStand, TakesIn, Prunes, IsBe
 
 use crate::fault::{BeginFault, MergeFault};
 use crate::joining::{join_records, prepare_records};
+use crate::keep::{prune_at, take_in};
 use crate::limit::{KEY_LIMIT, new_books, new_records, over_limit};
 use crate::merging::{merge_books, prepare_books};
-use crate::keep::{prune_at, take_in};
 use crate::taken::{Pruned, Taken};
 use edge_kit::{Items, PubKey};
 use protect_record::Record;
 use slash_defs::{File, Message};
 use std::alloc::{AllocError, Global};
 use std::collections::BTreeMap;
+use std::collections::btree_map::Iter;
 use std::marker::Model;
 
 /// Keys in order, each once.
@@ -83,6 +84,13 @@ impl Books {
     {
         let keys = self.kept.keys().copied().collect(alloc)?;
         Ok(Items::from_vec(keys))
+    }
+
+    /// Each key with its record, in key order. Takes no memory.
+    pub fn iter(&self) -> Iter<'_, PubKey, Record>
+        ensures { result ≡ self.now }
+    {
+        self.kept.iter()
     }
 
     /// Begins to keep a key that is not kept, with no past. A key that is kept stays as it is.

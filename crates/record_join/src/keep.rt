@@ -36,10 +36,7 @@ pub fn take_in(
 }
 
 /// Prunes the record of a key.
-pub fn prune_at(
-    kept: &mut BTreeMap<PubKey, Record>,
-    key: &PubKey,
-) -> Result<Pruned, AllocError>
+pub fn prune_at(kept: &mut BTreeMap<PubKey, Record>, key: &PubKey) -> Result<Pruned, AllocError>
     ensures shrinks { IfOk result (Shrinks kept.old.entries kept.new.entries key.now) }
     ensures err { OnErr result (IsRoomier kept.old.entries kept.new.entries key.now) }
 {

@@ -1,4 +1,4 @@
-use Rattle.std.proofs.Common.{length, take}
+use Rattle.std.proofs.Common.{length}
 use Rattle.record_join.proofs.FileLemmas.{JoinsOn}
 use Rattle.record_join.proofs.joining.join_records.Given as goal
 

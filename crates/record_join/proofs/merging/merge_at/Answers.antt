@@ -1,6 +1,5 @@
-use Rattle.std.proofs.Common.{◌≡◌, Some, rules}
+use Rattle.std.proofs.Common.{rules}
 use Rattle.protect_record.specs.Pasts.{with_book}
-use Rattle.record_join.specs.Keys.{kept_of, with_kept}
 use Rattle.record_join.proofs.FileLemmas.{gains_at}
 use Rattle.record_join.proofs.merging.merge_at.Goals as goal
 

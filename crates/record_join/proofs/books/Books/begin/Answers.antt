@@ -1,7 +1,3 @@
-use Rattle.std.proofs.Common.{◌≡◌, List, None, Option, sym, ap, ◌∙◌}
-use Rattle.edge_kit.specs.declared.bytes.PubKey.{PubKey}
-use Rattle.protect_record.specs.Parts.{Parts}
-use Rattle.record_join.specs.Keys.{kept_of}
 use Rattle.record_join.proofs.BooksLemmas.{begins, kept_not_none, none_not_kept}
 use Rattle.record_join.proofs.books.Books.begin.Goals as goal
 

@@ -1,5 +1,4 @@
 use Rattle.std.proofs.lemmas.Result.{IfOk-weaker, IfErr-weaker}
-use Rattle.std.proofs.Common.{rules}
 use Rattle.record_join.proofs.BooksLemmas.{prunes, roomier, roomier_stands}
 use Rattle.record_join.proofs.books.Books.prune.Goals as goal
 
