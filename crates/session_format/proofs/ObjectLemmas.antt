@@ -1,5 +1,5 @@
 -- The objects of a line as values of their shapes.
-use Rattle.std.proofs.Common.{◌≡◌, Result, Ok, Err, Some, refl, sym, ap, ◌∙◌}
+use Rattle.std.proofs.Common.{◌≡◌, Result, Ok, Some, refl, sym, ap, ◌∙◌}
 use Rattle.edge_kit.specs.declared.bytes.PubKey.{PubKey}
 use Rattle.phase0_types.specs.Values.{ValueOf}
 use Rattle.phase0_types.specs.Containers.{checkpoint, attestation_data, beacon_block_header}

@@ -1,5 +1,5 @@
 //! Lines and their requests, and answers and their lines.
-use crate::{Answer, Cause, Member, Op, Request, read_request};
+use crate::{Answer, Cause, Member, Op, read_request};
 use edge_kit::{Items, PubKey, Root, Sig};
 use interchange_io::{ReadFault, VersionText};
 use protect_record::Verdict;
@@ -105,18 +105,14 @@ fn op_words(alloc: Global, op: &Op) -> Result<String, AllocError> {
 
 /// The request that a line is, in words, or the member that it is refused for.
 fn outcome(alloc: Global, line: &[u8]) -> Result<String, AllocError> {
-    match read_request(alloc, &domains(), line)? {
-        Ok(Request { op, epoch: None }) => op_words(alloc, &op),
-        Ok(
-            Request {
-                op,
-                epoch: Some(epoch),
-            },
-        ) => {
-            let op = op_words(alloc, &op)?;
-            format!(in alloc; "{} at {}", op.as_str(), epoch)
-        }
-        Err(member) => format!(in alloc; "no {}", member.name()),
+    let request = match read_request(alloc, &domains(), line)? {
+        Ok(request) => request,
+        Err(member) => return format!(in alloc; "no {}", member.name()),
+    };
+    let op = op_words(alloc, &request.op)?;
+    match request.epoch {
+        None => Ok(op),
+        Some(epoch) => format!(in alloc; "{} at {}", op.as_str(), epoch),
     }
 }
 

@@ -1,4 +1,4 @@
-use Rattle.std.proofs.Common.{◌≡◌, ◌++◌, ◌∙◌, sym, ap, subst, [], codes, fold, map, string_bytes, IsUtf8}
+use Rattle.std.proofs.Common.{◌≡◌, ◌++◌, ◌∙◌, ap, subst, [], codes, fold, map, string_bytes}
 use Rattle.std.specs.List.{AllByRecursion}
 use Rattle.std.proofs.lemmas.Str.{IsUtf8-string_bytes}
 use Rattle.serde_json.specs.Data.{array}

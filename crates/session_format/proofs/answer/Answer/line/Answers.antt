@@ -1,4 +1,4 @@
-use Rattle.std.proofs.Common.{◌≡◌, ◌∙◌, ap, ◌++◌, [], ◌∷◌, string_bytes, lit<}
+use Rattle.std.proofs.Common.{◌∙◌, ap, ◌++◌, [], ◌∷◌, string_bytes, lit<}
 use Rattle.serde_json.specs.Written.{has_float, compact_text}
 use Rattle.session_format.specs.Answers.{answer_text}
 use Rattle.session_format.proofs.AnswerLemmas.{no_float}
