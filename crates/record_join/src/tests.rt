@@ -63,7 +63,7 @@ fn the_limit_counts_new_keys_alone(rt: HostRuntime) -> Result<(), Fail> {
     };
     assert_eq!(rt; books.begin(OTHER), Err(too_many));
     books.begin(key(3))?;
-    let refused = books.merge_file(&file(alloc, OTHER, 7)?);
+    let refused = books.merge_file(&file(alloc, OTHER, 7)?, true);
     let too_many = MergeFault::TooManyKeys {
         have: 65_536,
         new: 1,
@@ -71,7 +71,7 @@ fn the_limit_counts_new_keys_alone(rt: HostRuntime) -> Result<(), Fail> {
     assert_eq!(rt; refused, Err(too_many));
     assert!(rt; books.get(&OTHER).is_none());
     assert_eq!(rt; books.len(), KEY_LIMIT);
-    books.merge_file(&file(alloc, key(3), 7)?)?;
+    books.merge_file(&file(alloc, key(3), 7)?, true)?;
     assert_eq!(rt; books.keys(alloc)?.len(), KEY_LIMIT);
     Ok(())
 }
@@ -81,7 +81,7 @@ fn a_file_of_one_key_leaves_another_as_it_was(rt: HostRuntime) -> Result<(), Fai
     let alloc = rt.alloc();
     let mut books = Books::new(alloc);
     books.begin(key(1))?;
-    books.merge_file(&file(alloc, key(2), 20)?)?;
+    books.merge_file(&file(alloc, key(2), 20)?, true)?;
     let rows = [
         (1, 10, true, Taken::Added),
         (1, 10, true, Taken::Added),
@@ -113,7 +113,7 @@ fn a_file_of_one_key_leaves_another_as_it_was(rt: HostRuntime) -> Result<(), Fai
 /// Records of two keys: of the first a book, of the second an own block.
 fn two_keys(alloc: Global, imported: u16, own: u16, slot: u64) -> Result<Books, Fail> {
     let mut books = Books::new(alloc);
-    books.merge_file(&file(alloc, key(imported), slot)?)?;
+    books.merge_file(&file(alloc, key(imported), slot)?, true)?;
     books.begin(key(own))?;
     let message = Message::Block { slot, root: RA };
     if books.take_in(&key(own), &message, true) != Taken::Added {
