@@ -1,12 +1,12 @@
 //! Records that are joined to the records of their keys.
-ghost use Rattle.std.specs.Prelude.{◌≡◌, ◌≤◌, [], List, false, IsSomeAnd, OnOk, OnErr, length};
+ghost use Rattle.std.specs.Prelude.{◌≡◌, [], List, false, IsSomeAnd, OnOk, OnErr, length};
 ghost use Rattle.std.specs.BTreeMap.{is_at};
 ghost use Rattle.edge_kit.specs.declared.bytes.PubKey.{PubKey};
 ghost use Rattle.protect_record.specs.Parts.{SameParts};
 ghost use Rattle.protect_record.specs.Pasts.{Past, then_past};
 ghost use Rattle.protect_record.specs.Standing.{Stands};
 ghost use Rattle.record_join.specs.Keys.{key_cmp, kept_of, EachKey};
-ghost use Rattle.record_join.specs.BooksPasts.{BooksStand, KeepsOthers, gain, joined, new_keys};
+ghost use Rattle.record_join.specs.BooksPasts.{BooksStand, KeepsOthers, gain, joined};
 ghost use Rattle.record_join.specs.Preparing.{ArePrepared, HasRoomFor, HaveRoomFor, IsReady, parts_size};
 
 use crate::room::{make_room, take_out};

@@ -1,11 +1,11 @@
 //! Books that are merged into the records of their keys.
-ghost use Rattle.std.specs.Prelude.{◌≡◌, ◌≤◌, [], List, false, IsSomeAnd, OnOk, OnErr, length};
+ghost use Rattle.std.specs.Prelude.{◌≡◌, [], List, false, IsSomeAnd, OnOk, OnErr, length};
 ghost use Rattle.std.specs.BTreeMap.{is_at};
 ghost use Rattle.edge_kit.specs.declared.bytes.PubKey.{PubKey};
 ghost use Rattle.protect_record.specs.Parts.{SameParts};
 ghost use Rattle.protect_record.specs.Pasts.{Past};
 ghost use Rattle.record_join.specs.Keys.{key_cmp, kept_of, EachKey};
-ghost use Rattle.record_join.specs.BooksPasts.{BooksStand, EachOnce, KeepsOthers, new_keys, with_file, with_file_book};
+ghost use Rattle.record_join.specs.BooksPasts.{BooksStand, EachOnce, KeepsOthers, with_file, with_file_book};
 ghost use Rattle.record_join.specs.Preparing.{ArePrepared, HasRoomFor, HaveRoomFor, IsReady, book_size};
 
 use crate::room::{make_room, take_out};
