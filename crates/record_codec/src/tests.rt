@@ -2,6 +2,7 @@ use super::*;
 use edge_kit::{PubKey, Root};
 use slash_defs::{BlockEntry, VoteEntry};
 use std::alloc::{AllocError, Global};
+use std::process::Abort;
 use std::test::Fail;
 
 const KEY: PubKey = PubKey([0x11; 48]);
@@ -60,6 +61,25 @@ fn a_block_without_a_root_has_58_bytes(rt: HostRuntime) -> Result<(), Fail> {
     Ok(())
 }
 
+/// The bytes of a tag, the key and these parts are read as the item, and written from it.
+fn spells(
+    rt: &impl Abort,
+    alloc: Global,
+    tag: u8,
+    parts: &[&[u8]],
+    item: JournalItem,
+) -> Result<(), Fail> {
+    let mut bytes = joined(alloc, &[&[tag], &KEY.0])?;
+    bytes.extend_from_slice(&joined(alloc, parts)?)?;
+    assert_eq!(rt; check_batch(&bytes), Ok(()), "tag {tag}");
+    let Ok(items) = decode(alloc, &bytes)? else {
+        return Err(Fail::from("not read"));
+    };
+    assert_eq!(rt; items.as_slice(), [item].as_slice());
+    assert_eq!(rt; encode(alloc, &items)?, bytes);
+    Ok(())
+}
+
 #[test]
 fn each_item_has_one_spelling(rt: HostRuntime) -> Result<(), Fail> {
     let table: [(u8, [&[u8]; 4], JournalItem); 7] = [
@@ -76,14 +96,7 @@ fn each_item_has_one_spelling(rt: HostRuntime) -> Result<(), Fail> {
         (5, [&[], &[], &[], &[]], JournalItem::Close { key: KEY }),
     ];
     for (tag, parts, item) in table {
-        let mut bytes = joined(rt.alloc(), &[&[tag], &KEY.0])?;
-        bytes.extend_from_slice(&joined(rt.alloc(), &parts)?)?;
-        assert_eq!(rt; check_batch(&bytes), Ok(()), "tag {tag}");
-        let Ok(items) = decode(rt.alloc(), &bytes)? else {
-            return Err(Fail::from("not read"));
-        };
-        assert_eq!(rt; items.as_slice(), [item].as_slice());
-        assert_eq!(rt; encode(rt.alloc(), &items)?, bytes);
+        spells(&rt, rt.alloc(), tag, &parts, item)?;
     }
     Ok(())
 }
