@@ -158,7 +158,7 @@ pruned_key old new keys key parts book each is value prunes =
     let at = some_at old keys key parts each is in
     let past = at.0 in
     let gained = of_some (kept_of old key) parts (λ p. BooksStand new (with_kept keys key (with_book past (prune_book p)))) is
-        (of_some (kept_of keys key) past (λ x. IsSomeAnd (kept_of old key) (λ p. BooksStand new (with_kept keys key (with_book x (prune_book p))))) at.1 prunes) in
+    (of_some (kept_of keys key) past (λ x. IsSomeAnd (kept_of old key) (λ p. BooksStand new (with_kept keys key (with_book x (prune_book p))))) at.1 prunes) in
     let B : Book → Type 0 = λ b. BooksStand new (with_kept keys key (with_book past b)) in
     let O : Option Past → Type 0 = λ o. BooksStand new (book_gained keys key book o) in (
       some_is (kept_of keys key) past (λ x. IsPruning x book) at.1 (record { parts = parts; stands = at.2; value = value }),

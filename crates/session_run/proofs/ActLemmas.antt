@@ -180,7 +180,7 @@ turned_did domains moment q before now text d =
         machine = λ state stands.
             let P : List PubKey → Type 0 = λ ks. ByMachine before now state (call_of ks q.op m) d.reply d.signing in
             subst P (same_keys Stands before.desk.keys state.keys stands.keys)
-                (by_machine request (call_of (keys_of before.desk.keys) q.op m) before now d.reply d.signing d.acts d.answered state stands);
+            (by_machine request (call_of (keys_of before.desk.keys) q.op m) before now d.reply d.signing d.acts d.answered state stands);
         asked = telling.0;
         later = telling.1;
         unfaulted = telling.2;

@@ -72,7 +72,7 @@ ran_none domains moment pair = record {
 asks_then : (domains : Domains) (ts us : List Turn) → AskAsWritten domains ts → AskAsWritten domains us → AskAsWritten domains (ts ++ us)
 asks_then domains ts us p q =
     map-append (λ (t : Turn). t.request) ts us ∙ ap (λ l. l ++ map (λ (t : Turn). t.request) us) p ∙ ap (λ l. map (λ (t : Turn). request_of domains t.line) ts ++ l) q
-        ∙ sym (map-append (λ (t : Turn). request_of domains t.line) ts us)
+    ∙ sym (map-append (λ (t : Turn). request_of domains t.line) ts us)
 
 pub ran_then : {domains : Domains} {moment : ℕ} {ts us : List Turn} {a b c : Pair} → Ran domains moment ts a b → Ran domains (moment_after moment ts) us b c → Ran domains moment (ts ++ us) a c
 ran_then {domains} {moment} {ts} {us} {a} {b} {c} p q = record {

@@ -360,7 +360,7 @@ turn_step place (Err m) r s ts before can safe covered = nothing_more place ts b
 turn_step place (Ok q) r s ts before can safe covered =
     let P : List (PubKey × Message) → Type 0 = λ l. Outcomes (place_of place (Ok q) r s) ts (before ++ l) in
     subst P (sent_same _ q.op (moment_at place.moment q) r s)
-        (by_option place (moment_at place.moment q) (call_at place q) r s ts before (CoveredOnceActive (place_of place (Ok q) r s) ts) can safe covered (carried place (Ok q) r s ts before covered))
+    (by_option place (moment_at place.moment q) (call_at place q) r s ts before (CoveredOnceActive (place_of place (Ok q) r s) ts) can safe covered (carried place (Ok q) r s ts before covered))
 
 -- whatever the turns, nothing slashable is sent
 pub safe_run : (place : Place) (ts : List Turn) → CanRun place ts → StaysSafe place ts
