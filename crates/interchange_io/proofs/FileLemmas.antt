@@ -1,5 +1,5 @@
 -- A file that was read lists each key once.
-use Rattle.std.proofs.Common.{◌≡◌, ℕ, Bool, true, false, cond, List, Option, Some, None, Result, Ok, Err, refl, subst, length, nat_lt}
+use Rattle.std.proofs.Common.{◌≡◌, ℕ, Bool, true, false, cond, List, Option, Some, None, Result, Ok, Err, subst, length, nat_lt}
 use Rattle.std.specs.Prelude.{AllPairs, ◌≢◌}
 use Rattle.std.specs.Str.{is_utf8}
 use Rattle.std.specs.Map.{keys_of}

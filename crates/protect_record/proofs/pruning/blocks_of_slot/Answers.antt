@@ -1,4 +1,4 @@
-use Rattle.std.proofs.Common.{ℕ, ◌+◌, ◌≡◌, ◌==◌, ◌++◌, ◌∷◌, [], List, Bool, filter, drop, get_or, refl, append_assoc, sym, ap, ◌∙◌}
+use Rattle.std.proofs.Common.{◌+◌, ◌==◌, ◌++◌, ◌∷◌, [], Bool, filter, drop, get_or, append_assoc, sym, ap, ◌∙◌}
 use Rattle.std.proofs.lemmas.List.{append-nil, at_drop_more, at_drop_all}
 use Rattle.std.proofs.lemmas.List.Elements.{filter-append}
 use Rattle.slash_defs.specs.declared.entry.BlockEntry.{BlockEntry}
