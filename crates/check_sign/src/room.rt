@@ -1,5 +1,5 @@
 //! Room that is made before the desk changes, and spent without refusal.
-ghost use Rattle.std.specs.Prelude.{◌≡◌, ◌+◌, ◌<◌, ◌≤◌, ◌⊎◌, ◌↔◌, ◌++◌, ◌∷◌, [], ℕ, Some, IsSome, IsTrue, vec_len, vec_capacity, length, remove, IfSome, IfNone, Contains};
+ghost use Rattle.std.specs.Prelude.{◌≡◌, ◌+◌, ◌<◌, ◌≤◌, ◌⊎◌, ◌↔◌, ◌++◌, ◌∷◌, [], ℕ, false, Some, IsSome, IsTrue, vec_len, vec_capacity, length, remove, IfSome, IfNone, Contains};
 ghost use Rattle.record_join.specs.Keys.{kept_of};
 ghost use Rattle.record_join.specs.BooksPasts.{key_limit};
 ghost use Rattle.check_sign.specs.Machine.{without, noted_merge};
@@ -13,13 +13,14 @@ use record_join::{Books, KEY_LIMIT};
 use slash_defs::{File, Message};
 
 /// Makes room for one more grant: for its event, for the event of its settling, and for itself. Whether
-/// there is room.
+/// there is room; it fails only where there was too little.
 pub fn make_room(events: &mut Vec<DeskEvent>, grants: &mut Vec<OpenGrant>) -> bool
     ensures events { events.new.items ≡ events.old.items }
     ensures events_len { vec_len events.new ≡ vec_len events.old }
     ensures kept { grants.new.items ≡ grants.old.items }
     ensures kept_len { vec_len grants.new ≡ vec_len grants.old }
     ensures no_less { vec_capacity events.old ≤ vec_capacity events.new }
+    ensures refused { result ≡ false → (vec_capacity events.old < vec_len events.old + vec_len grants.old + 2) ⊎ (vec_capacity grants.old < vec_len grants.old + 1) }
     ensures room { IsTrue result → (vec_len events.new + vec_len grants.new + 2 ≤ vec_capacity events.new) × (vec_len grants.new < vec_capacity grants.new) }
 {
     let Some(wanted) = grants.len().checked_add(2) else {

@@ -20,4 +20,4 @@ returns c = λ pasts stand.
     let P : List (PubKey × Book) → Type 0 = λ l. Exports pasts c.args.keys.now l in
     let K : List PubKey → Type 0 = λ l. AreExports c.args.books.now l c.keys.found.entries in
     let all = subst K (take_all c.keys.key-index c.args.keys.now c.keys-test.false) c.keys.invariant.0 in
-    subst P (sym list) (record { each = at_pasts c.args.books.now pasts c.args.keys.now c.keys.found.entries stand all; once = once c.keys.found.entries c.keys.invariant.1 })
+    subst P (sym list) (record { each = at_pasts c.args.books.now pasts c.args.keys.now c.keys.found.entries stand all; once = once c.keys.found.entries c.keys.invariant.1; ordered = c.keys.invariant.1 })
