@@ -124,7 +124,7 @@ complete a before now events s (inr none) some within reads writes = inr none.is
 -- words that are no command
 pub refused : (left : Option (List ℕ)) (h1 h2 : Option (List ℕ)) (told : Option (List (SignCall × SignReply))) (reads f1 f2 signs : ℕ) (s : Status) → Refuses h1 h2 f1 f2 s
     → RunEnds nothing (record { left = left; held = h1; told = told; reads_failed = reads; writes_failed = f1; signs_failed = signs }) (record { left = left; held = h2; told = told; reads_failed = reads; writes_failed = f2; signs_failed = signs }) [] s
-refused left h1 h2 told reads f1 f2 signs s (inl c) = inl (record { unread = refl; unasked = refl; none = refl; text = c.0; is_own = c.1; closes = c.2 })
+refused left h1 h2 told reads f1 f2 signs s (inl c) = inl (record { untouched = record { unread = refl; no_read_failed = refl; unasked = refl; no_sign_failed = refl; none = refl }; text = c.0; is_own = c.1; closes = c.2 })
 refused left h1 h2 told reads f1 f2 signs s (inr c) = inr (record {
   same = ap (λ (p : Option (List ℕ) × ℕ). record { left = left; held = p.0; told = told; reads_failed = reads; writes_failed = p.1; signs_failed = signs }) (λ i. (c.1 i, c.2 i));
   none = refl;

@@ -38,11 +38,17 @@ pub record SessionEnds (domains : Domains) (before now : Outside) (events : List
       ended
   pub within : WithinLimits before.left → (l : Limit) → ended ≢ status.InputTooLong l
 
+-- nothing was read, asked or done
+pub record IsUntouched (before now : Outside) (events : List DeskEvent) : Type 0 where
+  pub unread : now.left ≡ before.left
+  pub no_read_failed : now.reads_failed ≡ before.reads_failed
+  pub unasked : now.told ≡ before.told
+  pub no_sign_failed : now.signs_failed ≡ before.signs_failed
+  pub none : events ≡ []
+
 -- a text was asked for: nothing is read, asked or done, and the text is written
 pub record TextShown (before now : Outside) (events : List DeskEvent) (ended : Status) : Type 0 where
-  pub unread : now.left ≡ before.left
-  pub unasked : now.told ≡ before.told
-  pub none : events ≡ []
+  pub untouched : IsUntouched before now events
   pub text : List ℕ
   pub closes : Closes status.Done text before.held now.held before.writes_failed now.writes_failed ended
 
@@ -53,9 +59,7 @@ pub record IsOwnLine (text : List ℕ) : Type 0 where
 
 -- no command: nothing is read, asked or done, and the output is closed by a line that says why
 pub record NoCommand (before now : Outside) (events : List DeskEvent) (ended : Status) : Type 0 where
-  pub unread : now.left ≡ before.left
-  pub unasked : now.told ≡ before.told
-  pub none : events ≡ []
+  pub untouched : IsUntouched before now events
   pub text : List ℕ
   pub is_own : IsOwnLine text
   pub closes : Closes status.Usage text before.held now.held before.writes_failed now.writes_failed ended
