@@ -1,15 +1,11 @@
 -- The exports that were found, key by key.
-use Rattle.std.proofs.Common.{◌≡◌, ◌≢◌, ℕ, Bool, true, false, cond, ◌||◌, List, [], ◌∷◌, ◌++◌, Option, Some, None, refl, sym, ◌∙◌, ap, subst, take, drop, length, get_or, arith}
-use Rattle.std.specs.Prelude.{is_some, option_map, AllPairs, IsSomeAnd}
+use Rattle.std.proofs.Common.{◌≡◌, Bool, true, false, ◌||◌, List, [], ◌∷◌, ◌++◌, Option, Some, None, refl, sym, ◌∙◌, ap, subst}
+use Rattle.std.specs.Prelude.{is_some, option_map}
 use Rattle.std.specs.Ordering.{eq_by_cmp}
 use Rattle.std.specs.BTreeMap.{is_at}
-use Rattle.std.specs.List.{list_any}
 use Rattle.std.specs.Map.{keys_of}
 use Rattle.std.specs.List.Sorted.{IsStrictlySortedBy}
-use Rattle.std.specs.declared.cmp.Ordering.{Ordering}
-use Rattle.std.specs.declared.cmp.Ordering.TheVariants.{Less, Equal, Greater}
 use Rattle.std.proofs.lemmas.List.Folds.{list_any-append}
-use Rattle.std.proofs.lemmas.Map.Lookups.{exact_bytes}
 use Rattle.edge_kit.specs.declared.bytes.PubKey.{PubKey}
 use Rattle.slash_defs.specs.declared.book.Book.{Book}
 use Rattle.protect_record.specs.Parts.{Parts}
@@ -18,14 +14,13 @@ use Rattle.protect_record.specs.Standing.{Stands}
 use Rattle.protect_record.specs.Exporting.{export_of}
 use Rattle.record_join.specs.Keys.{key_cmp, kept_of}
 use Rattle.record_join.specs.BooksPasts.{BooksStand, EachOnce}
-use Rattle.std.specs.List.{IsDistinct}
 use Rattle.std.specs.Bool.{Decides}
 use Rattle.std.proofs.lemmas.Map.Keys.{IsDistinct-from_sorted}
 use Rattle.std.proofs.lemmas.Map.Made.{AllPairs-from_IsDistinct}
 use Rattle.record_join.proofs.OrderLemmas.{at_itself, same_key}
 use Rattle.record_join.proofs.KeyLemmas.{each_none, each_found}
 use Rattle.check_sign.specs.States.{is_among}
-use Rattle.check_sign.specs.Handing.{AreExports, ExportsOne, IsExport, export_at}
+use Rattle.check_sign.specs.Handing.{AreExports, ExportsOne, export_at}
 
 or_false : (b : Bool) → (b || false) ≡ b
 or_false true = refl

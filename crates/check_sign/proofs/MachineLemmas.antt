@@ -1,20 +1,17 @@
 -- From a desk that stands for a state to the desk after a call.
-use Rattle.std.proofs.Common.{◌≡◌, ◌≢◌, ℕ, ◌+◌, ◌<◌, ◌≤◌, ◌⊎◌, inl, inr, arith, max, Bool, true, false, cond, ◌||◌, List, [], ◌∷◌, ◌++◌, length, Option, Some, None, refl, sym, ◌∙◌, ap, subst}
+use Rattle.std.proofs.Common.{◌≡◌, ℕ, ◌+◌, ◌<◌, ◌≤◌, ◌⊎◌, inl, inr, arith, max, Bool, true, false, cond, List, [], ◌∷◌, ◌++◌, length, Option, Some, None, refl, sym, ◌∙◌, ap, subst}
 use Rattle.std.specs.Prelude.{IsSome, IsSomeAnd, IsTrue, ◌↔◌, is_some, count_by, not}
 use Rattle.std.specs.Ordering.{match_ordering}
 use Rattle.std.specs.BTreeMap.{is_at}
 use Rattle.std.specs.BTreeSet.{insert_key}
 use Rattle.std.specs.Set.{remove_key}
-use Rattle.std.specs.List.{list_any}
 use Rattle.std.specs.declared.cmp.Ordering.{Ordering}
 use Rattle.std.specs.declared.cmp.Ordering.TheVariants.{Less, Equal, Greater}
 use Rattle.edge_kit.specs.declared.bytes.PubKey.{PubKey}
 use Rattle.edge_kit.specs.declared.bytes.Root.{Root}
-use Rattle.slash_defs.specs.declared.message.Message.{Message}
 use Rattle.slash_defs.specs.declared.book.Book.{Book}
 use Rattle.protect_record.specs.Parts.{Parts}
-use Rattle.protect_record.specs.Pasts.{Past, no_past, with_own, with_book}
-use Rattle.protect_record.specs.Passing.{Passes}
+use Rattle.protect_record.specs.Pasts.{Past, no_past, with_book}
 use Rattle.protect_record.specs.Standing.{Stands}
 use Rattle.protect_record.specs.Exporting.{prune_book}
 use Rattle.record_join.specs.Keys.{key_cmp, kept_of, with_key, with_kept, EachKey}
@@ -23,7 +20,7 @@ use Rattle.record_join.specs.declared.taken.Pruned.TheVariants as pruned
 use Rattle.record_join.proofs.KeyLemmas.{each_found, each_none, each_length, each_absent, each_present}
 use Rattle.record_join.proofs.OrderLemmas.{at_itself}
 use Rattle.check_sign.specs.Contents.{Contents}
-use Rattle.check_sign.specs.States.{State, DeskStands, past_of, is_among, IsActive}
+use Rattle.check_sign.specs.States.{State, DeskStands, is_among}
 use Rattle.check_sign.specs.Handing.{IsPruning}
 use Rattle.check_sign.specs.Machine.{with_known, book_gained}
 use Rattle.check_sign.specs.declared.event.DeskEvent.{DeskEvent}

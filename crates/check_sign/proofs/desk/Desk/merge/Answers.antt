@@ -1,4 +1,4 @@
-use Rattle.std.proofs.Common.{◌≡◌, List, refl, sym, ap, ◌∙◌, subst, rules}
+use Rattle.std.proofs.Common.{◌≡◌, refl, ◌∙◌, subst, rules}
 use Rattle.record_join.specs.BooksPasts.{IsMergeFault}
 use Rattle.record_join.specs.declared.fault.MergeFault.{MergeFault}
 use Rattle.check_sign.proofs.MachineLemmas.{opened, rekept, fits_file, over_file}

@@ -1,4 +1,4 @@
-use Rattle.std.proofs.Common.{◌≡◌, List, Some, None, refl, sym, ap, ◌∙◌, subst, rules, ◌++◌, ◌∷◌, [], Contains}
+use Rattle.std.proofs.Common.{◌≡◌, List, refl, sym, ap, ◌∙◌, subst, rules, ◌++◌, ◌∷◌, [], Contains}
 use Rattle.std.proofs.lemmas.List.Elements.{Contains-push}
 use Rattle.check_sign.specs.States.{is_among}
 use Rattle.check_sign.specs.declared.open_grant.OpenGrant.{OpenGrant}

@@ -1,4 +1,4 @@
-use Rattle.std.proofs.Common.{◌≡◌, List, Some, None, refl, sym, ap, ◌∙◌, subst, rules}
+use Rattle.std.proofs.Common.{refl, subst, rules}
 use Rattle.record_join.specs.BooksPasts.{Prunes}
 use Rattle.record_join.specs.declared.taken.Pruned.{Pruned}
 use Rattle.check_sign.proofs.MachineLemmas.{opened, rekept, none_at, some_at, is_some_of, pruned_key}
