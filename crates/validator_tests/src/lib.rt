@@ -4,8 +4,20 @@
 #[cfg(test)]
 mod adapters;
 #[cfg(test)]
+mod events;
+#[cfg(test)]
+mod faults;
+#[cfg(test)]
+mod files;
+#[cfg(test)]
+mod marks;
+#[cfg(test)]
+mod objects;
+#[cfg(test)]
 mod outside;
 #[cfg(test)]
 mod sessions;
 #[cfg(test)]
-mod tests;
+mod signing;
+#[cfg(test)]
+mod words;

@@ -1,6 +1,8 @@
 //! What stands for the outside in a test.
-use edge_kit::{Clock, Disks, Door, MemDisk, MemSink, MemSource, PubKey};
-use signer_link::MemSigner;
+use check_sign::Events;
+use edge_kit::{Clock, Disks, Door, MemDisk, MemSink, MemSource, PubKey, Sig};
+use signer_link::{MemSigner, SignReply, SignRequest, Signer};
+use slash_defs::Granted;
 use std::alloc::{AllocError, Global};
 use std::sync::Wait;
 use std::thread::Threads;
@@ -20,13 +22,32 @@ impl Node for Unused {
 
 impl Clock for Unused {}
 
-/// Which calls of the input and the output fail, which keys the signer lacks, and the output's room.
+/// Signs everything with the same 96 bytes `77`, and keeps the requests.
+#[derive(Drop)]
+pub struct KeepingSigner {
+    pub requests: Vec<SignRequest>,
+}
+
+impl Signer for KeepingSigner {
+    ghost use Rattle.std.specs.Prelude.{None};
+
+    ghost told = { λ _. None };
+
+    ghost faults = { λ _. 0 };
+
+    fn sign<G: Granted>(&mut self, request: &SignRequest, _grant: &G) -> SignReply {
+        match self.requests.push(*request) {
+            Ok(()) => SignReply::Signed(Sig([0x77; 96])),
+            Err(_) => SignReply::OutOfMemory,
+        }
+    }
+}
+
+/// Which calls of the input and the output fail, and the output's room.
 #[derive(Drop)]
 pub struct Faults {
     pub reads: Vec<u64>,
     pub writes: Vec<u64>,
-    pub signs: Vec<u64>,
-    pub lacking: Vec<PubKey>,
     pub room: usize,
 }
 
@@ -35,20 +56,34 @@ pub fn no_faults(alloc: Global) -> Faults {
     Faults {
         reads: Vec::new(alloc),
         writes: Vec::new(alloc),
-        signs: Vec::new(alloc),
-        lacking: Vec::new(alloc),
         room: 1 << 20,
     }
 }
 
-/// Runs the program's words over an input, and gives the status and the output.
-pub fn run<T: Threads + Wait + Sync>(
+/// A signer that holds every key and never fails.
+pub fn ready_signer(alloc: Global) -> MemSigner {
+    let lacking: Vec<PubKey> = Vec::new(alloc);
+    MemSigner::new(alloc, lacking, Vec::new(alloc))
+}
+
+/// What a run leaves.
+#[derive(Drop)]
+pub struct Ended<S> {
+    pub status: Status,
+    pub output: Vec<u8>,
+    pub signer: S,
+    pub events: Events,
+}
+
+/// Runs the program's words over an input.
+pub fn run<T: Threads + Wait + Sync, S: Signer + Drop>(
     rt: &T,
     alloc: Global,
     words: &[&str],
     input: &[u8],
+    signer: S,
     faults: Faults,
-) -> Result<(Status, Vec<u8>), AllocError> {
+) -> Result<Ended<S>, AllocError> {
     let mut texts: Vec<String> = Vec::new(alloc);
     for word in words {
         texts.push(String::from_str(alloc, word)?)?;
@@ -56,8 +91,6 @@ pub fn run<T: Threads + Wait + Sync>(
     let Faults {
         reads,
         writes,
-        signs,
-        lacking,
         room,
     } = faults;
     let mut source = MemSource::new(Vec::from_slice(alloc, input)?, reads);
@@ -71,12 +104,17 @@ pub fn run<T: Threads + Wait + Sync>(
             first: MemDisk::new(alloc, Vec::new(alloc), Vec::new(alloc), None)?,
             second: MemDisk::new(alloc, Vec::new(alloc), Vec::new(alloc), None)?,
         },
-        MemSigner::new(alloc, lacking, signs),
+        signer,
         nodes,
         Unused,
         Unused,
         &mut source,
         &mut sink,
     );
-    Ok((ending.status, sink.into_bytes()))
+    Ok(Ended {
+        status: ending.status,
+        output: sink.into_bytes(),
+        signer: ending.signer,
+        events: ending.events,
+    })
 }

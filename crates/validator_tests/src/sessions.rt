@@ -1,209 +1,105 @@
-//! Worked sessions, line by line: what is read and what is written.
+//! Sessions without faults: what is read, what is written, and what the desk did.
+use crate::events::words_of;
+use crate::files::FILES;
+use crate::marks::filled;
+use crate::outside::{no_faults, ready_signer, run};
+use crate::signing::SIGNING;
+use std::alloc::{AllocError, Global};
+use std::sync::Wait;
+use std::test::Fail;
+use std::thread::Threads;
+use validator_cli::Status;
 
-/// Each session: what it shows, its input and its output.
-pub const SESSIONS: [(&str, &str, &str); 15] = [
-    (
-        "the same block is signed again with the same signature",
-        r#"{"op":"activate","pubkey":"0x111111111111111111111111111111111111111111111111111111111111111111111111111111111111111111111111"}
-{"op":"block","pubkey":"0x111111111111111111111111111111111111111111111111111111111111111111111111111111111111111111111111","signing_root":"0xaaaaaaaaaaaaaaaaaaaaaaaaaaaaaaaaaaaaaaaaaaaaaaaaaaaaaaaaaaaaaaaa","slot":"1"}
-{"op":"block","pubkey":"0x111111111111111111111111111111111111111111111111111111111111111111111111111111111111111111111111","signing_root":"0xaaaaaaaaaaaaaaaaaaaaaaaaaaaaaaaaaaaaaaaaaaaaaaaaaaaaaaaaaaaaaaaa","slot":"1"}
-"#,
-        r#"{"answer":"active"}
-{"answer":"signed","signature":"0x111111111111111111111111111111111111111111111111111111111111111111111111111111111111111111111111aaaaaaaaaaaaaaaaaaaaaaaaaaaaaaaaaaaaaaaaaaaaaaaaaaaaaaaaaaaaaaaa00000000000000000000000000000000","signing_root":"0xaaaaaaaaaaaaaaaaaaaaaaaaaaaaaaaaaaaaaaaaaaaaaaaaaaaaaaaaaaaaaaaa"}
-{"answer":"signed","signature":"0x111111111111111111111111111111111111111111111111111111111111111111111111111111111111111111111111aaaaaaaaaaaaaaaaaaaaaaaaaaaaaaaaaaaaaaaaaaaaaaaaaaaaaaaaaaaaaaaa00000000000000000000000000000000","signing_root":"0xaaaaaaaaaaaaaaaaaaaaaaaaaaaaaaaaaaaaaaaaaaaaaaaaaaaaaaaaaaaaaaaa"}
-"#,
-    ),
-    (
-        "votes that follow one another are signed",
-        r#"{"op":"activate","pubkey":"0x111111111111111111111111111111111111111111111111111111111111111111111111111111111111111111111111"}
-{"op":"vote","pubkey":"0x111111111111111111111111111111111111111111111111111111111111111111111111111111111111111111111111","signing_root":"0xaaaaaaaaaaaaaaaaaaaaaaaaaaaaaaaaaaaaaaaaaaaaaaaaaaaaaaaaaaaaaaaa","source_epoch":"0","target_epoch":"1"}
-{"op":"vote","pubkey":"0x111111111111111111111111111111111111111111111111111111111111111111111111111111111111111111111111","signing_root":"0xbbbbbbbbbbbbbbbbbbbbbbbbbbbbbbbbbbbbbbbbbbbbbbbbbbbbbbbbbbbbbbbb","source_epoch":"1","target_epoch":"2"}
-"#,
-        r#"{"answer":"active"}
-{"answer":"signed","signature":"0x111111111111111111111111111111111111111111111111111111111111111111111111111111111111111111111111aaaaaaaaaaaaaaaaaaaaaaaaaaaaaaaaaaaaaaaaaaaaaaaaaaaaaaaaaaaaaaaa00000000000000000000000000000000","signing_root":"0xaaaaaaaaaaaaaaaaaaaaaaaaaaaaaaaaaaaaaaaaaaaaaaaaaaaaaaaaaaaaaaaa"}
-{"answer":"signed","signature":"0x111111111111111111111111111111111111111111111111111111111111111111111111111111111111111111111111bbbbbbbbbbbbbbbbbbbbbbbbbbbbbbbbbbbbbbbbbbbbbbbbbbbbbbbbbbbbbbbb00000000000000000000000000000000","signing_root":"0xbbbbbbbbbbbbbbbbbbbbbbbbbbbbbbbbbbbbbbbbbbbbbbbbbbbbbbbbbbbbbbbb"}
-"#,
-    ),
-    (
-        "another block of the slot names the kept one",
-        r#"{"op":"activate","pubkey":"0x111111111111111111111111111111111111111111111111111111111111111111111111111111111111111111111111"}
-{"op":"block","pubkey":"0x111111111111111111111111111111111111111111111111111111111111111111111111111111111111111111111111","signing_root":"0xaaaaaaaaaaaaaaaaaaaaaaaaaaaaaaaaaaaaaaaaaaaaaaaaaaaaaaaaaaaaaaaa","slot":"7"}
-{"op":"block","pubkey":"0x111111111111111111111111111111111111111111111111111111111111111111111111111111111111111111111111","signing_root":"0xbbbbbbbbbbbbbbbbbbbbbbbbbbbbbbbbbbbbbbbbbbbbbbbbbbbbbbbbbbbbbbbb","slot":"7"}
-"#,
-        r#"{"answer":"active"}
-{"answer":"signed","signature":"0x111111111111111111111111111111111111111111111111111111111111111111111111111111111111111111111111aaaaaaaaaaaaaaaaaaaaaaaaaaaaaaaaaaaaaaaaaaaaaaaaaaaaaaaaaaaaaaaa00000000000000000000000000000000","signing_root":"0xaaaaaaaaaaaaaaaaaaaaaaaaaaaaaaaaaaaaaaaaaaaaaaaaaaaaaaaaaaaaaaaa"}
-{"answer":"refused","entry":{"signing_root":"0xaaaaaaaaaaaaaaaaaaaaaaaaaaaaaaaaaaaaaaaaaaaaaaaaaaaaaaaaaaaaaaaa","slot":"7"},"reason":"double_block"}
-"#,
-    ),
-    (
-        "a surround is found in both directions",
-        r#"{"op":"activate","pubkey":"0x111111111111111111111111111111111111111111111111111111111111111111111111111111111111111111111111"}
-{"op":"vote","pubkey":"0x111111111111111111111111111111111111111111111111111111111111111111111111111111111111111111111111","signing_root":"0xaaaaaaaaaaaaaaaaaaaaaaaaaaaaaaaaaaaaaaaaaaaaaaaaaaaaaaaaaaaaaaaa","source_epoch":"3","target_epoch":"8"}
-{"op":"vote","pubkey":"0x111111111111111111111111111111111111111111111111111111111111111111111111111111111111111111111111","signing_root":"0xbbbbbbbbbbbbbbbbbbbbbbbbbbbbbbbbbbbbbbbbbbbbbbbbbbbbbbbbbbbbbbbb","source_epoch":"2","target_epoch":"9"}
-{"op":"vote","pubkey":"0x111111111111111111111111111111111111111111111111111111111111111111111111111111111111111111111111","signing_root":"0xbbbbbbbbbbbbbbbbbbbbbbbbbbbbbbbbbbbbbbbbbbbbbbbbbbbbbbbbbbbbbbbb","source_epoch":"4","target_epoch":"7"}
-"#,
-        r#"{"answer":"active"}
-{"answer":"signed","signature":"0x111111111111111111111111111111111111111111111111111111111111111111111111111111111111111111111111aaaaaaaaaaaaaaaaaaaaaaaaaaaaaaaaaaaaaaaaaaaaaaaaaaaaaaaaaaaaaaaa00000000000000000000000000000000","signing_root":"0xaaaaaaaaaaaaaaaaaaaaaaaaaaaaaaaaaaaaaaaaaaaaaaaaaaaaaaaaaaaaaaaa"}
-{"answer":"refused","entry":{"signing_root":"0xaaaaaaaaaaaaaaaaaaaaaaaaaaaaaaaaaaaaaaaaaaaaaaaaaaaaaaaaaaaaaaaa","source_epoch":"3","target_epoch":"8"},"reason":"surrounds"}
-{"answer":"refused","entry":{"signing_root":"0xaaaaaaaaaaaaaaaaaaaaaaaaaaaaaaaaaaaaaaaaaaaaaaaaaaaaaaaaaaaaaaaa","source_epoch":"3","target_epoch":"8"},"reason":"surrounded"}
-"#,
-    ),
-    (
-        "another vote of the target names the kept one",
-        r#"{"op":"activate","pubkey":"0x111111111111111111111111111111111111111111111111111111111111111111111111111111111111111111111111"}
-{"op":"vote","pubkey":"0x111111111111111111111111111111111111111111111111111111111111111111111111111111111111111111111111","signing_root":"0xaaaaaaaaaaaaaaaaaaaaaaaaaaaaaaaaaaaaaaaaaaaaaaaaaaaaaaaaaaaaaaaa","source_epoch":"3","target_epoch":"8"}
-{"op":"vote","pubkey":"0x111111111111111111111111111111111111111111111111111111111111111111111111111111111111111111111111","signing_root":"0xbbbbbbbbbbbbbbbbbbbbbbbbbbbbbbbbbbbbbbbbbbbbbbbbbbbbbbbbbbbbbbbb","source_epoch":"3","target_epoch":"8"}
-{"op":"vote","pubkey":"0x111111111111111111111111111111111111111111111111111111111111111111111111111111111111111111111111","signing_root":"0xaaaaaaaaaaaaaaaaaaaaaaaaaaaaaaaaaaaaaaaaaaaaaaaaaaaaaaaaaaaaaaaa","source_epoch":"4","target_epoch":"8"}
-"#,
-        r#"{"answer":"active"}
-{"answer":"signed","signature":"0x111111111111111111111111111111111111111111111111111111111111111111111111111111111111111111111111aaaaaaaaaaaaaaaaaaaaaaaaaaaaaaaaaaaaaaaaaaaaaaaaaaaaaaaaaaaaaaaa00000000000000000000000000000000","signing_root":"0xaaaaaaaaaaaaaaaaaaaaaaaaaaaaaaaaaaaaaaaaaaaaaaaaaaaaaaaaaaaaaaaa"}
-{"answer":"refused","entry":{"signing_root":"0xaaaaaaaaaaaaaaaaaaaaaaaaaaaaaaaaaaaaaaaaaaaaaaaaaaaaaaaaaaaaaaaa","source_epoch":"3","target_epoch":"8"},"reason":"double_vote"}
-{"answer":"refused","entry":{"signing_root":"0xaaaaaaaaaaaaaaaaaaaaaaaaaaaaaaaaaaaaaaaaaaaaaaaaaaaaaaaaaaaaaaaa","source_epoch":"3","target_epoch":"8"},"reason":"double_vote"}
-"#,
-    ),
-    (
-        "the first kept entry in file order is named",
-        r#"{"op":"activate","pubkey":"0x111111111111111111111111111111111111111111111111111111111111111111111111111111111111111111111111"}
-{"op":"vote","pubkey":"0x111111111111111111111111111111111111111111111111111111111111111111111111111111111111111111111111","signing_root":"0xbbbbbbbbbbbbbbbbbbbbbbbbbbbbbbbbbbbbbbbbbbbbbbbbbbbbbbbbbbbbbbbb","source_epoch":"5","target_epoch":"6"}
-{"op":"vote","pubkey":"0x111111111111111111111111111111111111111111111111111111111111111111111111111111111111111111111111","signing_root":"0xaaaaaaaaaaaaaaaaaaaaaaaaaaaaaaaaaaaaaaaaaaaaaaaaaaaaaaaaaaaaaaaa","source_epoch":"3","target_epoch":"4"}
-{"op":"vote","pubkey":"0x111111111111111111111111111111111111111111111111111111111111111111111111111111111111111111111111","signing_root":"0xaaaaaaaaaaaaaaaaaaaaaaaaaaaaaaaaaaaaaaaaaaaaaaaaaaaaaaaaaaaaaaaa","source_epoch":"2","target_epoch":"9"}
-"#,
-        r#"{"answer":"active"}
-{"answer":"signed","signature":"0x111111111111111111111111111111111111111111111111111111111111111111111111111111111111111111111111bbbbbbbbbbbbbbbbbbbbbbbbbbbbbbbbbbbbbbbbbbbbbbbbbbbbbbbbbbbbbbbb00000000000000000000000000000000","signing_root":"0xbbbbbbbbbbbbbbbbbbbbbbbbbbbbbbbbbbbbbbbbbbbbbbbbbbbbbbbbbbbbbbbb"}
-{"answer":"signed","signature":"0x111111111111111111111111111111111111111111111111111111111111111111111111111111111111111111111111aaaaaaaaaaaaaaaaaaaaaaaaaaaaaaaaaaaaaaaaaaaaaaaaaaaaaaaaaaaaaaaa00000000000000000000000000000000","signing_root":"0xaaaaaaaaaaaaaaaaaaaaaaaaaaaaaaaaaaaaaaaaaaaaaaaaaaaaaaaaaaaaaaaa"}
-{"answer":"refused","entry":{"signing_root":"0xaaaaaaaaaaaaaaaaaaaaaaaaaaaaaaaaaaaaaaaaaaaaaaaaaaaaaaaaaaaaaaaa","source_epoch":"3","target_epoch":"4"},"reason":"surrounds"}
-"#,
-    ),
-    (
-        "one key does not touch another",
-        r#"{"op":"activate","pubkey":"0x111111111111111111111111111111111111111111111111111111111111111111111111111111111111111111111111"}
-{"op":"activate","pubkey":"0x222222222222222222222222222222222222222222222222222222222222222222222222222222222222222222222222"}
-{"op":"block","pubkey":"0x111111111111111111111111111111111111111111111111111111111111111111111111111111111111111111111111","signing_root":"0xaaaaaaaaaaaaaaaaaaaaaaaaaaaaaaaaaaaaaaaaaaaaaaaaaaaaaaaaaaaaaaaa","slot":"7"}
-{"op":"block","pubkey":"0x222222222222222222222222222222222222222222222222222222222222222222222222222222222222222222222222","signing_root":"0xbbbbbbbbbbbbbbbbbbbbbbbbbbbbbbbbbbbbbbbbbbbbbbbbbbbbbbbbbbbbbbbb","slot":"7"}
-{"op":"activate","pubkey":"0x111111111111111111111111111111111111111111111111111111111111111111111111111111111111111111111111"}
-"#,
-        r#"{"answer":"active"}
-{"answer":"active"}
-{"answer":"signed","signature":"0x111111111111111111111111111111111111111111111111111111111111111111111111111111111111111111111111aaaaaaaaaaaaaaaaaaaaaaaaaaaaaaaaaaaaaaaaaaaaaaaaaaaaaaaaaaaaaaaa00000000000000000000000000000000","signing_root":"0xaaaaaaaaaaaaaaaaaaaaaaaaaaaaaaaaaaaaaaaaaaaaaaaaaaaaaaaaaaaaaaaa"}
-{"answer":"signed","signature":"0x222222222222222222222222222222222222222222222222222222222222222222222222222222222222222222222222bbbbbbbbbbbbbbbbbbbbbbbbbbbbbbbbbbbbbbbbbbbbbbbbbbbbbbbbbbbbbbbb00000000000000000000000000000000","signing_root":"0xbbbbbbbbbbbbbbbbbbbbbbbbbbbbbbbbbbbbbbbbbbbbbbbbbbbbbbbbbbbbbbbb"}
-{"answer":"active"}
-"#,
-    ),
-    (
-        "a key without a past is unknown",
-        r#"{"op":"activate","pubkey":"0x111111111111111111111111111111111111111111111111111111111111111111111111111111111111111111111111"}
-{"op":"block","pubkey":"0x444444444444444444444444444444444444444444444444444444444444444444444444444444444444444444444444","signing_root":"0xaaaaaaaaaaaaaaaaaaaaaaaaaaaaaaaaaaaaaaaaaaaaaaaaaaaaaaaaaaaaaaaa","slot":"7"}
-{"op":"vote","pubkey":"0x444444444444444444444444444444444444444444444444444444444444444444444444444444444444444444444444","signing_root":"0xaaaaaaaaaaaaaaaaaaaaaaaaaaaaaaaaaaaaaaaaaaaaaaaaaaaaaaaaaaaaaaaa","source_epoch":"1","target_epoch":"2"}
-"#,
-        r#"{"answer":"active"}
-{"answer":"refused","reason":"unknown"}
-{"answer":"refused","reason":"unknown"}
-"#,
-    ),
-    ("an empty input has no output", "", ""),
-    (
-        "an empty object lacks its op",
-        r#"{}
-"#,
-        r#"{"answer":"refused","member":"op","reason":"bad_request"}
-"#,
-    ),
-    (
-        "a last line without its newline is a line",
-        r#"{"op":"activate","pubkey":"0x111111111111111111111111111111111111111111111111111111111111111111111111111111111111111111111111"}
-{"op":"block","pubkey":"0x111111111111111111111111111111111111111111111111111111111111111111111111111111111111111111111111","signing_root":"0xaaaaaaaaaaaaaaaaaaaaaaaaaaaaaaaaaaaaaaaaaaaaaaaaaaaaaaaaaaaaaaaa","slot":"1"}"#,
-        r#"{"answer":"active"}
-{"answer":"signed","signature":"0x111111111111111111111111111111111111111111111111111111111111111111111111111111111111111111111111aaaaaaaaaaaaaaaaaaaaaaaaaaaaaaaaaaaaaaaaaaaaaaaaaaaaaaaaaaaaaaaa00000000000000000000000000000000","signing_root":"0xaaaaaaaaaaaaaaaaaaaaaaaaaaaaaaaaaaaaaaaaaaaaaaaaaaaaaaaaaaaaaaaa"}
-"#,
-    ),
-    (
-        "an empty line is no object",
-        r#"
-{"op":"activate","pubkey":"0x111111111111111111111111111111111111111111111111111111111111111111111111111111111111111111111111"}
-"#,
-        r#"{"answer":"refused","member":"line","reason":"bad_request"}
-{"answer":"active"}
-"#,
-    ),
-    (
-        "each bad member is named, and nothing is done",
-        r#"{"op":"activate","pubkey":"0x111111111111111111111111111111111111111111111111111111111111111111111111111111111111111111111111"}
-["op"]
-7
-{"op":"activate"
-{"op":7}
-{"op":"sign"}
-{"op":"merge"}
-{"op":"activate"}
-{"op":"activate","pubkey":null}
-{"op":"activate","pubkey":"111111111111111111111111111111111111111111111111111111111111111111111111111111111111111111111111"}
-{"op":"activate","pubkey":"0x1111111111111111111111111111111111111111111111111111111111111111111111111111111111111111111111"}
-{"op":"activate","pubkey":"0xgggggggggggggggggggggggggggggggggggggggggggggggggggggggggggggggggggggggggggggggggggggggggggggggg"}
-{"op":"block","pubkey":"0x111111111111111111111111111111111111111111111111111111111111111111111111111111111111111111111111","signing_root":"0xaaaaaaaaaaaaaaaaaaaaaaaaaaaaaaaaaaaaaaaaaaaaaaaaaaaaaaaaaaaaaaaa"}
-{"op":"block","pubkey":"0x111111111111111111111111111111111111111111111111111111111111111111111111111111111111111111111111","signing_root":"0xaaaaaaaaaaaaaaaaaaaaaaaaaaaaaaaaaaaaaaaaaaaaaaaaaaaaaaaaaaaaaaaa","slot":7}
-{"op":"block","pubkey":"0x111111111111111111111111111111111111111111111111111111111111111111111111111111111111111111111111","signing_root":"0xaaaaaaaaaaaaaaaaaaaaaaaaaaaaaaaaaaaaaaaaaaaaaaaaaaaaaaaaaaaaaaaa","slot":""}
-{"op":"block","pubkey":"0x111111111111111111111111111111111111111111111111111111111111111111111111111111111111111111111111","signing_root":"0xaaaaaaaaaaaaaaaaaaaaaaaaaaaaaaaaaaaaaaaaaaaaaaaaaaaaaaaaaaaaaaaa","slot":"000000000000000000000"}
-{"op":"block","pubkey":"0x111111111111111111111111111111111111111111111111111111111111111111111111111111111111111111111111","signing_root":"0xaaaaaaaaaaaaaaaaaaaaaaaaaaaaaaaaaaaaaaaaaaaaaaaaaaaaaaaaaaaaaaaa","slot":"18446744073709551616"}
-{"op":"block","pubkey":"0x111111111111111111111111111111111111111111111111111111111111111111111111111111111111111111111111","signing_root":"0xaaaaaaaaaaaaaaaaaaaaaaaaaaaaaaaaaaaaaaaaaaaaaaaaaaaaaaaaaaaaaaaa","slot":"+7"}
-{"op":"block","pubkey":"0x111111111111111111111111111111111111111111111111111111111111111111111111111111111111111111111111","signing_root":"0xaaaaaaaaaaaaaaaaaaaaaaaaaaaaaaaaaaaaaaaaaaaaaaaaaaaaaaaaaaaaaa","slot":"7"}
-{"op":"vote","pubkey":"0x111111111111111111111111111111111111111111111111111111111111111111111111111111111111111111111111","source_epoch":"x","target_epoch":"y"}
-{"op":"vote","pubkey":"0x111111111111111111111111111111111111111111111111111111111111111111111111111111111111111111111111","signing_root":"0xaaaaaaaaaaaaaaaaaaaaaaaaaaaaaaaaaaaaaaaaaaaaaaaaaaaaaaaaaaaaaaaa","source_epoch":"1","target_epoch":"-2"}
-{"op":"vote","pubkey":"0x111111111111111111111111111111111111111111111111111111111111111111111111111111111111111111111111","source_epoch":"1","target_epoch":"2"}
-{"epoch":null,"op":"vote","pubkey":"0x111111111111111111111111111111111111111111111111111111111111111111111111111111111111111111111111","signing_root":"0xaaaaaaaaaaaaaaaaaaaaaaaaaaaaaaaaaaaaaaaaaaaaaaaaaaaaaaaaaaaaaaaa","source_epoch":"0","target_epoch":"1"}
-{"epoch":5,"op":"vote","pubkey":"0x111111111111111111111111111111111111111111111111111111111111111111111111111111111111111111111111","signing_root":"0xaaaaaaaaaaaaaaaaaaaaaaaaaaaaaaaaaaaaaaaaaaaaaaaaaaaaaaaaaaaaaaaa","source_epoch":"0","target_epoch":"1"}
-{"epoch":"576460752303423488","op":"vote","pubkey":"0x111111111111111111111111111111111111111111111111111111111111111111111111111111111111111111111111","signing_root":"0xaaaaaaaaaaaaaaaaaaaaaaaaaaaaaaaaaaaaaaaaaaaaaaaaaaaaaaaaaaaaaaaa","source_epoch":"0","target_epoch":"1"}
-{"epoch":"x","op":"vote"}
-{"op":"block","pubkey":"0x111111111111111111111111111111111111111111111111111111111111111111111111111111111111111111111111","signing_root":"0xaaaaaaaaaaaaaaaaaaaaaaaaaaaaaaaaaaaaaaaaaaaaaaaaaaaaaaaaaaaaaaaa","slot":"1"}
-"#,
-        r#"{"answer":"active"}
-{"answer":"refused","member":"line","reason":"bad_request"}
-{"answer":"refused","member":"line","reason":"bad_request"}
-{"answer":"refused","member":"line","reason":"bad_request"}
-{"answer":"refused","member":"op","reason":"bad_request"}
-{"answer":"refused","member":"op","reason":"bad_request"}
-{"answer":"refused","member":"op","reason":"bad_request"}
-{"answer":"refused","member":"pubkey","reason":"bad_request"}
-{"answer":"refused","member":"pubkey","reason":"bad_request"}
-{"answer":"refused","member":"pubkey","reason":"bad_request"}
-{"answer":"refused","member":"pubkey","reason":"bad_request"}
-{"answer":"refused","member":"pubkey","reason":"bad_request"}
-{"answer":"refused","member":"slot","reason":"bad_request"}
-{"answer":"refused","member":"slot","reason":"bad_request"}
-{"answer":"refused","member":"slot","reason":"bad_request"}
-{"answer":"refused","member":"slot","reason":"bad_request"}
-{"answer":"refused","member":"slot","reason":"bad_request"}
-{"answer":"refused","member":"slot","reason":"bad_request"}
-{"answer":"refused","member":"signing_root","reason":"bad_request"}
-{"answer":"refused","member":"source_epoch","reason":"bad_request"}
-{"answer":"refused","member":"target_epoch","reason":"bad_request"}
-{"answer":"refused","member":"signing_root","reason":"bad_request"}
-{"answer":"refused","member":"epoch","reason":"bad_request"}
-{"answer":"refused","member":"epoch","reason":"bad_request"}
-{"answer":"refused","member":"epoch","reason":"bad_request"}
-{"answer":"refused","member":"pubkey","reason":"bad_request"}
-{"answer":"signed","signature":"0x111111111111111111111111111111111111111111111111111111111111111111111111111111111111111111111111aaaaaaaaaaaaaaaaaaaaaaaaaaaaaaaaaaaaaaaaaaaaaaaaaaaaaaaaaaaaaaaa00000000000000000000000000000000","signing_root":"0xaaaaaaaaaaaaaaaaaaaaaaaaaaaaaaaaaaaaaaaaaaaaaaaaaaaaaaaaaaaaaaaa"}
-"#,
-    ),
-    (
-        "the greatest numbers and moments are read",
-        r#"{"op":"activate","pubkey":"0x111111111111111111111111111111111111111111111111111111111111111111111111111111111111111111111111"}
-{"op":"block","pubkey":"0x111111111111111111111111111111111111111111111111111111111111111111111111111111111111111111111111","signing_root":"0xaaaaaaaaaaaaaaaaaaaaaaaaaaaaaaaaaaaaaaaaaaaaaaaaaaaaaaaaaaaaaaaa","slot":"18446744073709551615"}
-{"op":"block","pubkey":"0x111111111111111111111111111111111111111111111111111111111111111111111111111111111111111111111111","signing_root":"0xaaaaaaaaaaaaaaaaaaaaaaaaaaaaaaaaaaaaaaaaaaaaaaaaaaaaaaaaaaaaaaaa","slot":"00000000000000000007"}
-{"epoch":"576460752303423487","op":"vote","pubkey":"0x111111111111111111111111111111111111111111111111111111111111111111111111111111111111111111111111","signing_root":"0xaaaaaaaaaaaaaaaaaaaaaaaaaaaaaaaaaaaaaaaaaaaaaaaaaaaaaaaaaaaaaaaa","source_epoch":"0","target_epoch":"1"}
-"#,
-        r#"{"answer":"active"}
-{"answer":"signed","signature":"0x111111111111111111111111111111111111111111111111111111111111111111111111111111111111111111111111aaaaaaaaaaaaaaaaaaaaaaaaaaaaaaaaaaaaaaaaaaaaaaaaaaaaaaaaaaaaaaaa00000000000000000000000000000000","signing_root":"0xaaaaaaaaaaaaaaaaaaaaaaaaaaaaaaaaaaaaaaaaaaaaaaaaaaaaaaaaaaaaaaaa"}
-{"answer":"signed","signature":"0x111111111111111111111111111111111111111111111111111111111111111111111111111111111111111111111111aaaaaaaaaaaaaaaaaaaaaaaaaaaaaaaaaaaaaaaaaaaaaaaaaaaaaaaaaaaaaaaa00000000000000000000000000000000","signing_root":"0xaaaaaaaaaaaaaaaaaaaaaaaaaaaaaaaaaaaaaaaaaaaaaaaaaaaaaaaaaaaaaaaa"}
-{"answer":"signed","signature":"0x111111111111111111111111111111111111111111111111111111111111111111111111111111111111111111111111aaaaaaaaaaaaaaaaaaaaaaaaaaaaaaaaaaaaaaaaaaaaaaaaaaaaaaaaaaaaaaaa00000000000000000000000000000000","signing_root":"0xaaaaaaaaaaaaaaaaaaaaaaaaaaaaaaaaaaaaaaaaaaaaaaaaaaaaaaaaaaaaaaaa"}
-"#,
-    ),
-    (
-        "digits of either case are read, the last of two equal names stands, and unknown members are ignored",
-        r#"{"op":"x","op":"activate","pubkey":"0xCCCCCCCCCCCCCCCCCCCCCCCCCCCCCCCCCCCCCCCCCCCCCCCCCCCCCCCCCCCCCCCCCCCCCCCCCCCCCCCCCCCCCCCCCCCCCCCC","note":[1]}
-{"op":"block","pubkey":"0xcccccccccccccccccccccccccccccccccccccccccccccccccccccccccccccccccccccccccccccccccccccccccccccccc","signing_root":"0xAAAAAAAAAAAAAAAAAAAAAAAAAAAAAAAAAAAAAAAAAAAAAAAAAAAAAAAAAAAAAAAA","slot":"1"}
-"#,
-        r#"{"answer":"active"}
-{"answer":"signed","signature":"0xccccccccccccccccccccccccccccccccccccccccccccccccccccccccccccccccccccccccccccccccccccccccccccccccaaaaaaaaaaaaaaaaaaaaaaaaaaaaaaaaaaaaaaaaaaaaaaaaaaaaaaaaaaaaaaaa00000000000000000000000000000000","signing_root":"0xaaaaaaaaaaaaaaaaaaaaaaaaaaaaaaaaaaaaaaaaaaaaaaaaaaaaaaaaaaaaaaaa"}
-"#,
-    ),
+/// The words of a session for the chain G0.
+pub const WORDS: [&str; 4] = [
+    "validator",
+    "session",
+    "--genesis",
+    "0x0000000000000000000000000000000000000000000000000000000000000000",
 ];
+
+/// A session, by texts with marks.
+#[derive(Clone, Copy)]
+pub struct Session {
+    /// What it shows.
+    pub shows: &'static str,
+    pub input: &'static str,
+    pub output: &'static str,
+    /// The desk's events in words.
+    pub events: &'static str,
+}
+
+/// What a session came to.
+#[derive(Drop)]
+struct Played {
+    status: Status,
+    output: Vec<u8>,
+    events: String,
+}
+
+/// Runs a session over an input with marks.
+fn play<T: Threads + Wait + Sync>(
+    rt: &T,
+    alloc: Global,
+    input: &str,
+) -> Result<Played, AllocError> {
+    let input = filled(alloc, input)?;
+    let ended = run(
+        rt,
+        alloc,
+        &WORDS,
+        input.as_bytes(),
+        ready_signer(alloc),
+        no_faults(alloc),
+    )?;
+    let events = words_of(alloc, ended.events.as_slice())?;
+    Ok(Played {
+        status: ended.status,
+        output: ended.output,
+        events,
+    })
+}
+
+/// Whether bytes are a text with marks.
+fn is_text(alloc: Global, bytes: &[u8], marked: &str) -> Result<bool, AllocError> {
+    let text = filled(alloc, marked)?;
+    Ok(bytes == text.as_bytes())
+}
+
+#[test]
+fn signing_sessions_answer_line_by_line(rt: HostRuntime) -> Result<(), Fail> {
+    let alloc = rt.alloc();
+    for session in SIGNING {
+        let played = play(&rt, alloc, session.input)?;
+        let shows = session.shows;
+        assert_eq!(rt; played.status, Status::Done, "{shows}");
+        assert!(rt;
+            is_text(alloc, played.output.as_slice(), session.output)?,
+            "{shows}"
+        );
+        assert!(rt;
+            is_text(alloc, played.events.as_bytes(), session.events)?,
+            "{shows}"
+        );
+    }
+    Ok(())
+}
+
+#[test]
+fn sessions_with_files_answer_line_by_line(rt: HostRuntime) -> Result<(), Fail> {
+    let alloc = rt.alloc();
+    for session in FILES {
+        let played = play(&rt, alloc, session.input)?;
+        let shows = session.shows;
+        assert_eq!(rt; played.status, Status::Done, "{shows}");
+        assert!(rt;
+            is_text(alloc, played.output.as_slice(), session.output)?,
+            "{shows}"
+        );
+        assert!(rt;
+            is_text(alloc, played.events.as_bytes(), session.events)?,
+            "{shows}"
+        );
+    }
+    Ok(())
+}
