@@ -10,6 +10,8 @@ mod faults;
 #[cfg(test)]
 mod files;
 #[cfg(test)]
+mod many_keys;
+#[cfg(test)]
 mod marks;
 #[cfg(test)]
 mod objects;

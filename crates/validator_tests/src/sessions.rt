@@ -5,6 +5,7 @@ use crate::marks::filled;
 use crate::outside::{no_faults, ready_signer, run};
 use crate::signing::SIGNING;
 use std::alloc::{AllocError, Global};
+use std::process::Abort;
 use std::sync::Wait;
 use std::test::Fail;
 use std::thread::Threads;
@@ -66,12 +67,15 @@ fn is_text(alloc: Global, bytes: &[u8], marked: &str) -> Result<bool, AllocError
     Ok(bytes == text.as_bytes())
 }
 
-#[test]
-fn signing_sessions_answer_line_by_line(rt: HostRuntime) -> Result<(), Fail> {
-    let alloc = rt.alloc();
-    for session in SIGNING {
-        let played = play(&rt, alloc, session.input)?;
+/// Runs each session, and compares what it came to with what it has to come to.
+fn compare<T: Threads + Wait + Sync + Abort>(
+    rt: &T,
+    alloc: Global,
+    sessions: &[Session],
+) -> Result<(), AllocError> {
+    for session in sessions {
         let shows = session.shows;
+        let played = play(rt, alloc, session.input)?;
         assert_eq!(rt; played.status, Status::Done, "{shows}");
         assert!(rt;
             is_text(alloc, played.output.as_slice(), session.output)?,
@@ -86,20 +90,13 @@ fn signing_sessions_answer_line_by_line(rt: HostRuntime) -> Result<(), Fail> {
 }
 
 #[test]
+fn signing_sessions_answer_line_by_line(rt: HostRuntime) -> Result<(), Fail> {
+    compare(&rt, rt.alloc(), &SIGNING)?;
+    Ok(())
+}
+
+#[test]
 fn sessions_with_files_answer_line_by_line(rt: HostRuntime) -> Result<(), Fail> {
-    let alloc = rt.alloc();
-    for session in FILES {
-        let played = play(&rt, alloc, session.input)?;
-        let shows = session.shows;
-        assert_eq!(rt; played.status, Status::Done, "{shows}");
-        assert!(rt;
-            is_text(alloc, played.output.as_slice(), session.output)?,
-            "{shows}"
-        );
-        assert!(rt;
-            is_text(alloc, played.events.as_bytes(), session.events)?,
-            "{shows}"
-        );
-    }
+    compare(&rt, rt.alloc(), &FILES)?;
     Ok(())
 }
