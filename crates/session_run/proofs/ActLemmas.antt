@@ -1,13 +1,11 @@
 -- What a request does, from the desk's call to the settling of its grant.
-use Rattle.std.proofs.Common.{◌≡◌, ◌≢◌, ℕ, ◌≤◌, List, [], ◌∷◌, ◌++◌, Option, Some, None, Result, Ok, Err, refl, sym, ◌∙◌, ap, subst, arith, append_assoc, append-nil, inl, inr}
+use Rattle.std.proofs.Common.{◌≡◌, ℕ, ◌≤◌, List, [], ◌∷◌, ◌++◌, Option, Some, None, Result, Ok, Err, refl, sym, ◌∙◌, ap, subst, arith, append_assoc, append-nil, inl, inr}
 use Rattle.std.specs.Prelude.{IfOk, OnErr}
 use Rattle.std.specs.Map.{keys_of}
 use Rattle.edge_kit.specs.declared.bytes.PubKey.{PubKey}
 use Rattle.edge_kit.specs.Causes.{Rose}
 use Rattle.edge_kit.specs.Tellings.{Tells}
 use Rattle.edge_kit.proofs.TellingLemmas.{Tells-nil}
-use Rattle.protect_record.specs.Parts.{Parts}
-use Rattle.protect_record.specs.Pasts.{Past}
 use Rattle.protect_record.specs.Standing.{Stands}
 use Rattle.record_join.specs.Keys.{EachKey}
 use Rattle.sign_roots.specs.declared.domains.Domains.{Domains}
@@ -31,8 +29,8 @@ use Rattle.session_format.specs.declared.request.Op.{Op}
 use Rattle.session_format.specs.declared.request.Op.TheVariants as op
 use Rattle.session_format.specs.declared.request.Request.{Request}
 use Rattle.session_format.specs.declared.member.Member.{Member}
-use Rattle.session_run.specs.Turns.{Place, IsAnswered, IsUnfaulted, CanCall, state_by, noted_by, answer_of, moment_by, told_by, unfaulted_under, call_of, calls, call_at, op_answer, outcome_of, reply_answer, sign_request, signed_answer, asked_of, moment_at, state_after, noted_both}
-use Rattle.session_run.specs.Acts.{Pair, Signs, Acts, ActsBy, Did, CalledOnly, IsGiven, Turned, Undone, Unanswered, LeftUndone}
+use Rattle.session_run.specs.Turns.{IsAnswered, CanCall, state_by, noted_by, answer_of, moment_by, told_by, unfaulted_under, call_of, op_answer, outcome_of, reply_answer, sign_request, signed_answer, moment_at}
+use Rattle.session_run.specs.Acts.{Pair, Signs, Acts, ActsBy, Did, IsGiven, Turned, Unanswered, LeftUndone}
 
 pub answered_given : (g : OpenGrant) (s : SignReply) → IsGiven s → IsAnswered (reply.Granted g) s
 answered_given g (signing.Signed signature) h = tt

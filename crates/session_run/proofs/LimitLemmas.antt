@@ -1,12 +1,11 @@
 -- An input within the limits passes none.
-use Rattle.std.proofs.Common.{◌≡◌, ℕ, zero, suc, ◌+◌, ◌<◌, ◌≤◌, min, Bool, true, false, cond, List, [], ◌∷◌, ◌++◌, length, length-append, length-take, take, drop, map, Option, Some, None, refl, sym, ◌∙◌, ap, subst, arith, append_assoc, nat_eq}
-use Rattle.std.specs.Io.KnownBytes.{Consumes}
+use Rattle.std.proofs.Common.{◌≡◌, ℕ, suc, ◌+◌, ◌<◌, ◌≤◌, Bool, true, false, cond, List, [], ◌∷◌, ◌++◌, length, length-append, take, drop, map, Option, Some, None, refl, sym, ◌∙◌, ap, subst, arith, append_assoc, nat_eq}
 use Rattle.std.proofs.lemmas.List.{append-nil, take-append-drop, length-take-le}
 use Rattle.std.proofs.lemmas.Grind.{common_steps}
 use Rattle.sign_roots.specs.declared.domains.Domains.{Domains}
-use Rattle.session_run.specs.Lines.{lines_of, lines_after, IsOneLine, IsShortLine, BeginsTooLong, line_limit, input_limit}
+use Rattle.session_run.specs.Lines.{lines_of, lines_after, IsOneLine, BeginsTooLong, line_limit, input_limit}
 use Rattle.session_run.specs.Turns.{Turn, line_of}
-use Rattle.session_run.specs.Runs.{View, HasRead, AreShort, WithinLimits, Ends, Stops, PassesLimit, too_long_text}
+use Rattle.session_run.specs.Runs.{View, HasRead, AreShort, WithinLimits, Ends}
 use Rattle.session_run.specs.declared.next.Limit.{Limit}
 use Rattle.session_run.specs.declared.next.Limit.TheVariants as limit
 use Rattle.session_run.specs.declared.status.Status.{Status}

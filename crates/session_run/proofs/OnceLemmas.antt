@@ -3,7 +3,7 @@ use Rattle.std.proofs.Common.{◌≡◌, ℕ, ◌≤◌, Bool, true, false, cond
 use Rattle.std.specs.Prelude.{is_some, unwrap_or, IfOk, codes}
 use Rattle.std.proofs.lemmas.Grind.{common_steps}
 use Rattle.edge_kit.specs.declared.bytes.PubKey.{PubKey}
-use Rattle.serde_json.specs.Data.{Data, Items}
+use Rattle.serde_json.specs.Data.{Data}
 use Rattle.serde_json.specs.Find.{get, as_object, as_str}
 use Rattle.std.specs.Option.{option_and_then}
 use Rattle.edge_kit.specs.Texts.{quoted_number}
@@ -18,10 +18,9 @@ use Rattle.phase0_types.specs.declared.fault.ReadFault.{ReadFault as ShapeFault}
 use Rattle.sign_roots.specs.declared.domains.Domains.{Domains}
 use Rattle.check_sign.specs.Machine.{moment_limit}
 use Rattle.session_format.specs.Steps.{◌>>=◌}
-use Rattle.session_format.specs.Requests.{data_of, request_of, of_data, request_in, members_of, op_in, by_op, text_at, key_at, merge_at, merge_in, merge_of, activate_at, block_at, block_by, plain_block, header_block, vote_at, vote_by, plain_vote, details_vote, export_at, asked_keys, keys_in, prune_at, epoch_at, epoch_in, moment_in, number_at, root_at}
+use Rattle.session_format.specs.Requests.{data_of, request_of, of_data, members_of, op_in, by_op, text_at, key_at, merge_at, merge_in, merge_of, activate_at, block_at, block_by, plain_block, header_block, vote_at, vote_by, plain_vote, details_vote, export_at, asked_keys, prune_at, epoch_at, epoch_in, moment_in, number_at, root_at}
 use Rattle.session_format.specs.declared.member.Member.{Member}
 use Rattle.session_format.specs.declared.member.Member.TheVariants as member
-use Rattle.session_format.specs.declared.request.Op.{Op}
 use Rattle.session_format.specs.declared.request.Request.{Request}
 use Rattle.session_run.specs.Acts.{ListsOnce}
 

@@ -5,11 +5,9 @@ use Rattle.std.proofs.lemmas.List.{append-nil, map-append}
 use Rattle.std.proofs.lemmas.Grind.{common_steps}
 use Rattle.edge_kit.proofs.TellingLemmas.{Consumes-nil, Consumes-trans}
 use Rattle.session_run.specs.Lines.{lines_of, lines_after, IsOneLine, IsShortLine, input_limit}
-use Rattle.session_run.specs.Reading.{Pending, ReadsMore, GivesLine}
+use Rattle.session_run.specs.Reading.{Pending, ReadsMore}
 use Rattle.session_run.specs.Turns.{Turn, line_of}
-use Rattle.session_run.specs.Runs.{HasLines, HasRead, ReadsWhole, ReadsFirst, AreShort, last_lines}
-use Rattle.session_run.specs.declared.next.Next.{Next}
-use Rattle.session_run.specs.declared.next.Next.TheVariants as next
+use Rattle.session_run.specs.Runs.{HasRead, ReadsWhole, ReadsFirst, AreShort, last_lines}
 
 not_newline : (b : ℕ) → (b ≡ 10 → ⊥) → nat_eq b 10 ≡ false
 not_newline b h = grind (arith, common_steps)

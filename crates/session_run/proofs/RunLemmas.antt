@@ -1,6 +1,5 @@
 -- One run after another.
-use Rattle.std.proofs.Common.{◌≡◌, ℕ, ◌+◌, ◌<◌, ◌≤◌, min, take, List, [], ◌∷◌, ◌++◌, length, map, Option, Result, Ok, Err, refl, sym, ◌∙◌, ap, subst, arith, append_assoc}
-use Rattle.std.specs.Prelude.{flat_map}
+use Rattle.std.proofs.Common.{◌≡◌, ℕ, ◌≤◌, take, List, [], ◌∷◌, ◌++◌, map, Option, Result, Ok, Err, refl, sym, ◌∙◌, ap, subst, arith, append_assoc}
 use Rattle.std.specs.Io.KnownBytes.{Appends}
 use Rattle.std.proofs.lemmas.List.{append-nil, map-append}
 use Rattle.std.proofs.lemmas.Grind.{flat_map-append}
@@ -10,15 +9,14 @@ use Rattle.sign_roots.specs.declared.domains.Domains.{Domains}
 use Rattle.edge_kit.proofs.TellingLemmas.{Tells-nil, Tells-trans, Appends-nil, Appends-trans}
 use Rattle.signer_link.specs.declared.signer.SignCall.{SignCall}
 use Rattle.signer_link.specs.declared.signer.SignReply.{SignReply}
-use Rattle.check_sign.specs.States.{State, DeskStands}
-use Rattle.check_sign.specs.declared.event.DeskEvent.{DeskEvent}
+use Rattle.check_sign.specs.States.{DeskStands}
 use Rattle.check_sign.specs.declared.call.DeskReply.{DeskReply}
 use Rattle.check_sign.specs.declared.call.DeskReply.TheVariants as reply
 use Rattle.signer_link.specs.declared.signer.SignReply.TheVariants as signing
 use Rattle.session_format.specs.declared.answer.Answer.TheVariants as answer
 use Rattle.session_format.specs.Requests.{request_of}
 use Rattle.session_run.specs.Acts.{Pair, Turned}
-use Rattle.session_run.specs.Turns.{Turn, Place, CanReply, CanRun, place_of, place_after, noted_of, events_of, moment_by, moment_after, Unfaulted, unfaulted_by, AskAsWritten, told, told_in, told_of, text_of, written, answer_of}
+use Rattle.session_run.specs.Turns.{Turn, Place, CanRun, place_of, place_after, noted_of, events_of, moment_by, moment_after, Unfaulted, AskAsWritten, told, told_in, text_of, written, answer_of}
 use Rattle.session_run.specs.Runs.{Ran, HasServed, Laws, CutShort}
 use Rattle.session_format.specs.Answers.{answer_text}
 use Rattle.session_run.proofs.SafeLemmas.{safe_run, complete_run}

@@ -1,6 +1,6 @@
 -- A run sends nothing that is slashable beside what was sent before.
-use Rattle.std.proofs.Common.{◌≡◌, ◌≢◌, ℕ, zero, suc, ◌+◌, ◌<◌, Bool, true, false, cond, ◌||◌, List, [], ◌∷◌, ◌++◌, length, length-append, get_or, Option, Some, None, Result, Ok, Err, refl, sym, ◌∙◌, ap, subst, arith, append_assoc, inl, inr, ◌⊎◌}
-use Rattle.std.specs.Prelude.{All, AllPairs, flat_map, is_some, IfSome, IsSomeAnd}
+use Rattle.std.proofs.Common.{◌≡◌, ℕ, Bool, true, false, cond, ◌||◌, List, [], ◌∷◌, ◌++◌, get_or, Option, Some, None, Result, Ok, Err, refl, sym, ◌∙◌, ap, subst, arith, append_assoc}
+use Rattle.std.specs.Prelude.{All, is_some, IsSomeAnd}
 use Rattle.std.specs.BTreeMap.{is_at}
 use Rattle.std.specs.Ordering.{match_ordering, is_eq}
 use Rattle.std.specs.declared.cmp.Ordering.{Ordering}
@@ -11,8 +11,6 @@ use Rattle.std.proofs.lemmas.List.Quantifiers.{all_pairs_push}
 use Rattle.std.proofs.lemmas.Map.Lookups.{exact_bytes}
 use Rattle.edge_kit.specs.declared.bytes.PubKey.{PubKey}
 use Rattle.slash_defs.specs.declared.message.Message.{Message}
-use Rattle.slash_defs.specs.declared.message.Message.TheVariants as message
-use Rattle.slash_defs.specs.Slashing.{Slashable}
 use Rattle.slash_defs.specs.Lists.{SafeList, IsUnsafe}
 use Rattle.protect_record.specs.Pasts.{Past, no_past, with_own, with_book}
 use Rattle.protect_record.specs.Passing.{Passes, Covers}
@@ -20,13 +18,11 @@ use Rattle.protect_record.specs.PastLaws.{Slashable-sym, covers-with_own, passes
 use Rattle.signer_link.specs.declared.signer.SignReply.{SignReply}
 use Rattle.signer_link.specs.declared.signer.SignReply.TheVariants as signing
 use Rattle.std.specs.BTreeSet.{insert_key}
-use Rattle.std.specs.List.{list_any}
 use Rattle.slash_defs.specs.declared.book.Book.{Book}
-use Rattle.slash_defs.specs.declared.book.File.{File}
 use Rattle.record_join.specs.Keys.{key_cmp, kept_of, with_key, with_kept}
 use Rattle.record_join.specs.BooksPasts.{IsRefusal, put_past, known_past, with_file_book, with_file, own_grown, own_grown_from}
-use Rattle.check_sign.specs.States.{State, past_of, is_among, IsActive, active_past}
-use Rattle.check_sign.specs.Machine.{after, Reply, grant_for, with_known, book_gained, ActiveAnd}
+use Rattle.check_sign.specs.States.{State, past_of, is_among, active_past}
+use Rattle.check_sign.specs.Machine.{after, Reply, grant_for, book_gained, ActiveAnd}
 use Rattle.check_sign.specs.declared.open_grant.OpenGrant.{OpenGrant}
 use Rattle.check_sign.specs.declared.call.DeskCall.{DeskCall}
 use Rattle.check_sign.specs.declared.call.DeskCall.TheVariants as call
@@ -34,7 +30,7 @@ use Rattle.check_sign.specs.declared.call.DeskReply.{DeskReply}
 use Rattle.check_sign.specs.declared.call.DeskReply.TheVariants as reply
 use Rattle.check_sign.specs.declared.call.Outcome.{Outcome}
 use Rattle.session_run.specs.Safe.{OnActive, NowOrLater, CoveredOnceActive, StaysSafe, IsCarriedOut, Proposes, CompleteOp, IsComplete, AllComplete}
-use Rattle.session_run.specs.Turns.{Turn, Place, CanRun, CanReply, CanCall, IsAnswered, place_of, place_after, state_after, state_by, settled, call_of, call_at, calls, outcome_of, moment_at, sent, sent_in, sent_by, sent_under, sent_of, sent_for}
+use Rattle.session_run.specs.Turns.{Turn, Place, CanRun, CanReply, CanCall, IsAnswered, place_of, place_after, state_after, state_by, settled, call_of, call_at, outcome_of, moment_at, sent, sent_in, sent_by, sent_under, sent_of, sent_for}
 use Rattle.session_format.specs.declared.request.Op.{Op}
 use Rattle.session_format.specs.declared.request.Op.TheVariants as op
 use Rattle.session_format.specs.declared.request.Request.{Request}

@@ -1,6 +1,6 @@
 -- The exits of a session's loop.
-use Rattle.std.proofs.Common.{◌≡◌, ℕ, ◌+◌, ◌<◌, ◌≤◌, List, [], ◌∷◌, ◌++◌, length, length-append, take, map, Option, refl, sym, ◌∙◌, ap, subst, arith, inl, inr, ◌⊎◌}
-use Rattle.std.specs.Io.KnownBytes.{Consumes, Appends, Keeps, IsAtEnd}
+use Rattle.std.proofs.Common.{◌≡◌, ℕ, ◌+◌, ◌<◌, ◌≤◌, List, [], ◌∷◌, ◌++◌, length, length-append, take, map, Option, refl, sym, ◌∙◌, ap, subst, arith, inl, inr}
+use Rattle.std.specs.Io.KnownBytes.{Appends, Keeps, IsAtEnd}
 use Rattle.std.proofs.lemmas.List.{append-nil}
 use Rattle.std.proofs.lemmas.Grind.{flat_map-append}
 use Rattle.std.proofs.Math.Seq.{take-append-add}
@@ -13,7 +13,7 @@ use Rattle.session_format.specs.Requests.{request_of}
 use Rattle.session_run.specs.Acts.{Pair, Unanswered}
 use Rattle.session_run.specs.Turns.{Turn, line_of, moment_after, written, text_of}
 use Rattle.session_run.specs.Closings.{Closes}
-use Rattle.session_run.specs.Runs.{View, Ran, HasServed, HasRead, SoFar, Session, Stops, Breaks, LeavesOff, CutShort, Ends, StopsAs, StoppedShort, PassesLimit, read_fault_text, too_long_text, IsNext, IsClosing, last_lines}
+use Rattle.session_run.specs.Runs.{View, Ran, HasServed, SoFar, Session, Stops, Breaks, LeavesOff, CutShort, Ends, StopsAs, StoppedShort, PassesLimit, read_fault_text, too_long_text, IsClosing, last_lines}
 use Rattle.session_run.specs.declared.next.LineFault.{LineFault}
 use Rattle.session_run.specs.declared.next.LineFault.TheVariants as fault
 use Rattle.session_run.specs.declared.next.Limit.TheVariants as limit

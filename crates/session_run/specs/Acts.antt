@@ -21,7 +21,7 @@ use Rattle.check_sign.specs.declared.call.DeskReply.{DeskReply}
 use Rattle.check_sign.specs.declared.call.DeskReply.TheVariants as reply
 use Rattle.check_sign.specs.declared.call.Outcome.{Outcome}
 use Rattle.check_sign.specs.declared.call.Outcome.TheVariants.{Dropped}
-use Rattle.session_run.specs.Turns.{Place, CanReply, place_of, noted_of, told_of, unfaulted_by, call_of, sign_request, moment_at, state_after, noted_both, asked_for, asked_of, outcome_of, op_answer, IsAnswered, IsUnfaulted}
+use Rattle.session_run.specs.Turns.{CanReply, place_of, noted_of, told_of, unfaulted_by, call_of, sign_request, moment_at, state_after, noted_both, asked_for, asked_of, outcome_of, op_answer, IsAnswered, IsUnfaulted}
 use Rattle.session_format.specs.Answers.{answer_text}
 use Rattle.session_format.specs.declared.request.Op.{Op}
 use Rattle.session_format.specs.declared.request.Op.TheVariants as op

@@ -2,8 +2,6 @@
 use Rattle.std.specs.Prelude.{◌≡◌, ◌≢◌, ℕ, ◌+◌, ◌<◌, ◌≤◌, ◌==◌, ◌^◌, ◌-◌, List, [], ◌∷◌, ◌++◌, length, take, slice_index, if◌then◌else◌}
 use Rattle.session_run.specs.declared.next.Next.{Next}
 use Rattle.session_run.specs.declared.next.Next.TheVariants as next
-use Rattle.session_run.specs.declared.next.Limit.{Limit}
-use Rattle.session_run.specs.declared.next.Limit.TheVariants as limit
 
 -- cut at newlines, after the first part of a line; a last piece that isn't empty is a line too
 abbrev pub lines_after : List ℕ → List ℕ → List (List ℕ)

@@ -1,18 +1,15 @@
 -- A session from its input to its output.
-use Rattle.std.specs.Prelude.{◌≡◌, ◌≢◌, ℕ, ◌<◌, ◌≤◌, ◌==◌, ◌⊎◌, List, [], ◌∷◌, ◌++◌, length, take, map, if◌then◌else◌, Option, min, codes}
+use Rattle.std.specs.Prelude.{◌≡◌, ℕ, ◌<◌, ◌≤◌, ◌==◌, ◌⊎◌, List, [], ◌∷◌, ◌++◌, length, take, map, if◌then◌else◌, Option, min, codes}
 use Rattle.std.specs.Io.KnownBytes.{Consumes, Appends, Keeps, IsAtEnd}
 use Rattle.edge_kit.specs.Causes.{Rose}
 use Rattle.edge_kit.specs.Tellings.{Tells}
 use Rattle.sign_roots.specs.declared.domains.Domains.{Domains}
-use Rattle.signer_link.specs.declared.signer.SignCall.{SignCall}
-use Rattle.signer_link.specs.declared.signer.SignReply.{SignReply}
-use Rattle.check_sign.specs.Contents.{Contents}
 use Rattle.check_sign.specs.States.{State, DeskStands}
-use Rattle.session_run.specs.Lines.{lines_of, IsOneLine, IsShortLine, BeginsTooLong, line_limit, input_limit}
+use Rattle.session_run.specs.Lines.{lines_of, IsShortLine, BeginsTooLong, input_limit}
 use Rattle.session_format.specs.Requests.{request_of}
 use Rattle.session_run.specs.Acts.{Pair, Unanswered}
 use Rattle.session_run.specs.Safe.{StaysSafe, AllComplete}
-use Rattle.session_run.specs.Turns.{Turn, Place, CanRun, place_after, events_of, moment_after, AskAsWritten, Unfaulted, line_of, text_of, written, told, sent}
+use Rattle.session_run.specs.Turns.{Turn, CanRun, place_after, events_of, moment_after, AskAsWritten, Unfaulted, line_of, text_of, written, told}
 use Rattle.session_run.specs.declared.next.Limit.{Limit}
 use Rattle.session_run.specs.declared.next.Limit.TheVariants as limit
 use Rattle.session_run.specs.declared.next.LineFault.{LineFault}
@@ -20,7 +17,7 @@ use Rattle.session_run.specs.declared.next.LineFault.TheVariants as fault
 use Rattle.session_run.specs.Closings.{Closes}
 use Rattle.session_run.specs.declared.status.Status.{Status}
 use Rattle.session_run.specs.declared.status.Status.TheVariants as status
-use Rattle.std.specs.Prelude.{Result, Ok, Err, Some, None}
+use Rattle.std.specs.Prelude.{Some, None}
 
 -- what a run does to the desk and to the signer: each turn asks what its line says; whichever state the desk stood for, the replies are the machine's, the
 -- desk stands for the state after them, and has noted just that

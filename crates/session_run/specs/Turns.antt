@@ -1,5 +1,5 @@
 -- One line of a session, and many.
-use Rattle.std.specs.Prelude.{◌≡◌, ◌≢◌, ℕ, max, List, [], ◌∷◌, ◌++◌, flat_map, map, Option, Some, None, unwrap_or, Result, Ok, Err}
+use Rattle.std.specs.Prelude.{◌≡◌, ℕ, max, List, [], ◌∷◌, ◌++◌, flat_map, map, Option, Some, None, unwrap_or, Result, Ok, Err}
 use Rattle.std.specs.Map.{keys_of}
 use Rattle.edge_kit.specs.declared.bytes.PubKey.{PubKey}
 use Rattle.slash_defs.specs.declared.message.Message.{Message}
@@ -13,7 +13,6 @@ use Rattle.signer_link.specs.declared.signer.SignReply.{SignReply}
 use Rattle.signer_link.specs.declared.signer.SignReply.TheVariants as signing
 use Rattle.check_sign.specs.States.{State}
 use Rattle.check_sign.specs.Machine.{Reply, after, noted}
-use Rattle.check_sign.specs.declared.open_grant.OpenGrant.{OpenGrant}
 use Rattle.check_sign.specs.declared.event.DeskEvent.{DeskEvent}
 use Rattle.check_sign.specs.declared.call.DeskCall.{DeskCall}
 use Rattle.check_sign.specs.declared.call.DeskCall.TheVariants as call

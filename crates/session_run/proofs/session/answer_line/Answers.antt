@@ -1,6 +1,6 @@
-use Rattle.std.proofs.Common.{string_bytes, rules, ◌∙◌, ap, sym}
+use Rattle.std.proofs.Common.{rules}
 use Rattle.session_run.proofs.RunLemmas.{bad_answered}
-use Rattle.session_run.proofs.ActLemmas.{ok_answered, ok_unanswered}
+use Rattle.session_run.proofs.ActLemmas.{ok_answered}
 use Rattle.session_run.proofs.session.answer_line.Goals as goal
 
 pub returns-in_ok-text-in-Err-clause-done : goal.returns-in_ok-text-in-Err-clause-done

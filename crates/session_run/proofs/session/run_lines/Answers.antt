@@ -1,4 +1,4 @@
-use Rattle.std.proofs.Common.{◌≡◌, ◌≤◌, ◌<◌, ◌+◌, Err, refl, sym, ◌∙◌, ap, arith, length, length-append}
+use Rattle.std.proofs.Common.{Err, ◌∙◌, ap, arith}
 use Rattle.session_run.specs.Runs.{last_lines}
 use Rattle.session_run.proofs.SessionLemmas.{so_far_none, so_far_line, session_done, breaks_line, breaks_last, leaves_line, leaves_last, leaves_begin, rose_back, ends_stop, counted}
 use Rattle.session_run.proofs.session.run_lines.Goals as goal

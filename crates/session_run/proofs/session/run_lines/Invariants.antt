@@ -1,4 +1,4 @@
-use Rattle.std.proofs.Common.{◌≡◌, ◌+◌, ◌≤◌, ◌<◌, length}
+use Rattle.std.proofs.Common.{◌+◌, ◌≤◌, ◌<◌, length}
 use Rattle.check_sign.specs.Machine.{moment_limit}
 use Rattle.session_run.specs.Lines.{input_limit}
 use Rattle.session_run.specs.Runs.{SoFar}

@@ -1,4 +1,4 @@
-use Rattle.std.proofs.Common.{◌≡◌, [], refl, sym, ◌∙◌}
+use Rattle.std.proofs.Common.{[], sym, ◌∙◌}
 use Rattle.session_run.proofs.RunLemmas.{served_none}
 use Rattle.session_run.proofs.ReadLemmas.{no_line}
 use Rattle.session_run.proofs.session.serve_last.Goals as goal

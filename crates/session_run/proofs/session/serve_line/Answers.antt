@@ -1,4 +1,4 @@
-use Rattle.std.proofs.Common.{◌≡◌, sym, ◌∙◌}
+use Rattle.std.proofs.Common.{◌∙◌}
 use Rattle.session_run.proofs.OnceLemmas.{within_limit, files_once}
 use Rattle.session_run.proofs.RunLemmas.{served_line, cut_line}
 use Rattle.session_run.proofs.session.serve_line.Goals as goal

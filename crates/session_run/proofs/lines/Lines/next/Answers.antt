@@ -1,4 +1,4 @@
-use Rattle.std.proofs.Common.{◌≡◌, ◌≤◌, ◌<◌, length, arith, sym, subst}
+use Rattle.std.proofs.Common.{arith, sym, subst}
 use Rattle.session_run.specs.Lines.{BeginsTooLong}
 use Rattle.session_run.specs.Reading.{Pending}
 use Rattle.session_run.proofs.LineLemmas.{too_long, too_long_whole}

@@ -1,4 +1,4 @@
-use Rattle.std.proofs.Common.{◌≡◌, ℕ, ◌≤◌, ◌<◌, ◌+◌}
+use Rattle.std.proofs.Common.{◌≤◌, ◌<◌, ◌+◌}
 use Rattle.session_run.specs.Reading.{ReadsMore}
 use Rattle.session_run.specs.Lines.{input_limit}
 use Rattle.session_run.proofs.lines.Lines.next.Given as goal
