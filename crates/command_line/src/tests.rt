@@ -7,6 +7,9 @@ use std::test::Fail;
 
 const ROOT: &str = "0xabababababababababababababababababababababababababababababababab";
 
+const ROOT_WITHOUT_PREFIX: &str =
+    "abababababababababababababababababababababababababababababababab";
+
 const ROOT_IN_CAPITALS: &str = "0xABABABABABABABABABABABABABABABABABABABABABABABABABABABABABABABAB";
 
 const ROOT_OF_63_DIGITS: &str = "0xabababababababababababababababababababababababababababababababa";
@@ -55,88 +58,90 @@ fn sessions_have_their_genesis_and_fork(rt: HostRuntime) -> Result<(), Fail> {
     Ok(())
 }
 
+/// Words behind the program's name that are no command, each with a piece of what is told.
+const FAULTY: [(&[&str], &str); 16] = [
+    (&[], "requires a subcommand"),
+    (&["serve"], "unrecognized subcommand 'serve'"),
+    (&["session"], "not provided:\n  --genesis <HEX32>"),
+    (
+        &["session", "--genesis"],
+        "a value is required for '--genesis <HEX32>'",
+    ),
+    (
+        &["session", "--genesis", ROOT_OF_63_DIGITS],
+        "for '--genesis <HEX32>': 0x and 64",
+    ),
+    (
+        &["session", "--genesis", ROOT_WITHOUT_PREFIX],
+        "for '--genesis <HEX32>': 0x and 64",
+    ),
+    (
+        &["session", "--genesis", ROOT, "--genesis", ROOT],
+        "cannot be used multiple times",
+    ),
+    (
+        &["session", "--genesis", ROOT, "more"],
+        "unexpected argument 'more'",
+    ),
+    (
+        &["session", "--genesis", ROOT, "--watch"],
+        "unexpected argument '--watch'",
+    ),
+    (
+        &["session", GENESIS_IS_ROOT, "--fork"],
+        "a value is required for '--fork",
+    ),
+    (
+        &[
+            "session",
+            GENESIS_IS_ROOT,
+            "--fork",
+            "0x01000000:0x02000000",
+        ],
+        "value '0x01000000:0x02000000' for '--fork",
+    ),
+    (
+        &[
+            "session",
+            GENESIS_IS_ROOT,
+            "--fork",
+            "0x01000000:0x02000000:0:0",
+        ],
+        "for '--fork <PREVIOUS:CURRENT:EPOCH>': two versions",
+    ),
+    (
+        &[
+            "session",
+            GENESIS_IS_ROOT,
+            "--fork",
+            "0x01000000:0x020000:0",
+        ],
+        "for '--fork",
+    ),
+    (
+        &[
+            "session",
+            GENESIS_IS_ROOT,
+            "--fork",
+            "0x01000000:0x02000000:000000000000000000001",
+        ],
+        "for '--fork",
+    ),
+    (
+        &[
+            "session",
+            GENESIS_IS_ROOT,
+            "--fork",
+            "0x01000000:0x02000000:18446744073709551616",
+        ],
+        "for '--fork",
+    ),
+    (&["help", "serve"], "unrecognized subcommand 'serve'"),
+];
+
 #[test]
 fn faulty_words_are_usage(rt: HostRuntime) -> Result<(), Fail> {
-    let rows: [(&[&str], &str); 16] = [
-        (&[], "requires a subcommand"),
-        (&["serve"], "unrecognized subcommand 'serve'"),
-        (&["session"], "not provided:\n  --genesis <HEX32>"),
-        (
-            &["session", "--genesis"],
-            "a value is required for '--genesis <HEX32>'",
-        ),
-        (
-            &["session", "--genesis", ROOT_OF_63_DIGITS],
-            "for '--genesis <HEX32>': 0x and 64",
-        ),
-        (
-            &["session", "--genesis", &ROOT[2..]],
-            "for '--genesis <HEX32>': 0x and 64",
-        ),
-        (
-            &["session", "--genesis", ROOT, "--genesis", ROOT],
-            "cannot be used multiple times",
-        ),
-        (
-            &["session", "--genesis", ROOT, "more"],
-            "unexpected argument 'more'",
-        ),
-        (
-            &["session", "--genesis", ROOT, "--watch"],
-            "unexpected argument '--watch'",
-        ),
-        (
-            &["session", GENESIS_IS_ROOT, "--fork"],
-            "a value is required for '--fork",
-        ),
-        (
-            &[
-                "session",
-                GENESIS_IS_ROOT,
-                "--fork",
-                "0x01000000:0x02000000",
-            ],
-            "value '0x01000000:0x02000000' for '--fork",
-        ),
-        (
-            &[
-                "session",
-                GENESIS_IS_ROOT,
-                "--fork",
-                "0x01000000:0x02000000:0:0",
-            ],
-            "for '--fork <PREVIOUS:CURRENT:EPOCH>': two versions",
-        ),
-        (
-            &[
-                "session",
-                GENESIS_IS_ROOT,
-                "--fork",
-                "0x01000000:0x020000:0",
-            ],
-            "for '--fork",
-        ),
-        (
-            &[
-                "session",
-                GENESIS_IS_ROOT,
-                "--fork",
-                "0x01000000:0x02000000:000000000000000000001",
-            ],
-            "for '--fork",
-        ),
-        (
-            &[
-                "session",
-                GENESIS_IS_ROOT,
-                "--fork",
-                "0x01000000:0x02000000:18446744073709551616",
-            ],
-            "for '--fork",
-        ),
-        (&["help", "serve"], "unrecognized subcommand 'serve'"),
-    ];
-    for (words, wanted) in rows {
+    for (words, wanted) in FAULTY {
         let Err(usage) = answer(rt.alloc(), words)? else {
             return Err(Fail::from("no usage error"));
         };

@@ -249,13 +249,6 @@ fn one_key(alloc: Global) -> Result<File, AllocError> {
 
 /// The answer at a place of `LINES`.
 fn answer_at(alloc: Global, place: usize) -> Result<Answer, AllocError> {
-    let root = Some(Root([0xaa; 32]));
-    let block = BlockEntry { slot: 5, root };
-    let vote = VoteEntry {
-        target: 4,
-        source: 3,
-        root: None,
-    };
     Ok(match place {
         0 => Answer::Merged { keys: 1 },
         1 => Answer::Active,
@@ -269,15 +262,7 @@ fn answer_at(alloc: Global, place: usize) -> Result<Answer, AllocError> {
         6 => Answer::Pruned,
         7 => Answer::BadRequest(Member::Header),
         8 => Answer::BadRequest(Member::Inside(phase0_types::Member::ProposerIndex)),
-        9 => Answer::BadFile(ReadFault::TooLong(268_435_457)),
-        10 => Answer::BadFile(ReadFault::NotUtf8),
-        11 => Answer::BadFile(ReadFault::Json),
-        12 => Answer::BadFile(ReadFault::Missing(interchange_io::Member::Data)),
-        13 => Answer::BadFile(ReadFault::Version(VersionText::new(String::from_str(
-            alloc, "4\"",
-        )?))),
-        14 => Answer::BadFile(ReadFault::BadNumber(interchange_io::Member::Slot)),
-        15 => Answer::BadFile(ReadFault::BadHex(interchange_io::Member::Pubkey)),
+        9..=15 => Answer::BadFile(fault_at(alloc, place)?),
         16 => Answer::GenesisDiffers {
             kept: Root([0; 32]),
             given: Root([0x11; 32]),
@@ -288,11 +273,38 @@ fn answer_at(alloc: Global, place: usize) -> Result<Answer, AllocError> {
         },
         18 => Answer::Unknown,
         19 => Answer::NotActive,
-        20 => Answer::Refused(Verdict::SlotBelow(5)),
-        21 => Answer::Refused(Verdict::DoubleBlock(block)),
-        22 => Answer::Refused(Verdict::TargetBelow(4)),
-        _ => Answer::Refused(Verdict::Surrounds(vote)),
+        _ => Answer::Refused(verdict_at(place)),
     })
+}
+
+/// The fault of a file at a place of `LINES`.
+fn fault_at(alloc: Global, place: usize) -> Result<ReadFault, AllocError> {
+    Ok(match place {
+        9 => ReadFault::TooLong(268_435_457),
+        10 => ReadFault::NotUtf8,
+        11 => ReadFault::Json,
+        12 => ReadFault::Missing(interchange_io::Member::Data),
+        13 => ReadFault::Version(VersionText::new(String::from_str(alloc, "4\"")?)),
+        14 => ReadFault::BadNumber(interchange_io::Member::Slot),
+        _ => ReadFault::BadHex(interchange_io::Member::Pubkey),
+    })
+}
+
+/// The verdict at a place of `LINES`.
+fn verdict_at(place: usize) -> Verdict {
+    match place {
+        20 => Verdict::SlotBelow(5),
+        21 => Verdict::DoubleBlock(BlockEntry {
+            slot: 5,
+            root: Some(Root([0xaa; 32])),
+        }),
+        22 => Verdict::TargetBelow(4),
+        _ => Verdict::Surrounds(VoteEntry {
+            target: 4,
+            source: 3,
+            root: None,
+        }),
+    }
 }
 
 const LINES: [&str; 24] = [

@@ -57,61 +57,54 @@ fn vote(source_epoch: u64, target_epoch: u64) -> AttestationData {
     }
 }
 
+const ZERO_DOMAIN: &str = "0x01000000f5a5fd42d16a20302798ef6ed309979b43003d2320d9f0e8ea9831a9";
+
+/// The domain's kind, its epoch and its bytes, on the chain whose fork is at epoch 10.
+const DOMAINS: [(DomainKind, u64, &str); 7] = [
+    (
+        DomainKind::BeaconProposer,
+        9,
+        "0x000000003f949fbd2341c482a55d5735be4b79f1a3a1fa79a7b5ce3095d8590d",
+    ),
+    (
+        DomainKind::BeaconProposer,
+        10,
+        "0x00000000662d9a9b631c2ababb63281d09cc4e7d6beb635d7b71f6776b2507cd",
+    ),
+    (
+        DomainKind::Randao,
+        9,
+        "0x020000003f949fbd2341c482a55d5735be4b79f1a3a1fa79a7b5ce3095d8590d",
+    ),
+    (
+        DomainKind::Deposit,
+        10,
+        "0x03000000662d9a9b631c2ababb63281d09cc4e7d6beb635d7b71f6776b2507cd",
+    ),
+    (
+        DomainKind::VoluntaryExit,
+        9,
+        "0x040000003f949fbd2341c482a55d5735be4b79f1a3a1fa79a7b5ce3095d8590d",
+    ),
+    (
+        DomainKind::SelectionProof,
+        10,
+        "0x05000000662d9a9b631c2ababb63281d09cc4e7d6beb635d7b71f6776b2507cd",
+    ),
+    (
+        DomainKind::AggregateAndProof,
+        9,
+        "0x060000003f949fbd2341c482a55d5735be4b79f1a3a1fa79a7b5ce3095d8590d",
+    ),
+];
+
 #[test]
 fn domains_by_kind_and_epoch(rt: HostRuntime) {
-    let table = [
-        (
-            zero_chain(),
-            DomainKind::BeaconAttester,
-            0,
-            "0x01000000f5a5fd42d16a20302798ef6ed309979b43003d2320d9f0e8ea9831a9",
-        ),
-        (
-            forked_chain(),
-            DomainKind::BeaconProposer,
-            9,
-            "0x000000003f949fbd2341c482a55d5735be4b79f1a3a1fa79a7b5ce3095d8590d",
-        ),
-        (
-            forked_chain(),
-            DomainKind::BeaconProposer,
-            10,
-            "0x00000000662d9a9b631c2ababb63281d09cc4e7d6beb635d7b71f6776b2507cd",
-        ),
-        (
-            forked_chain(),
-            DomainKind::Randao,
-            9,
-            "0x020000003f949fbd2341c482a55d5735be4b79f1a3a1fa79a7b5ce3095d8590d",
-        ),
-        (
-            forked_chain(),
-            DomainKind::Deposit,
-            10,
-            "0x03000000662d9a9b631c2ababb63281d09cc4e7d6beb635d7b71f6776b2507cd",
-        ),
-        (
-            forked_chain(),
-            DomainKind::VoluntaryExit,
-            9,
-            "0x040000003f949fbd2341c482a55d5735be4b79f1a3a1fa79a7b5ce3095d8590d",
-        ),
-        (
-            forked_chain(),
-            DomainKind::SelectionProof,
-            10,
-            "0x05000000662d9a9b631c2ababb63281d09cc4e7d6beb635d7b71f6776b2507cd",
-        ),
-        (
-            forked_chain(),
-            DomainKind::AggregateAndProof,
-            9,
-            "0x060000003f949fbd2341c482a55d5735be4b79f1a3a1fa79a7b5ce3095d8590d",
-        ),
-    ];
-    for (domains, kind, epoch, text) in table {
+    let zero = zero_chain().domain(DomainKind::BeaconAttester, 0);
+    assert_eq!(rt; zero, bytes_of(&rt, ZERO_DOMAIN));
+    for (kind, epoch, text) in DOMAINS {
         assert_eq!(rt;
-            domains.domain(kind, epoch),
+            forked_chain().domain(kind, epoch),
             bytes_of(&rt, text),
             "{kind:?} {epoch}"
         );
