@@ -50,7 +50,7 @@ const FAULTY: [Said; 8] = [
     },
     Said {
         words: &["validator", "session"],
-        begins: "validator: error: the following required arguments were not provided:",
+        begins: "validator: error: the following required arguments were not provided: --genesis <HEX32>",
     },
     Said {
         words: &["validator", "session", "--genesis"],
