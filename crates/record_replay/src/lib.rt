@@ -1,0 +1,14 @@
+//! What is written into a journal of each change, and what a journal brings back.
+#![tactic(auto)]
+
+mod batches;
+mod fault;
+mod laws;
+mod payloads;
+mod state;
+
+pub use batches::{book_items, file_items, message_item};
+pub use fault::ReplayFault;
+pub use laws::replay_laws;
+pub use payloads::{Replayed, replay};
+pub use state::KeyState;

@@ -1,0 +1,46 @@
+//! The keys of a journal, as its payloads make them.
+ghost use Rattle.std.specs.Prelude.{◌≡◌, ◌≤◌, List, Some, map, length, IfOk, IfErr};
+ghost use Rattle.std.specs.Map.{keys_of};
+ghost use Rattle.edge_kit.specs.declared.bytes.PubKey.{PubKey};
+ghost use Rattle.protect_record.specs.Parts.{Parts};
+ghost use Rattle.protect_record.specs.Pasts.{Past};
+ghost use Rattle.record_join.specs.Keys.{kept_of};
+ghost use Rattle.record_join.specs.BooksPasts.{BooksStand, key_limit};
+ghost use Rattle.record_replay.specs.Items.{items_in, named_keys, states_in};
+ghost use Rattle.record_replay.specs.Replaying.{IsReplayed, IsReplayFault, ItemsStand, lasting_states};
+ghost use Rattle.record_replay.specs.declared.state.KeyState.{KeyState};
+
+use crate::fault::ReplayFault;
+use crate::state::KeyState;
+use edge_kit::PubKey;
+use record_join::Books;
+use std::alloc::Global;
+use std::collections::BTreeMap;
+
+/// The keys that a journal's payloads name: the record of each, and the state of those that were activated
+/// or closed.
+#[derive(Drop)]
+pub struct Replayed {
+    pub books: Books,
+    pub states: BTreeMap<PubKey, KeyState>,
+}
+
+/// Replays payloads, in time linear in their size but for sorting. Each key that an item names is kept; its
+/// record has the greatest of each floor, and the entries that still count; a key is active or closed as the
+/// last of its items says.
+///
+/// # Errors
+///
+/// `TooManyKeys` exactly where more than 65,536 different keys are named, and `OutOfMemory`.
+pub fn replay(alloc: Global, payloads: &[Vec<u8>]) -> Result<Replayed, ReplayFault>
+    ensures keys { IfOk result (λ r. keys_of r.books ≡ named_keys (items_in (map (λ v. v.items) payloads.now))) }
+    ensures each { IfOk result (λ r. (key : PubKey) (parts : Parts) → kept_of r.books key ≡ Some parts → IsReplayed (items_in (map (λ v. v.items) payloads.now)) key parts) }
+    ensures states { IfOk result (λ r. r.states.entries ≡ states_in (items_in (map (λ v. v.items) payloads.now))) }
+    ensures limit { IfOk result (λ r. length r.books ≤ key_limit) }
+    // The records stand for whichever pasts the items stand for.
+    ensures stands { IfOk result (λ r. (pasts : List (PubKey × Past)) (states : List (PubKey × KeyState)) → ItemsStand (items_in (map (λ v. v.items) payloads.now)) pasts states
+        → BooksStand r.books pasts × (r.states.entries ≡ lasting_states states)) }
+    ensures fault { IfErr result (IsReplayFault (items_in (map (λ v. v.items) payloads.now))) }
+{
+    Err(ReplayFault::OutOfMemory)
+}
