@@ -1,8 +1,9 @@
 -- What a desk holds, as contracts see it.
-use Rattle.std.specs.Prelude.{ℕ, List}
+use Rattle.std.specs.Prelude.{ℕ, Bool, List, Option}
 use Rattle.edge_kit.specs.declared.bytes.PubKey.{PubKey}
 use Rattle.edge_kit.specs.declared.bytes.Root.{Root}
 use Rattle.protect_record.specs.Parts.{Parts}
+use Rattle.record_replay.specs.declared.state.KeyState.{KeyState}
 use Rattle.check_sign.specs.declared.open_grant.OpenGrant.{OpenGrant}
 use Rattle.check_sign.specs.declared.event.DeskEvent.{DeskEvent}
 
@@ -11,13 +12,25 @@ pub record Contents : Type 0 where
   pub genesis : Root
   -- each kept key with its record, in key order
   pub keys : List (PubKey × Parts)
-  -- the active keys, in key order
-  pub active : List PubKey
+  -- the state of each key that was activated or closed, in key order
+  pub states : List (PubKey × KeyState)
   -- the open grants, in the order in which they were given
   pub grants : List OpenGrant
   -- the number of the next grant
   pub next : ℕ
   -- the latest moment
   pub latest : ℕ
+  -- whether keys that become active are watched first
+  pub watch : Bool
   -- what the desk did since it was opened
   pub events : List DeskEvent
+  -- the payloads of the journal, its size in bytes, and the payload whose writing a fault of the disk tore
+  pub payloads : List (List ℕ)
+  pub size : ℕ
+  pub torn : Option (List ℕ)
+
+-- a desk with its disks: the one of its journal, and one that is handed back as it came
+pub record Seen (D : Type 0) : Type 0 where
+  pub disk : D
+  pub second : D
+  pub contents : Contents

@@ -1,5 +1,5 @@
--- The states of the desk machine, and which of them a desk stands for.
-use Rattle.std.specs.Prelude.{◌≡◌, ℕ, Bool, List, [], Option, None, if◌then◌else◌, IsTrue}
+-- The states of the desk machine, which of them a desk stands for, and to which of them a file opens.
+use Rattle.std.specs.Prelude.{◌≡◌, ◌≢◌, ◌⊎◌, ℕ, Bool, true, false, List, [], ◌∷◌, ◌++◌, Option, None, Some, IsSomeAnd, unwrap_or, if◌then◌else◌, IsTrue, count_by}
 use Rattle.std.specs.List.{list_any}
 use Rattle.std.specs.BTreeMap.{is_at}
 use Rattle.edge_kit.specs.declared.bytes.PubKey.{PubKey}
@@ -7,44 +7,129 @@ use Rattle.edge_kit.specs.declared.bytes.Root.{Root}
 use Rattle.protect_record.specs.Pasts.{Past}
 use Rattle.record_join.specs.Keys.{key_cmp, kept_of}
 use Rattle.record_join.specs.BooksPasts.{BooksStand}
+use Rattle.record_journal.specs.Frames.{reading, begun}
+use Rattle.record_journal.specs.Journals.{journal_size}
+use Rattle.record_replay.specs.Items.{items_in}
+use Rattle.record_replay.specs.Replaying.{ItemsStand, lasting_states}
+use Rattle.record_replay.specs.declared.state.KeyState.{KeyState}
+use Rattle.record_replay.specs.declared.state.KeyState.TheVariants.{Known, Active, Closing, Closed}
 use Rattle.check_sign.specs.declared.open_grant.OpenGrant.{OpenGrant}
 use Rattle.check_sign.specs.Contents.{Contents}
 
--- the chain's genesis root; each kept key with its past, in key order; those of them that may sign, in key order; the open
--- grants; the number of the next grant; the latest moment
+-- what outlasts a stop: each kept key with its past, in key order; the state of each that was activated or closed; and the
+-- size of the journal in bytes
+pub record Lasting : Type 0 where
+  pub keys : List (PubKey × Past)
+  pub states : List (PubKey × KeyState)
+  pub size : ℕ
+
+-- beside that, the chain's genesis root; the open grants and the number of the next; the latest moment; whether keys are
+-- watched; and, where a fault of the disk tore a call, what would have outlasted its Ok: such a desk has failed
 pub record State : Type 0 where
   pub genesis : Root
   pub keys : List (PubKey × Past)
-  pub active : List PubKey
+  pub states : List (PubKey × KeyState)
   pub grants : List OpenGrant
   pub next : ℕ
   pub latest : ℕ
+  pub watch : Bool
+  pub size : ℕ
+  pub torn : Option Lasting
+
+abbrev pub lasting : State → Lasting
+lasting state = record { keys = state.keys; states = state.states; size = state.size }
+
+-- nothing is kept, in a journal of its header alone
+abbrev pub nothing_lasts : Lasting
+nothing_lasts = record { keys = []; states = []; size = 42 }
+
+-- the state of a desk that is opened, at this moment, over what lasted: no grant is open, and a closing key is active
+abbrev pub reopened : Root → Lasting → Bool → ℕ → State
+reopened genesis l watch now = record {
+  genesis = genesis;
+  keys = l.keys;
+  states = lasting_states l.states;
+  grants = [];
+  next = 0;
+  latest = now;
+  watch = watch;
+  size = l.size;
+  torn = None;
+}
 
 -- the state of an empty desk
 abbrev pub no_state : Root → State
-no_state genesis = record { genesis = genesis; keys = []; active = []; grants = []; next = 0; latest = 0 }
+no_state genesis = reopened genesis nothing_lasts false 0
 
 -- what was imported and recorded for a key, where it is kept
 abbrev pub past_of : State → PubKey → Option Past
 past_of state key = kept_of state.keys key
 
+-- the state of a key that is kept
+abbrev pub key_state : List (PubKey × KeyState) → PubKey → KeyState
+key_state states key = unwrap_or (kept_of states key) Known
+
 -- the key is among these
 abbrev pub is_among : List PubKey → PubKey → Bool
 is_among keys key = list_any (is_at (key_cmp key)) keys
 
+abbrev pub is_active : KeyState → Bool
+is_active Known = false
+is_active Active = true
+is_active Closing = false
+is_active Closed = false
+
 -- the key may sign
 abbrev pub IsActive : State → PubKey → Type 0
-IsActive state key = IsTrue (is_among state.active key)
+IsActive state key = kept_of state.states key ≡ Some Active
+
+-- the key is being closed
+abbrev pub IsClosing : State → PubKey → Type 0
+IsClosing state key = kept_of state.states key ≡ Some Closing
+
+-- neither: it may become active
+abbrev pub IsIdle : State → PubKey → Type 0
+IsIdle state key = (kept_of state.states key ≢ Some Active) × (kept_of state.states key ≢ Some Closing)
 
 -- the past of a key that may sign
 abbrev pub active_past : State → PubKey → Option Past
-active_past state key = if is_among state.active key then past_of state key else None
+active_past state key = if is_active (key_state state.states key) then past_of state key else None
 
--- a desk stands for a state: each record stands for its past, and all else is equal
+-- how many grants of a key are open
+abbrev pub open_grants : List OpenGrant → PubKey → ℕ
+open_grants grants key = count_by (λ g. is_at (key_cmp key) g.key) grants
+
+-- payloads stand for what lasts
+pub record PayloadsStand (payloads : List (List ℕ)) (l : Lasting) : Type 0 where
+  pub items : ItemsStand (items_in payloads) l.keys l.states
+  pub size : l.size ≡ journal_size payloads
+
+-- a torn payload would make that of the payloads which the torn call would have left
+abbrev pub TornStands : List (List ℕ) → Option (List ℕ) → Option Lasting → Type 0
+TornStands payloads None None = Unit {0}
+TornStands payloads None (Some l) = ⊥
+TornStands payloads (Some p) None = ⊥
+TornStands payloads (Some p) (Some l) = PayloadsStand (payloads ++ p ∷ []) l
+
+-- a desk stands for a state: each record stands for its past, the journal for what lasts, and all else is equal
 pub record DeskStands (desk : Contents) (state : State) : Type 0 where
   pub genesis : desk.genesis ≡ state.genesis
   pub keys : BooksStand desk.keys state.keys
-  pub active : desk.active ≡ state.active
+  pub states : desk.states ≡ state.states
   pub grants : desk.grants ≡ state.grants
   pub next : desk.next ≡ state.next
   pub latest : desk.latest ≡ state.latest
+  pub watch : desk.watch ≡ state.watch
+  pub size : desk.size ≡ state.size
+  pub payloads : PayloadsStand desk.payloads (lasting state)
+  pub torn : TornStands desk.payloads desk.torn state.torn
+
+-- the file of a journal opens to what lasts
+pub record Opens (genesis : Root) (file : List ℕ) (l : Lasting) : Type 0 where
+  pub payloads : List (List ℕ)
+  pub read : begun (reading genesis.0 file) ≡ Some payloads
+  pub stand : PayloadsStand payloads l
+
+-- a file opens to what lasts of the state, or of the call that was torn
+abbrev pub MayOpen : Root → State → List ℕ → Type 0
+MayOpen genesis state file = Opens genesis file (lasting state) ⊎ IsSomeAnd state.torn (λ l. Opens genesis file l)

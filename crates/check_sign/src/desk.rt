@@ -1,222 +1,121 @@
 //! The desk.
-ghost use Rattle.std.specs.Prelude.{◌≡◌, ◌+◌, ◌-◌, ◌<◌, ◌≤◌, ◌⊎◌, ◌↔◌, ◌++◌, ◌∷◌, [], max, Contains, IfOk, IsSome, IsTrue, length, vec_len, vec_capacity};
-ghost use Rattle.std.specs.Map.{keys_of};
-ghost use Rattle.edge_kit.specs.declared.bytes.PubKey.{PubKey};
-ghost use Rattle.slash_defs.specs.declared.message.Message.{Message};
+ghost use Rattle.std.specs.Prelude.{◌≡◌, ◌⊎◌, ◌+◌, ◌≤◌, ◌++◌, ◌∷◌, [], ℕ, List, None, Some, Contains, option_copied};
+ghost use Rattle.edge_kit.specs.Causes.{Rose};
+ghost use Rattle.edge_kit.specs.Disks.{LeavesOnly};
 ghost use Rattle.record_join.specs.Keys.{kept_of};
-ghost use Rattle.record_join.specs.BooksPasts.{EachOnce, key_limit};
-ghost use Rattle.check_sign.specs.Contents.{Contents};
-ghost use Rattle.check_sign.specs.States.{State, no_state, DeskStands};
+ghost use Rattle.record_join.specs.BooksPasts.{EachOnce};
+ghost use Rattle.check_sign.specs.States.{State, DeskStands, MayOpen};
 ghost use Rattle.check_sign.specs.Machine.{MayCall, Reply, after, noted, moment_limit, IsOpenIn, IsGrantFor};
-ghost use Rattle.check_sign.specs.declared.open_grant.OpenGrant.{OpenGrant};
+ghost use Rattle.check_sign.specs.Writing.{Moved, journal_of};
 
-use crate::call::{DeskCall, DeskReply, Outcome};
+use crate::call::{DeskCall, DeskReply, Keys, Outcome};
 use crate::event::{DeskEvent, Event, Events};
-use crate::exporting::exports_of;
 use crate::grant::Grant;
 use crate::open_grant::OpenGrant;
-use crate::room::{close_one, fits_one, give, make_room, note, note_merge};
-use edge_kit::{PubKey, Root};
-use record_join::{Books, Keys, MergeFault, Pruned, Taken};
+use crate::room::{close_one, note};
+use edge_kit::{Disk, Disks, PubKey, Root};
+use protect_record::Record;
+use record_join::Books;
+use record_journal::Journal;
+use record_replay::KeyState;
 use slash_defs::{File, Message};
-use std::alloc::{AllocError, Global};
-use std::collections::BTreeSet;
+use std::alloc::Global;
+use std::collections::BTreeMap;
 use std::marker::Model;
 
-/// The desk: the kept keys with what was imported and signed for each, which of them may sign, and the
-/// grants that are open. It decides whether a message may be signed, and keeps what it decided.
+/// The desk: the kept keys with what was imported and signed for each, their states, and the grants that are
+/// open. It decides whether a message may be signed, and has what it decided on its disk before it grants.
 #[derive(Drop)]
-pub struct Desk {
-    alloc: Global,
-    genesis: Root,
-    books: Books,
-    active: BTreeSet<PubKey>,
-    grants: Vec<OpenGrant>,
-    next: u64,
-    latest: u64,
-    events: Vec<DeskEvent>,
+pub struct Desk<D: Disk> {
+    pub(crate) alloc: Global,
+    pub(crate) genesis: Root,
+    pub(crate) watch: bool,
+    pub(crate) journal: Journal<D>,
+    pub(crate) second: D,
+    pub(crate) books: Books,
+    pub(crate) states: BTreeMap<PubKey, KeyState>,
+    pub(crate) grants: Vec<OpenGrant>,
+    pub(crate) next: u64,
+    pub(crate) latest: u64,
+    pub(crate) events: Vec<DeskEvent>,
+    pub(crate) closable: usize,
 }
 
-impl Model for Desk {
+impl<D: Disk> Model for Desk<D> {
     ghost use Rattle.std.specs.Prelude.{◌+◌, ◌≤◌, vec_len, vec_capacity};
-    ghost use Rattle.check_sign.specs.Contents.{Contents};
+    ghost use Rattle.check_sign.specs.Contents.{Contents, Seen};
+    ghost use Rattle.check_sign.specs.Marking.{count_active};
+    ghost use Rattle.check_sign.specs.Writing.{HoldsJournal};
 
-    ghost Value = { Contents };
+    ghost Value = { Seen D };
 
-    ghost view = { λ d. record { genesis = d.genesis; keys = d.books; active = d.active.keys; grants = d.grants.items; next = d.next; latest = d.latest; events = d.events.items } };
+    ghost view = { λ d. record { disk = d.journal.disk; second = d.second; contents = record {
+      genesis = d.genesis; keys = d.books; states = d.states.entries; grants = d.grants.items; next = d.next; latest = d.latest; watch = d.watch;
+      events = d.events.items; payloads = d.journal.payloads; size = d.journal.size; torn = d.journal.torn } } };
 
-    ghost invariant = { λ d. (vec_len d.events + vec_len d.grants ≤ vec_capacity d.events) × (d.next ≤ vec_len d.events) };
+    // There is room for the events of settling each open grant and of beginning to close each active key.
+    ghost invariant = { λ d. (vec_len d.events + vec_len d.grants + d.closable ≤ vec_capacity d.events) × (d.next ≤ vec_len d.events)
+        × (count_active d.states.entries ≤ d.closable) × HoldsJournal D.moment D.leaves d.genesis d.journal };
 }
 
-impl Desk {
-    /// A desk without keys, for the chain with this root of genesis validators. Takes no memory.
-    pub fn new(alloc: Global, genesis: Root) -> Self
-        ensures stands { DeskStands result (no_state genesis) }
-        ensures events { result.events ≡ [] }
+impl<D: Disk> Desk<D> {
+    /// One call of the desk machine, whichever state the desk stands for. After a refusal, want of memory
+    /// too, the desk is as before but for the latest moment; after `Disk` it has failed.
+    pub fn call(&mut self, call: DeskCall) -> DeskReply
+        requires { MayCall self.old.contents.grants call }
+        ensures machine { (state : State) → DeskStands self.old.contents state → Reply state (call) result × DeskStands self.new.contents (after state (call) result) }
+        ensures events { self.new.contents.events ≡ self.old.contents.events ++ noted self.old.contents.latest (call) result }
+        ensures is_open { IsOpenIn self.new.contents.grants result }
+        ensures granted { IsGrantFor (call) result }
+        ensures rose { result ≡ DeskReply.Disk → self.old.contents.torn ≡ None → Rose (D.faults self.old.disk) (D.faults self.new.disk) }
+        // A crash at any moment of the call leaves a file that opens to what lasts of the state before or of the state after,
+        // and from now on of the latter.
+        ensures any_moment { (state : State) → DeskStands self.old.contents state → LeavesOnly D.moment D.leaves self.old.disk self.new.disk (λ c. MayOpen self.old.contents.genesis state c ⊎ MayOpen self.old.contents.genesis (after state (call) result) c) }
+        ensures left { (state : State) → DeskStands self.new.contents state → (c : List ℕ) → D.leaves self.new.disk (D.moment self.new.disk) c → MayOpen self.new.contents.genesis state c }
+        ensures later { D.faults self.old.disk ≤ D.faults self.new.disk }
+        ensures genesis { self.new.contents.genesis ≡ self.old.contents.genesis }
+        ensures second { self.new.second ≡ self.old.second }
     {
-        Desk {
-            alloc,
-            genesis,
-            books: Books::new(alloc),
-            active: BTreeSet::new(alloc),
-            grants: Vec::new(alloc),
-            next: 0,
-            latest: 0,
-            events: Vec::new(alloc),
-        }
+        self.dispatch(call)
     }
 
-    /// One call of the desk machine, whichever state the desk stands for. After a refusal, want of memory
-    /// too, the desk is as before but for the latest moment.
-    pub fn call(&mut self, call: DeskCall) -> DeskReply
-        requires { MayCall self.old.grants call }
-        ensures machine { (state : State) → DeskStands self.old state → Reply state call result × DeskStands self.new (after state call result) }
-        ensures events { self.new.events ≡ self.old.events ++ noted self.old.latest call result }
-        ensures is_open { IsOpenIn self.new.grants result }
-        ensures granted { IsGrantFor call result }
+    /// Does a call.
+    fn dispatch(&mut self, call: DeskCall) -> DeskReply
+        requires { MayCall self.old.contents.grants call }
+        ensures machine { (state : State) → DeskStands self.old.contents state → Reply state (call) result × DeskStands self.new.contents (after state (call) result) }
+        ensures events { self.new.contents.events ≡ self.old.contents.events ++ noted self.old.contents.latest (call) result }
+        ensures is_open { IsOpenIn self.new.contents.grants result }
+        ensures granted { IsGrantFor (call) result }
+        ensures rose { result ≡ DeskReply.Disk → self.old.contents.torn ≡ None → Rose (D.faults self.old.disk) (D.faults self.new.disk) }
+        ensures moved { Moved D.moment D.leaves D.faults (journal_of self.old) (journal_of self.new) }
+        ensures genesis { self.new.contents.genesis ≡ self.old.contents.genesis }
+        ensures second { self.new.second ≡ self.old.second }
     {
         match call {
-            DeskCall::Merge { file } => self.merge(file),
-            DeskCall::Activate { key, now } => self.activate(key, now),
-            DeskCall::Propose { key, message, now } => self.propose(key, message, now),
-            DeskCall::Settle { grant, outcome } => {
-                self.settle(grant, outcome);
-                DeskReply::Settled
-            }
-            DeskCall::Export { keys } => self.export(keys),
-            DeskCall::Prune { key } => self.prune(key),
+            DeskCall::Merge { file } => self.merge_file(file),
+            DeskCall::Activate { key, now } => self.activate_key(key, now),
+            DeskCall::Propose { key, message, now } => self.propose_message(key, message, now),
+            DeskCall::Settle { grant, outcome } => self.settle_grant(grant, outcome),
+            DeskCall::BeginClose { key } => self.begin_closing(key),
+            DeskCall::FinishClose { key } => self.finish_closing(key),
+            DeskCall::Export { keys } => self.export_keys(keys),
+            DeskCall::Prune { key } => self.prune_key(key),
+            DeskCall::Keys => self.list_states(),
+            DeskCall::HasFailed => self.tell_failed(),
         }
     }
 
-    /// The kept keys, in order.
-    ///
-    /// # Errors
-    ///
-    /// `AllocError` where memory was wanted.
-    pub fn kept_keys(&self) -> Result<Keys, AllocError>
-        ensures { IfOk result (λ keys. keys ≡ keys_of self.now.keys) }
-    {
-        self.books.keys(self.alloc)
-    }
-
-    /// What the desk did since it was opened, in order. The desk ends. Takes no memory.
-    pub fn end(self) -> Events
-        ensures { result ≡ self.events }
-    {
-        Events::from_vec(self.events)
-    }
-
-    /// Merges a file, and keeps each of its keys. Refused by `GenesisDiffers` exactly where the file is of
-    /// another chain, by `TooManyKeys` exactly where more than 65,536 keys would be kept, and by `OutOfMemory`.
-    pub fn merge(&mut self, file: File) -> DeskReply
-        requires { EachOnce file.books }
-        ensures machine { (state : State) → DeskStands self.old state → Reply state (DeskCall.Merge file) result × DeskStands self.new (after state (DeskCall.Merge file) result) }
-        ensures events { self.new.events ≡ self.old.events ++ noted self.old.latest (DeskCall.Merge file) result }
-        ensures is_open { IsOpenIn self.new.grants result }
-        ensures granted { IsGrantFor (DeskCall.Merge file) result }
-        ensures latest { self.new.latest ≡ self.old.latest }
-    {
-        if file.genesis != self.genesis {
-            return DeskReply::GenesisDiffers {
-                kept: self.genesis,
-                given: file.genesis,
-            };
-        }
-        let has_room = make_room(&mut self.events, &mut self.grants);
-        match self.books.merge_file(&file, has_room) {
-            Ok(()) => {
-                let keys = file.books.len() as u64;
-                note_merge(&mut self.events, file, self.latest);
-                DeskReply::Merged { keys }
-            }
-            Err(MergeFault::TooManyKeys { have, new }) => DeskReply::TooManyKeys { have, new },
-            Err(MergeFault::OutOfMemory) => DeskReply::OutOfMemory,
-        }
-    }
-
-    /// Makes a key active: `Active`, or `Already` where it was. Refused by `TooManyKeys` exactly where 65,536
-    /// keys are kept and this is another, and by `OutOfMemory`.
-    pub fn activate(&mut self, key: PubKey, now: u64) -> DeskReply
-        requires { now ≤ moment_limit }
-        ensures machine { (state : State) → DeskStands self.old state → Reply state (DeskCall.Activate key now) result × DeskStands self.new (after state (DeskCall.Activate key now) result) }
-        ensures events { self.new.events ≡ self.old.events ++ noted self.old.latest (DeskCall.Activate key now) result }
-        ensures is_open { IsOpenIn self.new.grants result }
-        ensures granted { IsGrantFor (DeskCall.Activate key now) result }
-        ensures latest { self.new.latest ≡ max self.old.latest now }
-    {
-        self.latest = self.latest.max(now);
-        if self.active.contains(&key) {
-            return DeskReply::Already;
-        }
-        if !fits_one(&self.books, &key) {
-            return DeskReply::TooManyKeys {
-                have: self.books.len() as u64,
-                new: 1,
-            };
-        }
-        if !make_room(&mut self.events, &mut self.grants) {
-            return DeskReply::OutOfMemory;
-        }
-        let Ok(_) = self.active.insert(key) else {
-            return DeskReply::OutOfMemory;
-        };
-        let Ok(()) = self.books.begin(key) else {
-            self.active.remove(&key);
-            return DeskReply::OutOfMemory;
-        };
-        note(&mut self.events, Event::Activated { key }, self.latest);
-        DeskReply::Active
-    }
-
-    /// Grants a proposal exactly where the key is active and its past lets it pass, and keeps it among the
-    /// key's own messages. Refused by `Unknown` exactly where no past is kept, by `NotActive` exactly where
-    /// one is and the key is not active, by the first verdict that holds, and by `OutOfMemory`. The grant has
-    /// to be spent by `settle`.
-    pub fn propose(&mut self, key: PubKey, message: Message, now: u64) -> DeskReply
-        requires { now ≤ moment_limit }
-        ensures machine { (state : State) → DeskStands self.old state → Reply state (DeskCall.Propose key message now) result × DeskStands self.new (after state (DeskCall.Propose key message now) result) }
-        ensures events { self.new.events ≡ self.old.events ++ noted self.old.latest (DeskCall.Propose key message now) result }
-        ensures is_open { IsOpenIn self.new.grants result }
-        ensures granted { IsGrantFor (DeskCall.Propose key message now) result }
-        ensures latest { self.new.latest ≡ max self.old.latest now }
-    {
-        self.latest = self.latest.max(now);
-        let Some(_) = self.books.get(&key) else {
-            return DeskReply::Unknown;
-        };
-        if !self.active.contains(&key) {
-            return DeskReply::NotActive;
-        }
-        let has_room = make_room(&mut self.events, &mut self.grants);
-        match self.books.take_in(&key, &message, has_room) {
-            Taken::Unknown => DeskReply::Unknown,
-            Taken::Refused(verdict) => DeskReply::Refused(verdict),
-            Taken::NoRoom => DeskReply::OutOfMemory,
-            Taken::Added => {
-                let granted = OpenGrant {
-                    number: self.next,
-                    key,
-                    message: Some(message),
-                };
-                self.next += 1;
-                let latest = self.latest;
-                DeskReply::Granted(give(
-                    &mut self.events,
-                    &mut self.grants,
-                    granted,
-                    message,
-                    latest,
-                ))
-            }
-        }
-    }
-
-    /// Spends a grant that is open at this desk: `Sent` wherever sending was begun, else `Dropped`. Takes no
-    /// memory.
-    pub fn settle(&mut self, grant: Grant, outcome: Outcome)
-        requires { Contains self.old.grants grant }
-        ensures machine { (state : State) → DeskStands self.old state → DeskStands self.new (after state (DeskCall.Settle grant outcome) DeskReply.Settled) }
-        ensures events { self.new.events ≡ self.old.events ++ noted self.old.latest (DeskCall.Settle grant outcome) DeskReply.Settled }
+    /// Spends a grant that is open at this desk. Takes no memory.
+    pub(crate) fn settle_grant(&mut self, grant: Grant, outcome: Outcome) -> DeskReply
+        requires { Contains self.old.contents.grants grant }
+        ensures machine { (state : State) → DeskStands self.old.contents state → Reply state (DeskCall.Settle grant outcome) result × DeskStands self.new.contents (after state (DeskCall.Settle grant outcome) result) }
+        ensures events { self.new.contents.events ≡ self.old.contents.events ++ noted self.old.contents.latest (DeskCall.Settle grant outcome) result }
+        ensures is_open { IsOpenIn self.new.contents.grants result }
+        ensures granted { IsGrantFor (DeskCall.Settle grant outcome) result }
+        ensures rose { result ≡ DeskReply.Disk → self.old.contents.torn ≡ None → Rose (D.faults self.old.disk) (D.faults self.new.disk) }
+        ensures moved { Moved D.moment D.leaves D.faults (journal_of self.old) (journal_of self.new) }
+        ensures genesis { self.new.contents.genesis ≡ self.old.contents.genesis }
+        ensures second { self.new.second ≡ self.old.second }
     {
         let Grant {
             number,
@@ -229,58 +128,34 @@ impl Desk {
             outcome,
         };
         note(&mut self.events, settled, self.latest);
+        DeskReply::Settled
     }
 
-    /// The interchange file (EIP-3076) of those of the keys that are kept, in key order, each once. What it
-    /// does not refuse, the key's past lets pass. Refused by `OutOfMemory` alone.
-    pub fn export(&mut self, keys: Keys) -> DeskReply
-        ensures machine { (state : State) → DeskStands self.old state → Reply state (DeskCall.Export keys) result × DeskStands self.new (after state (DeskCall.Export keys) result) }
-        ensures events { self.new.events ≡ self.old.events ++ noted self.old.latest (DeskCall.Export keys) result }
-        ensures is_open { IsOpenIn self.new.grants result }
-        ensures granted { IsGrantFor (DeskCall.Export keys) result }
-        ensures latest { self.new.latest ≡ self.old.latest }
+    /// What the desk did since it was opened, in order. Takes no memory.
+    pub fn events(&self) -> &[DeskEvent]
+        ensures { result.now ≡ self.now.contents.events }
     {
-        match exports_of(self.alloc, &self.books, keys.as_slice()) {
-            Ok(books) => DeskReply::Exported(File {
-                genesis: self.genesis,
-                books,
-            }),
-            Err(AllocError) => DeskReply::OutOfMemory,
-        }
+        self.events.as_slice()
     }
 
-    /// Prunes the record of a key, and gives the book that it gained. No more passes than before. Refused by
-    /// `Unknown` exactly where no past is kept, and by `OutOfMemory`.
-    pub fn prune(&mut self, key: PubKey) -> DeskReply
-        ensures machine { (state : State) → DeskStands self.old state → Reply state (DeskCall.Prune key) result × DeskStands self.new (after state (DeskCall.Prune key) result) }
-        ensures events { self.new.events ≡ self.old.events ++ noted self.old.latest (DeskCall.Prune key) result }
-        ensures is_open { IsOpenIn self.new.grants result }
-        ensures granted { IsGrantFor (DeskCall.Prune key) result }
-        ensures latest { self.new.latest ≡ self.old.latest }
+    /// The record of a key, lent, if a past is kept of it. It stands for the key's past. Takes no memory.
+    pub fn kept(&self, key: &PubKey) -> Option<&Record>
+        ensures { option_copied result ≡ kept_of self.now.contents.keys key.now }
     {
-        let Some(record) = self.books.get(&key) else {
-            return DeskReply::Unknown;
+        self.books.get(key)
+    }
+
+    /// The disks as they are, and what the desk did since it was opened, in order. Takes no memory.
+    pub fn end(self) -> (Disks<D>, Events)
+        ensures first { result.0.first ≡ self.disk }
+        ensures second { result.0.second ≡ self.second }
+        ensures events { result.1 ≡ self.contents.events }
+        ensures left { (state : State) → DeskStands self.contents state → (c : List ℕ) → D.leaves self.disk (D.moment self.disk) c → MayOpen self.contents.genesis state c }
+    {
+        let disks = Disks {
+            first: self.journal.end(),
+            second: self.second,
         };
-        let Ok(book) = record.pruning_book(self.alloc) else {
-            return DeskReply::OutOfMemory;
-        };
-        let Ok(noted) = record.pruning_book(self.alloc) else {
-            return DeskReply::OutOfMemory;
-        };
-        if !make_room(&mut self.events, &mut self.grants) {
-            return DeskReply::OutOfMemory;
-        }
-        match self.books.prune(&key) {
-            Ok(Pruned::Done) => {
-                note(
-                    &mut self.events,
-                    Event::Pruned { key, book: noted },
-                    self.latest,
-                );
-                DeskReply::Pruned(book)
-            }
-            Ok(Pruned::Unknown) => DeskReply::Unknown,
-            Err(AllocError) => DeskReply::OutOfMemory,
-        }
+        (disks, Events::from_vec(self.events))
     }
 }

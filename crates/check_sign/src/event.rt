@@ -25,6 +25,15 @@ pub enum Event {
         grant: u64,
         outcome: Outcome,
     },
+    /// A key began to be closed.
+    CloseBegun {
+        key: PubKey,
+    },
+    /// A key was closed, and this is what is handed over of it.
+    Closed {
+        key: PubKey,
+        book: Book,
+    },
     /// A key's record was pruned by this book.
     Pruned {
         key: PubKey,

@@ -1,14 +1,19 @@
 //! What is handed over of the kept keys.
-ghost use Rattle.std.specs.Prelude.{◌≡◌, ◌++◌, ◌∷◌, [], List, IfOk, OnOk};
+ghost use Rattle.std.specs.Prelude.{◌≡◌, ◌++◌, ◌∷◌, [], List, map, IfOk, OnOk};
+ghost use Rattle.std.specs.Map.{keys_of};
 ghost use Rattle.edge_kit.specs.declared.bytes.PubKey.{PubKey};
 ghost use Rattle.protect_record.specs.Pasts.{Past};
 ghost use Rattle.std.specs.BTreeMap.{IsOrdered};
 ghost use Rattle.record_join.specs.Keys.{key_cmp};
 ghost use Rattle.record_join.specs.BooksPasts.{BooksStand};
 ghost use Rattle.check_sign.specs.Handing.{Exports, AreExports};
+ghost use Rattle.check_sign.specs.States.{key_state};
 
+use crate::call::KeyStates;
+use crate::marking::state_of;
 use edge_kit::{Items, PubKey};
 use record_join::Books;
+use record_replay::KeyState;
 use slash_defs::Book;
 use std::alloc::{AllocError, Global};
 use std::collections::BTreeMap;
@@ -51,4 +56,19 @@ fn export_one(
         Ok(_) => Ok(()),
         Err(_) => Err(AllocError),
     }
+}
+
+/// The kept keys in order, each with its state.
+pub fn states_of(
+    alloc: Global,
+    books: &Books,
+    states: &BTreeMap<PubKey, KeyState>,
+) -> Result<KeyStates, AllocError>
+    ensures { IfOk result (λ listed. listed ≡ map (λ key. (key, key_state states.now.entries key)) (keys_of books.now)) }
+{
+    let listed = books
+        .iter()
+        .map(|(key, _)| (*key, state_of(states, key)))
+        .collect(alloc)?;
+    Ok(Items::from_vec(listed))
 }

@@ -3,6 +3,7 @@ ghost use Rattle.std.specs.Prelude.{◌≡◌, ◌+◌, ◌<◌, ◌≤◌, ◌�
 ghost use Rattle.record_join.specs.Keys.{kept_of};
 ghost use Rattle.record_join.specs.BooksPasts.{key_limit};
 ghost use Rattle.check_sign.specs.Machine.{without, noted_merge};
+ghost use Rattle.check_sign.specs.States.{open_grants};
 ghost use Rattle.check_sign.specs.declared.open_grant.OpenGrant.{OpenGrant};
 
 use crate::event::{DeskEvent, Event};
@@ -12,18 +13,26 @@ use edge_kit::PubKey;
 use record_join::{Books, KEY_LIMIT};
 use slash_defs::{File, Message};
 
-/// Makes room for one more grant: for its event, for the event of its settling, and for itself. Whether
-/// there is room; it fails only where there was too little.
-pub fn make_room(events: &mut Vec<DeskEvent>, grants: &mut Vec<OpenGrant>) -> bool
+/// Makes room for one more grant: for its event, for the event of its settling, and for itself, beside the
+/// events of settling those that are open and of beginning to close so many keys. Whether there is room; it
+/// fails only where there was too little.
+pub fn make_room(
+    events: &mut Vec<DeskEvent>,
+    grants: &mut Vec<OpenGrant>,
+    closable: usize,
+) -> bool
     ensures events { events.new.items ≡ events.old.items }
     ensures events_len { vec_len events.new ≡ vec_len events.old }
     ensures kept { grants.new.items ≡ grants.old.items }
     ensures kept_len { vec_len grants.new ≡ vec_len grants.old }
     ensures no_less { vec_capacity events.old ≤ vec_capacity events.new }
-    ensures refused { result ≡ false → (vec_capacity events.old < vec_len events.old + vec_len grants.old + 2) ⊎ (vec_capacity grants.old < vec_len grants.old + 1) }
-    ensures room { IsTrue result → (vec_len events.new + vec_len grants.new + 2 ≤ vec_capacity events.new) × (vec_len grants.new < vec_capacity grants.new) }
+    ensures refused { result ≡ false → (vec_capacity events.old < vec_len events.old + vec_len grants.old + closable + 2) ⊎ (vec_capacity grants.old < vec_len grants.old + 1) }
+    ensures room { IsTrue result → (vec_len events.new + vec_len grants.new + closable + 2 ≤ vec_capacity events.new) × (vec_len grants.new < vec_capacity grants.new) }
 {
-    let Some(wanted) = grants.len().checked_add(2) else {
+    let Some(settling) = grants.len().checked_add(2) else {
+        return false;
+    };
+    let Some(wanted) = settling.checked_add(closable) else {
         return false;
     };
     if events.reserve(wanted).is_err() {
@@ -132,5 +141,23 @@ pub fn fits_one(books: &Books, key: &PubKey) -> bool
     match books.get(key) {
         Some(_) => true,
         None => books.len() < KEY_LIMIT,
+    }
+}
+
+/// How many of the open grants are of this key.
+pub fn count_of(grants: &[OpenGrant], key: &PubKey) -> usize
+    ensures { result ≡ open_grants grants.now key.now }
+{
+    grants.iter().filter(|grant| grant.key == *key).count()
+}
+
+/// A grant to be opened.
+pub fn open_grant(number: u64, key: PubKey, message: Message) -> OpenGrant
+    ensures { result ≡ record { number = number; key = key; message = Some message } }
+{
+    OpenGrant {
+        number,
+        key,
+        message: Some(message),
     }
 }

@@ -1,0 +1,43 @@
+-- From what a journal's file may read as to what it may open to.
+use Rattle.std.proofs.Common.{◌≡◌, ◌⊎◌, inl, inr, ⊎_elim, ℕ, List, [], ◌∷◌, ◌++◌, Option, Some, None, refl, sym, ap, subst, arith}
+use Rattle.std.specs.Prelude.{IsSomeAnd}
+use Rattle.edge_kit.specs.Disks.{LeavesOnly}
+use Rattle.edge_kit.specs.declared.bytes.Root.{Root}
+use Rattle.edge_kit.proofs.Moments.{leaves_weaker, leaves_now}
+use Rattle.record_journal.specs.Frames.{Reading, Kept, reading, begun}
+use Rattle.record_journal.specs.Journals.{Journaled, MayRead}
+use Rattle.check_sign.specs.Contents.{Contents, Seen}
+use Rattle.check_sign.specs.States.{State, Lasting, DeskStands, TornStands, PayloadsStand, Opens, MayOpen}
+use Rattle.check_sign.specs.Writing.{Moved, HoldsJournal, journal_of}
+
+torn_opens : (genesis : Root) (file : List ℕ) (ps : List (List ℕ)) (t : Option (List ℕ)) (l : Option Lasting) → TornStands ps t l
+    → IsSomeAnd t (λ p. reading genesis.0 file ≡ Kept (ps ++ p ∷ [])) → IsSomeAnd l (λ x. Opens genesis file x)
+torn_opens genesis file ps None None s read = absurd read
+torn_opens genesis file ps None (Some l) s read = absurd read
+torn_opens genesis file ps (Some p) None s read = absurd s
+torn_opens genesis file ps (Some p) (Some l) s read = record { payloads = ps ++ p ∷ []; read = ap begun read; stand = s }
+
+pub may_open : {D : Type 0} (seen : Seen D) (state : State) → DeskStands seen.contents state → (file : List ℕ) → MayRead (journal_of seen) file → MayOpen seen.contents.genesis state file
+may_open seen state s file (inl read) = inl (record { payloads = seen.contents.payloads; read = ap begun read; stand = s.payloads })
+may_open seen state s file (inr read) = inr (torn_opens seen.contents.genesis file seen.contents.payloads seen.contents.torn state.torn s.torn read)
+
+module _ {D : Type 0} (moment : D → ℕ) (leaves : D → ℕ → List ℕ → Type 0) (faults : D → ℕ) where
+  pub moments_open : (old new : Seen D) (state now : State) → Moved moment leaves faults (journal_of old) (journal_of new) → new.contents.genesis ≡ old.contents.genesis
+      → DeskStands old.contents state → DeskStands new.contents now
+      → LeavesOnly moment leaves old.disk new.disk (λ c. MayOpen old.contents.genesis state c ⊎ MayOpen old.contents.genesis now c)
+  moments_open old new state now moved same s t =
+      leaves_weaker moment leaves old.disk new.disk (λ c. MayRead (journal_of old) c ⊎ MayRead (journal_of new) c) (λ c. MayOpen old.contents.genesis state c ⊎ MayOpen old.contents.genesis now c) moved.moments
+      (λ c either. ⊎_elim (λ read. inl (may_open old state s c read)) (λ read. inr (subst (λ (g : Root). MayOpen g now c) same (may_open new now t c read))) either)
+
+  pub left_opens : (old new : Seen D) (state : State) → Moved moment leaves faults (journal_of old) (journal_of new) → DeskStands new.contents state
+      → (c : List ℕ) → leaves new.disk (moment new.disk) c → MayOpen new.contents.genesis state c
+  left_opens old new state moved s c left = may_open new state s c (moved.left c left)
+
+  -- where nothing was written
+  pub still : (old : Journaled D) → ((c : List ℕ) → leaves old.disk (moment old.disk) c → MayRead old c) → Moved moment leaves faults old old
+  still old left = record {
+    moments = leaves_now moment leaves old.disk (λ c. MayRead old c ⊎ MayRead old c) (λ c l. inl (left c l));
+    left = left;
+    root = refl;
+    later = omega arith;
+  }

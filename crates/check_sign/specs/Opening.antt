@@ -1,0 +1,29 @@
+-- How the opening of a desk may end.
+use Rattle.std.specs.Prelude.{◌≡◌, ℕ, ◌<◌, List, Some, length, ⊤}
+use Rattle.edge_kit.specs.declared.bytes.Root.{Root}
+use Rattle.record_journal.specs.Frames.{reading, begun}
+use Rattle.record_journal.specs.Opened.{Read, FaultIs}
+use Rattle.record_join.specs.BooksPasts.{key_limit}
+use Rattle.record_replay.specs.Items.{items_in, named_keys}
+use Rattle.record_journal.specs.declared.open.OpenFault.TheVariants as journal_fault
+use Rattle.record_replay.specs.declared.fault.ReplayFault.{ReplayFault}
+use Rattle.record_replay.specs.declared.fault.ReplayFault.TheVariants as replay_fault
+use Rattle.check_sign.specs.declared.open.OpenFault.{OpenFault}
+use Rattle.check_sign.specs.declared.open.OpenFault.TheVariants as fault
+
+-- the file names more keys than may be kept: so many
+pub record NamesTooMany (genesis : Root) (new : ℕ) (file : List ℕ) : Type 0 where
+  pub payloads : List (List ℕ)
+  pub read : begun (reading genesis.0 file) ≡ Some payloads
+  pub count : new ≡ length (named_keys (items_in payloads))
+  pub over : key_limit < new
+
+-- a fault of opening is the file's own, or one of the outside
+abbrev pub OpenFaultIs : {D : Type 0} → (D → List ℕ → Type 0) → D → Root → OpenFault → Type 0
+OpenFaultIs shows disk genesis (fault.Journal f) = FaultIs shows disk genesis.0 f
+OpenFaultIs shows disk genesis (fault.TooManyKeys have new) = (have ≡ 0) × Read shows disk (NamesTooMany genesis new)
+
+-- the fault of opening where the payloads are not replayed
+abbrev pub open_fault_of : ReplayFault → OpenFault
+open_fault_of (replay_fault.TooManyKeys have new) = fault.TooManyKeys have new
+open_fault_of replay_fault.OutOfMemory = fault.Journal journal_fault.OutOfMemory

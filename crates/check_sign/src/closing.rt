@@ -1,0 +1,137 @@
+//! Keys that become active, and keys that are closed.
+ghost use Rattle.std.specs.Prelude.{◌≡◌, ◌≢◌, ◌⊎◌, ◌+◌, ◌-◌, ◌<◌, ◌≤◌, ◌++◌, ◌∷◌, [], None, Some, max, Contains, length};
+ghost use Rattle.edge_kit.specs.Causes.{Rose};
+ghost use Rattle.record_join.specs.BooksPasts.{EachOnce};
+ghost use Rattle.check_sign.specs.States.{State, DeskStands};
+ghost use Rattle.check_sign.specs.Machine.{Reply, after, noted, moment_limit, IsOpenIn, IsGrantFor};
+ghost use Rattle.check_sign.specs.Writing.{Moved, journal_of};
+
+use crate::call::DeskReply;
+use crate::desk::Desk;
+use crate::event::Event;
+use crate::marking::{mark_active, set_state, state_of, unmark};
+use crate::room::{count_of, fits_one, make_room, note};
+use crate::writing::{refusal, write_items};
+use edge_kit::{Disk, PubKey};
+use record_codec::JournalItem;
+use record_replay::KeyState;
+
+impl<D: Disk> Desk<D> {
+    /// Makes a key active.
+    pub(crate) fn activate_key(&mut self, key: PubKey, now: u64) -> DeskReply
+        requires { now ≤ moment_limit }
+        ensures machine { (state : State) → DeskStands self.old.contents state → Reply state (DeskCall.Activate key now) result × DeskStands self.new.contents (after state (DeskCall.Activate key now) result) }
+        ensures events { self.new.contents.events ≡ self.old.contents.events ++ noted self.old.contents.latest (DeskCall.Activate key now) result }
+        ensures is_open { IsOpenIn self.new.contents.grants result }
+        ensures granted { IsGrantFor (DeskCall.Activate key now) result }
+        ensures rose { result ≡ DeskReply.Disk → self.old.contents.torn ≡ None → Rose (D.faults self.old.disk) (D.faults self.new.disk) }
+        ensures moved { Moved D.moment D.leaves D.faults (journal_of self.old) (journal_of self.new) }
+        ensures genesis { self.new.contents.genesis ≡ self.old.contents.genesis }
+        ensures second { self.new.second ≡ self.old.second }
+    {
+        self.latest = self.latest.max(now);
+        if self.journal.failed() {
+            return DeskReply::Disk;
+        }
+        match state_of(&self.states, &key) {
+            KeyState::Active => return DeskReply::Already,
+            KeyState::Closing => return DeskReply::Closing,
+            KeyState::Known | KeyState::Closed => {}
+        }
+        if !fits_one(&self.books, &key) {
+            return DeskReply::TooManyKeys {
+                have: self.books.len() as u64,
+                new: 1,
+            };
+        }
+        if !make_room(&mut self.events, &mut self.grants, self.closable) {
+            return DeskReply::OutOfMemory;
+        }
+        let Ok(fresh) = self.books.prepare_key(key) else {
+            return DeskReply::OutOfMemory;
+        };
+        let Ok(before) = mark_active(&mut self.states, key) else {
+            self.books.take_back(fresh);
+            return DeskReply::OutOfMemory;
+        };
+        let items = [JournalItem::Activate { key }];
+        if let Err(fault) = write_items(&mut self.journal, self.alloc, &items) {
+            unmark(&mut self.states, &key, before);
+            self.books.take_back(fresh);
+            return refusal(fault);
+        }
+        self.closable += 1;
+        note(&mut self.events, Event::Activated { key }, self.latest);
+        DeskReply::Active
+    }
+
+    /// Begins to close an active key. Takes no memory.
+    pub(crate) fn begin_closing(&mut self, key: PubKey) -> DeskReply
+        ensures machine { (state : State) → DeskStands self.old.contents state → Reply state (DeskCall.BeginClose key) result × DeskStands self.new.contents (after state (DeskCall.BeginClose key) result) }
+        ensures events { self.new.contents.events ≡ self.old.contents.events ++ noted self.old.contents.latest (DeskCall.BeginClose key) result }
+        ensures is_open { IsOpenIn self.new.contents.grants result }
+        ensures granted { IsGrantFor (DeskCall.BeginClose key) result }
+        ensures rose { result ≡ DeskReply.Disk → self.old.contents.torn ≡ None → Rose (D.faults self.old.disk) (D.faults self.new.disk) }
+        ensures moved { Moved D.moment D.leaves D.faults (journal_of self.old) (journal_of self.new) }
+        ensures genesis { self.new.contents.genesis ≡ self.old.contents.genesis }
+        ensures second { self.new.second ≡ self.old.second }
+    {
+        let Some(_) = self.books.get(&key) else {
+            return DeskReply::Unknown;
+        };
+        match state_of(&self.states, &key) {
+            KeyState::Active => {
+                set_state(&mut self.states, &key, KeyState::Closing);
+                self.closable -= 1;
+                note(&mut self.events, Event::CloseBegun { key }, self.latest);
+                DeskReply::CloseBegun
+            }
+            KeyState::Closing => DeskReply::AlreadyClosing,
+            KeyState::Known | KeyState::Closed => DeskReply::NotActive,
+        }
+    }
+
+    /// Closes a key that is being closed, of which no grant is open.
+    pub(crate) fn finish_closing(&mut self, key: PubKey) -> DeskReply
+        ensures machine { (state : State) → DeskStands self.old.contents state → Reply state (DeskCall.FinishClose key) result × DeskStands self.new.contents (after state (DeskCall.FinishClose key) result) }
+        ensures events { self.new.contents.events ≡ self.old.contents.events ++ noted self.old.contents.latest (DeskCall.FinishClose key) result }
+        ensures is_open { IsOpenIn self.new.contents.grants result }
+        ensures granted { IsGrantFor (DeskCall.FinishClose key) result }
+        ensures rose { result ≡ DeskReply.Disk → self.old.contents.torn ≡ None → Rose (D.faults self.old.disk) (D.faults self.new.disk) }
+        ensures moved { Moved D.moment D.leaves D.faults (journal_of self.old) (journal_of self.new) }
+        ensures genesis { self.new.contents.genesis ≡ self.old.contents.genesis }
+        ensures second { self.new.second ≡ self.old.second }
+    {
+        if self.journal.failed() {
+            return DeskReply::Disk;
+        }
+        let Some(record) = self.books.get(&key) else {
+            return DeskReply::Unknown;
+        };
+        let state = state_of(&self.states, &key);
+        if state != KeyState::Closing {
+            return DeskReply::NotClosing(state);
+        }
+        let grants = count_of(&self.grants, &key) as u64;
+        if grants > 0 {
+            return DeskReply::Busy { grants };
+        }
+        let Ok(book) = record.export(self.alloc) else {
+            return DeskReply::OutOfMemory;
+        };
+        let Ok(noted) = record.export(self.alloc) else {
+            return DeskReply::OutOfMemory;
+        };
+        if !make_room(&mut self.events, &mut self.grants, self.closable) {
+            return DeskReply::OutOfMemory;
+        }
+        let items = [JournalItem::Close { key }];
+        if let Err(fault) = write_items(&mut self.journal, self.alloc, &items) {
+            return refusal(fault);
+        }
+        set_state(&mut self.states, &key, KeyState::Closed);
+        let event = Event::Closed { key, book: noted };
+        note(&mut self.events, event, self.latest);
+        DeskReply::Closed(book)
+    }
+}

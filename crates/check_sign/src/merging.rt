@@ -1,0 +1,96 @@
+//! Files that are merged, and keys that are pruned.
+ghost use Rattle.std.specs.Prelude.{◌≡◌, ◌≢◌, ◌⊎◌, ◌+◌, ◌-◌, ◌<◌, ◌≤◌, ◌++◌, ◌∷◌, [], None, Some, max, Contains, length};
+ghost use Rattle.edge_kit.specs.Causes.{Rose};
+ghost use Rattle.record_join.specs.BooksPasts.{EachOnce};
+ghost use Rattle.check_sign.specs.States.{State, DeskStands};
+ghost use Rattle.check_sign.specs.Machine.{Reply, after, noted, moment_limit, IsOpenIn, IsGrantFor};
+ghost use Rattle.check_sign.specs.Writing.{Moved, journal_of};
+
+use crate::call::DeskReply;
+use crate::desk::Desk;
+use crate::event::Event;
+use crate::room::{make_room, note, note_merge};
+use crate::writing::{refusal, write_book, write_file};
+use edge_kit::{Disk, PubKey};
+use record_join::MergeFault;
+use slash_defs::File;
+
+impl<D: Disk> Desk<D> {
+    /// Merges a file, and keeps each of its keys.
+    pub(crate) fn merge_file(&mut self, file: File) -> DeskReply
+        requires { EachOnce file.books }
+        ensures machine { (state : State) → DeskStands self.old.contents state → Reply state (DeskCall.Merge file) result × DeskStands self.new.contents (after state (DeskCall.Merge file) result) }
+        ensures events { self.new.contents.events ≡ self.old.contents.events ++ noted self.old.contents.latest (DeskCall.Merge file) result }
+        ensures is_open { IsOpenIn self.new.contents.grants result }
+        ensures granted { IsGrantFor (DeskCall.Merge file) result }
+        ensures rose { result ≡ DeskReply.Disk → self.old.contents.torn ≡ None → Rose (D.faults self.old.disk) (D.faults self.new.disk) }
+        ensures moved { Moved D.moment D.leaves D.faults (journal_of self.old) (journal_of self.new) }
+        ensures genesis { self.new.contents.genesis ≡ self.old.contents.genesis }
+        ensures second { self.new.second ≡ self.old.second }
+    {
+        if self.journal.failed() {
+            return DeskReply::Disk;
+        }
+        if file.genesis != self.genesis {
+            return DeskReply::GenesisDiffers {
+                kept: self.genesis,
+                given: file.genesis,
+            };
+        }
+        let has_room = make_room(&mut self.events, &mut self.grants, self.closable);
+        let fresh = match self.books.prepare(file.books.as_slice(), has_room) {
+            Ok(fresh) => fresh,
+            Err(MergeFault::TooManyKeys { have, new }) => {
+                return DeskReply::TooManyKeys { have, new };
+            }
+            Err(MergeFault::OutOfMemory) => return DeskReply::OutOfMemory,
+        };
+        if let Err(fault) = write_file(&mut self.journal, self.alloc, &file) {
+            self.books.take_back(fresh);
+            return refusal(fault);
+        }
+        self.books.merge_prepared(file.books.as_slice());
+        let keys = file.books.len() as u64;
+        note_merge(&mut self.events, file, self.latest);
+        DeskReply::Merged { keys }
+    }
+
+    /// Prunes the record of a key, which gains a book of its own.
+    pub(crate) fn prune_key(&mut self, key: PubKey) -> DeskReply
+        ensures machine { (state : State) → DeskStands self.old.contents state → Reply state (DeskCall.Prune key) result × DeskStands self.new.contents (after state (DeskCall.Prune key) result) }
+        ensures events { self.new.contents.events ≡ self.old.contents.events ++ noted self.old.contents.latest (DeskCall.Prune key) result }
+        ensures is_open { IsOpenIn self.new.contents.grants result }
+        ensures granted { IsGrantFor (DeskCall.Prune key) result }
+        ensures rose { result ≡ DeskReply.Disk → self.old.contents.torn ≡ None → Rose (D.faults self.old.disk) (D.faults self.new.disk) }
+        ensures moved { Moved D.moment D.leaves D.faults (journal_of self.old) (journal_of self.new) }
+        ensures genesis { self.new.contents.genesis ≡ self.old.contents.genesis }
+        ensures second { self.new.second ≡ self.old.second }
+    {
+        if self.journal.failed() {
+            return DeskReply::Disk;
+        }
+        let Some(record) = self.books.get(&key) else {
+            return DeskReply::Unknown;
+        };
+        let Ok(book) = record.pruning_book(self.alloc) else {
+            return DeskReply::OutOfMemory;
+        };
+        let Ok(noted) = record.pruning_book(self.alloc) else {
+            return DeskReply::OutOfMemory;
+        };
+        let has_room = make_room(&mut self.events, &mut self.grants, self.closable);
+        let listed = [(key, book)];
+        let Ok(fresh) = self.books.prepare(&listed, has_room) else {
+            return DeskReply::OutOfMemory;
+        };
+        if let Err(fault) = write_book(&mut self.journal, self.alloc, &listed[0]) {
+            self.books.take_back(fresh);
+            return refusal(fault);
+        }
+        self.books.merge_prepared(&listed);
+        let event = Event::Pruned { key, book: noted };
+        note(&mut self.events, event, self.latest);
+        let [(_, book)] = listed;
+        DeskReply::Pruned(book)
+    }
+}

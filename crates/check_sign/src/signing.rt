@@ -1,0 +1,61 @@
+//! Proposals of active keys.
+ghost use Rattle.std.specs.Prelude.{◌≡◌, ◌≢◌, ◌⊎◌, ◌+◌, ◌-◌, ◌<◌, ◌≤◌, ◌++◌, ◌∷◌, [], None, Some, max, Contains, length};
+ghost use Rattle.edge_kit.specs.Causes.{Rose};
+ghost use Rattle.record_join.specs.BooksPasts.{EachOnce};
+ghost use Rattle.check_sign.specs.States.{State, DeskStands};
+ghost use Rattle.check_sign.specs.Machine.{Reply, after, noted, moment_limit, IsOpenIn, IsGrantFor};
+ghost use Rattle.check_sign.specs.Writing.{Moved, journal_of};
+
+use crate::call::DeskReply;
+use crate::desk::Desk;
+use crate::marking::state_of;
+use crate::room::{give, make_room, open_grant};
+use crate::writing::{refusal, write_message};
+use edge_kit::{Disk, PubKey};
+use record_join::Judged;
+use record_replay::KeyState;
+use slash_defs::Message;
+
+impl<D: Disk> Desk<D> {
+    /// Grants a proposal of an active key whose past lets it pass, once it is on the disk.
+    pub(crate) fn propose_message(&mut self, key: PubKey, message: Message, now: u64) -> DeskReply
+        requires { now ≤ moment_limit }
+        ensures machine { (state : State) → DeskStands self.old.contents state → Reply state (DeskCall.Propose key message now) result × DeskStands self.new.contents (after state (DeskCall.Propose key message now) result) }
+        ensures events { self.new.contents.events ≡ self.old.contents.events ++ noted self.old.contents.latest (DeskCall.Propose key message now) result }
+        ensures is_open { IsOpenIn self.new.contents.grants result }
+        ensures granted { IsGrantFor (DeskCall.Propose key message now) result }
+        ensures rose { result ≡ DeskReply.Disk → self.old.contents.torn ≡ None → Rose (D.faults self.old.disk) (D.faults self.new.disk) }
+        ensures moved { Moved D.moment D.leaves D.faults (journal_of self.old) (journal_of self.new) }
+        ensures genesis { self.new.contents.genesis ≡ self.old.contents.genesis }
+        ensures second { self.new.second ≡ self.old.second }
+    {
+        self.latest = self.latest.max(now);
+        if self.journal.failed() {
+            return DeskReply::Disk;
+        }
+        let Some(_) = self.books.get(&key) else {
+            return DeskReply::Unknown;
+        };
+        match state_of(&self.states, &key) {
+            KeyState::Active => {}
+            KeyState::Closing => return DeskReply::Closing,
+            KeyState::Known | KeyState::Closed => return DeskReply::NotActive,
+        }
+        let has_room = make_room(&mut self.events, &mut self.grants, self.closable);
+        let repeat = match self.books.judge(&key, &message, has_room) {
+            Judged::Unknown => return DeskReply::Unknown,
+            Judged::Refused(verdict) => return DeskReply::Refused(verdict),
+            Judged::NoRoom => return DeskReply::OutOfMemory,
+            Judged::Ready { repeat } => repeat,
+        };
+        if let Err(fault) = write_message(&mut self.journal, self.alloc, key, &message, repeat) {
+            return refusal(fault);
+        }
+        self.books.add(&key, &message);
+        let granted = open_grant(self.next, key, message);
+        self.next += 1;
+        let latest = self.latest;
+        let grant = give(&mut self.events, &mut self.grants, granted, message, latest);
+        DeskReply::Granted(grant)
+    }
+}
