@@ -1,3 +1,4 @@
+pub mod OpenLemmas
 pub mod MachineLemmas
 pub mod GrantLemmas
 pub mod ExportLemmas

@@ -14,7 +14,7 @@ pub use fault::{ReadFault, VersionText};
 pub use laws::{files_list_once, united_books, written_order};
 pub use member::Member;
 pub use reading::{FILE_LIMIT, read};
-pub use writing::{write, write_text};
+pub use writing::{in_written_order, write, write_text};
 
 #[cfg(test)]
 mod tests;

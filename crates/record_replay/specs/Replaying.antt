@@ -47,10 +47,10 @@ abbrev pub lasting_states : List (PubKey × KeyState) → List (PubKey × KeySta
 lasting_states states = map (λ s. (s.0, lasting_state s.1)) states
 
 -- the items stand for the pasts of just the keys that they name, and for these states
-pub record ItemsStand (items : List JournalItem) (keys : List (PubKey × Past)) (states : List (PubKey × KeyState)) : Type 0 where
+pub record ItemsStand (items : List JournalItem) (keys : List (PubKey × Past)) (held : List (PubKey × KeyState)) : Type 0 where
   pub named : keys_of keys ≡ named_keys items
   pub each : (key : PubKey) (past : Past) → kept_of keys key ≡ Some past → KeyStands items key past
-  pub states : states_in items ≡ lasting_states states
+  pub states : states_in items ≡ lasting_states held
 
 -- the key is kept, a new one with the empty past
 abbrev pub with_known : List (PubKey × Past) → PubKey → List (PubKey × Past)
