@@ -1,0 +1,7 @@
+pub mod NamedLemmas
+pub mod StateLemmas
+pub mod ItemLemmas
+pub mod GrowLemmas
+pub mod BookItemLemmas
+pub mod SameBookLemmas
+pub mod ChangeLemmas
