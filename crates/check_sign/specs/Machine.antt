@@ -20,7 +20,8 @@ use Rattle.record_replay.specs.declared.state.KeyState.{KeyState}
 use Rattle.record_replay.specs.declared.state.KeyState.TheVariants.{Known, Active, Closing, Closed}
 use Rattle.check_sign.specs.declared.open_grant.OpenGrant.{OpenGrant}
 use Rattle.check_sign.specs.States.{State, Lasting, lasting, past_of, key_state, IsActive, IsClosing, IsIdle, open_grants}
-use Rattle.check_sign.specs.Handing.{Exports, IsExport, pruning_of}
+use Rattle.record_replay.specs.Pruning.{pruning_of}
+use Rattle.check_sign.specs.Handing.{Exports, IsExport}
 use Rattle.check_sign.specs.declared.call.DeskCall.{DeskCall}
 use Rattle.check_sign.specs.declared.call.DeskCall.TheVariants as call
 use Rattle.check_sign.specs.declared.call.DeskReply.{DeskReply}

@@ -50,10 +50,7 @@ pub fn book_items(alloc: Global, listed: &(PubKey, Book)) -> Result<Vec<JournalI
 /// # Errors
 ///
 /// `AllocError` where memory was wanted.
-pub fn file_items(
-    alloc: Global,
-    books: &[(PubKey, Book)],
-) -> Result<Vec<JournalItem>, AllocError>
+pub fn file_items(alloc: Global, books: &[(PubKey, Book)]) -> Result<Vec<JournalItem>, AllocError>
     ensures { IfOk result (λ items. items.items ≡ file_items books.now) }
 {
     Err(AllocError)
