@@ -5,6 +5,7 @@ ghost use Rattle.record_join.specs.BooksPasts.{EachOnce};
 ghost use Rattle.check_sign.specs.States.{State, DeskStands};
 ghost use Rattle.check_sign.specs.Machine.{Reply, after, noted, moment_limit, IsOpenIn, IsGrantFor};
 ghost use Rattle.check_sign.specs.Writing.{Moved, journal_of};
+ghost use Rattle.check_sign.specs.declared.call.DeskCall.TheVariants as DeskCall;
 
 use crate::call::DeskReply;
 use crate::desk::Desk;
