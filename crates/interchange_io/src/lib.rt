@@ -4,6 +4,7 @@
 mod entries;
 mod fault;
 mod gathered;
+mod in_order;
 mod laws;
 mod member;
 mod reading;
@@ -11,6 +12,7 @@ mod sorted;
 mod writing;
 
 pub use fault::{ReadFault, VersionText};
+pub use in_order::in_written_order;
 pub use laws::{files_list_once, united_books, written_order};
 pub use member::Member;
 pub use reading::{FILE_LIMIT, read};

@@ -1,5 +1,7 @@
 //! Texts and what becomes of them: the written text of the file that was read, or the refusal.
-use crate::{FILE_LIMIT, ReadFault, read, write};
+use crate::{FILE_LIMIT, ReadFault, in_written_order, read, write};
+use edge_kit::{Items, PubKey, Root};
+use slash_defs::{BlockEntry, Book, File};
 use std::alloc::{AllocError, Global};
 use std::test::Fail;
 
@@ -270,5 +272,46 @@ fn each_text_has_its_outcome(rt: HostRuntime) -> Result<(), Fail> {
         too_long.as_str(),
         "the file has 268435457 bytes, more than are read"
     );
+    Ok(())
+}
+
+/// A book of blocks without roots at these slots.
+fn book(alloc: Global, slots: &[u64]) -> Result<Book, AllocError> {
+    let mut blocks = Vec::new(alloc);
+    for slot in slots {
+        blocks.push(BlockEntry {
+            slot: *slot,
+            root: None,
+        })?;
+    }
+    Ok(Book {
+        blocks: Items::from_vec(blocks),
+        votes: Items::new(alloc),
+    })
+}
+
+#[test]
+fn a_file_is_put_in_written_order(rt: HostRuntime) -> Result<(), Fail> {
+    let alloc = rt.alloc();
+    let (early, late) = (PubKey([1; 48]), PubKey([2; 48]));
+    let mut books = Vec::new(alloc);
+    books.push((late, book(alloc, &[9])?))?;
+    books.push((early, book(alloc, &[7, 3, 7])?))?;
+    let file = File {
+        genesis: Root([5; 32]),
+        books: Items::from_vec(books),
+    };
+    let sorted = in_written_order(alloc, &file)?;
+    assert_eq!(rt; sorted.genesis, file.genesis);
+    let [(first, few), (second, one)] = sorted.books.as_slice() else {
+        return Err(Fail::new("not both keys"));
+    };
+    assert_eq!(rt; *first, early);
+    assert_eq!(rt;
+        few.blocks.as_slice(),
+        book(alloc, &[3, 7])?.blocks.as_slice()
+    );
+    assert_eq!(rt; *second, late);
+    assert_eq!(rt; one.blocks.as_slice(), book(alloc, &[9])?.blocks.as_slice());
     Ok(())
 }

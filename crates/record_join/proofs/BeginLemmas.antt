@@ -1,5 +1,5 @@
 -- A key that was made fresh, at the pasts.
-use Rattle.std.proofs.Common.{◌≡◌, inl, inr, Bool, true, false, cond, List, [], None, refl, sym, ap, subst}
+use Rattle.std.proofs.Common.{◌≡◌, inl, inr, Bool, true, false, cond, List, [], sym, ap, subst}
 use Rattle.std.specs.Prelude.{is_some}
 use Rattle.edge_kit.specs.declared.bytes.PubKey.{PubKey}
 use Rattle.protect_record.specs.Parts.{Parts, SameParts}

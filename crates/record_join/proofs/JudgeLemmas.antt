@@ -1,6 +1,6 @@
 -- From a record that judges a message to the past of its key.
-use Rattle.std.proofs.Common.{◌≡◌, ◌≤◌, arith, Bool, List, Option, None, Some, refl, sym, ◌∙◌, ap, subst}
-use Rattle.std.specs.Prelude.{IsSome, IsSomeAnd, is_some}
+use Rattle.std.proofs.Common.{◌≡◌, ◌≤◌, arith, Bool, List, Option, Some, refl, sym, ◌∙◌, ap, subst}
+use Rattle.std.specs.Prelude.{IsSome, is_some}
 use Rattle.edge_kit.specs.declared.bytes.PubKey.{PubKey}
 use Rattle.slash_defs.specs.declared.message.Message.{Message}
 use Rattle.slash_defs.specs.declared.message.Message.TheVariants as message

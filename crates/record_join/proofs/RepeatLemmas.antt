@@ -1,5 +1,5 @@
 -- The tests of repeats, and what a record that lets a message pass keeps of it.
-use Rattle.std.proofs.Common.{◌≡◌, ℕ, ◌<◌, ◌≤◌, ◌⊎◌, inl, inr, Bool, true, false, List, [], ◌∷◌, Option, None, Some, refl, sym, ◌∙◌, ap, subst, arith, Contains}
+use Rattle.std.proofs.Common.{◌≡◌, ℕ, ◌<◌, ◌≤◌, Bool, List, [], ◌∷◌, Option, None, Some, refl, sym, ◌∙◌, ap, subst, arith, Contains}
 use Rattle.std.specs.Prelude.{◌↔◌, ◌||◌, map, IfSome, IsSomeAnd, IsTrue}
 use Rattle.std.specs.Bool.{Decides}
 use Rattle.std.specs.List.{list_any}
@@ -12,12 +12,10 @@ use Rattle.edge_kit.specs.declared.bytes.Root.{Root}
 use Rattle.slash_defs.specs.declared.entry.BlockEntry.{BlockEntry}
 use Rattle.slash_defs.specs.declared.entry.VoteEntry.{VoteEntry}
 use Rattle.slash_defs.specs.declared.entry.Entry.TheVariants as entry
-use Rattle.slash_defs.specs.declared.book.Book.{Book}
 use Rattle.slash_defs.specs.declared.message.Message.{Message}
 use Rattle.slash_defs.specs.declared.message.Message.TheVariants as message
-use Rattle.protect_record.specs.Floors.{IsDeadBlock, IsDeadVote}
 use Rattle.protect_record.specs.Parts.{Parts}
-use Rattle.protect_record.specs.Pasts.{Past, IsPastBlock, IsPastVote}
+use Rattle.protect_record.specs.Pasts.{Past}
 use Rattle.protect_record.specs.Standing.{Stands}
 use Rattle.protect_record.specs.Verdicts.{IsVerdict, IsOverFloors}
 use Rattle.protect_record.specs.declared.verdict.Verdict.TheVariants as verdict

@@ -9,7 +9,6 @@ use Rattle.protect_record.specs.Pasts.{Past, no_past, with_own, with_book, then_
 use Rattle.protect_record.specs.Passing.{Passes}
 use Rattle.protect_record.specs.Standing.{Stands}
 use Rattle.protect_record.specs.Verdicts.{IsVerdict}
-use Rattle.protect_record.specs.Exporting.{prune_book}
 use Rattle.protect_record.specs.declared.verdict.Verdict.{Verdict}
 use Rattle.protect_record.specs.declared.verdict.Verdict.TheVariants as verdict
 use Rattle.record_join.specs.Keys.{kept_of, with_key, with_kept, EachKey}
@@ -20,10 +19,6 @@ use Rattle.record_join.specs.declared.fault.BeginFault.{BeginFault}
 use Rattle.record_join.specs.declared.fault.BeginFault.TheVariants as begin_fault
 use Rattle.record_join.specs.declared.fault.MergeFault.{MergeFault}
 use Rattle.record_join.specs.declared.fault.MergeFault.TheVariants as merge_fault
-use Rattle.record_join.specs.declared.taken.Taken.{Taken}
-use Rattle.record_join.specs.declared.taken.Taken.TheVariants as taken
-use Rattle.record_join.specs.declared.taken.Pruned.{Pruned}
-use Rattle.record_join.specs.declared.taken.Pruned.TheVariants as pruned
 
 -- how many keys are kept at most
 abbrev pub key_limit : ℕ
@@ -102,19 +97,6 @@ Judges pasts key m judged.Unknown = kept_of pasts key ≡ None
 Judges pasts key m (judged.Refused v) = IsSomeAnd (kept_of pasts key) (λ past. IsRefusal past m v)
 Judges pasts key m judged.NoRoom = IsSomeAnd (kept_of pasts key) (λ past. Passes past m)
 Judges pasts key m (judged.Ready repeat) = IsSomeAnd (kept_of pasts key) (λ past. Passes past m × (repeat ≡ repeats past m))
-
--- whether the key's past lets the message pass, and the pasts after it was taken in or not
-abbrev pub TakesIn : List (PubKey × Past) → List (PubKey × Parts) → PubKey → Message → Taken → Type 0
-TakesIn pasts new key m taken.Unknown = (kept_of pasts key ≡ None) × BooksStand new pasts
-TakesIn pasts new key m (taken.Refused v) = IsSomeAnd (kept_of pasts key) (λ past. IsRefusal past m v) × BooksStand new pasts
-TakesIn pasts new key m taken.NoRoom = IsSomeAnd (kept_of pasts key) (λ past. Passes past m) × BooksStand new pasts
-TakesIn pasts new key m taken.Added = IsSomeAnd (kept_of pasts key) (λ past. Passes past m) × BooksStand new (own_grown pasts key m)
-
--- the key's past gains the book that prunes its record
-abbrev pub Prunes : List (PubKey × Past) → List (PubKey × Parts) → List (PubKey × Parts) → PubKey → Pruned → Type 0
-Prunes pasts old new key pruned.Unknown = (kept_of pasts key ≡ None) × BooksStand new pasts
-Prunes pasts old new key pruned.Done =
-    IsSomeAnd (kept_of pasts key) (λ past. IsSomeAnd (kept_of old key) (λ parts. BooksStand new (with_kept pasts key (with_book past (prune_book parts)))))
 
 -- a key begins nowhere but where it is not kept, and fails by its number only where the limit is reached
 abbrev pub IsBeginFault : List (PubKey × Parts) → PubKey → BeginFault → Type 0

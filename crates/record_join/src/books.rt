@@ -5,7 +5,7 @@ ghost use Rattle.edge_kit.specs.declared.bytes.PubKey.{PubKey};
 ghost use Rattle.protect_record.specs.Parts.{Parts, SameParts};
 ghost use Rattle.protect_record.specs.Pasts.{Past, no_past};
 ghost use Rattle.record_join.specs.Keys.{kept_of, with_key, EachKey};
-ghost use Rattle.record_join.specs.BooksPasts.{BooksStand, Judges, TakesIn, Prunes, IsBeginFault, IsMergeFault, EachOnce, KeepsOthers, own_grown, with_file, joined, new_keys, key_limit};
+ghost use Rattle.record_join.specs.BooksPasts.{BooksStand, Judges, IsBeginFault, IsMergeFault, EachOnce, KeepsOthers, own_grown, with_file, joined, new_keys, key_limit};
 ghost use Rattle.record_join.specs.Preparing.{AreTaken, IsPrepared};
 ghost use Rattle.record_join.specs.Taking.{IsReadyFor};
 
@@ -14,11 +14,9 @@ use crate::fault::{BeginFault, MergeFault};
 use crate::joining::{join_records, prepare_records};
 use crate::judged::Judged;
 use crate::judging::{add, judge};
-use crate::keep::{prune_at, take_in};
-use crate::limit::{KEY_LIMIT, new_records, over_limit};
+use crate::limit::{new_records, over_limit};
 use crate::merging::{merge_books, prepare_within};
 use crate::room::take_out;
-use crate::taken::{Pruned, Taken};
 use edge_kit::{Items, PubKey};
 use protect_record::Record;
 use slash_defs::{Book, File, Message};
@@ -100,37 +98,6 @@ impl Books {
         ensures { result ≡ self.now }
     {
         self.kept.iter()
-    }
-
-    /// Begins to keep a key that is not kept, with no past. A key that is kept stays as it is.
-    ///
-    /// # Errors
-    ///
-    /// `TooManyKeys` exactly where 65,536 keys are kept and this is another, and `OutOfMemory`. Nothing has
-    /// changed then.
-    pub fn begin(&mut self, key: PubKey) -> Result<(), BeginFault>
-        ensures known { IsSome (kept_of self.old key) → OnOk result (self.new ≡ self.old) }
-        ensures begun { OnOk result (kept_of self.old key ≡ None → (pasts : List (PubKey × Past)) → BooksStand self.old pasts
-            → BooksStand self.new (with_key pasts key no_past)) }
-        ensures within { OnOk result (kept_of self.old key ≡ None → length self.old < key_limit) }
-        ensures fault { IfErr result (IsBeginFault self.old key) }
-        ensures err { OnErr result (self.new ≡ self.old) }
-        ensures limit { length self.old ≤ key_limit → length self.new ≤ key_limit }
-    {
-        if self.kept.contains_key(&key) {
-            return Ok(());
-        }
-        let have = self.kept.len();
-        if have >= KEY_LIMIT {
-            return Err(BeginFault::TooManyKeys {
-                have: have as u64,
-                new: 1,
-            });
-        }
-        match self.kept.insert(key, Record::new(self.alloc)) {
-            Ok(_) => Ok(()),
-            Err(_) => Err(BeginFault::OutOfMemory),
-        }
     }
 
     /// Makes ready for these books, of which each key is listed once: each listed key is kept, with room for its
@@ -232,15 +199,6 @@ impl Books {
         insert_new(&mut self.kept, key, record)
     }
 
-    /// Takes a message into the past of its key, where that lets it pass and `has_room` says that there is room
-    /// beside. Where it was not added, each record keeps what it kept.
-    pub fn take_in(&mut self, key: &PubKey, message: &Message, has_room: bool) -> Taken
-        ensures takes { (pasts : List (PubKey × Past)) → BooksStand self.old pasts → TakesIn pasts self.new key.now message.now result }
-        ensures room { result ≡ Taken.Added → IsTrue has_room }
-    {
-        take_in(&mut self.kept, key, message, has_room)
-    }
-
     /// Merges what an imported file lists, which lists each key once: of each of its keys the past gains the
     /// book (EIP-3076), and a key that was not kept begins with it. Other keys stay as they are. `has_room` says
     /// whether there is room beside; without it nothing is merged.
@@ -293,18 +251,5 @@ impl Books {
         };
         join_records(&mut self.kept, &other.kept);
         Ok(())
-    }
-
-    /// Prunes the record of a key: what is not needed any more is forgotten, and no more passes than before.
-    ///
-    /// # Errors
-    ///
-    /// `AllocError` where memory was wanted. Each record keeps what it kept.
-    pub fn prune(&mut self, key: &PubKey) -> Result<Pruned, AllocError>
-        ensures prunes { IfOk result (λ pruned. (pasts : List (PubKey × Past)) → BooksStand self.old pasts → Prunes pasts self.old self.new key.now pruned) }
-        ensures err { OnErr result ((pasts : List (PubKey × Past)) → BooksStand self.old pasts → BooksStand self.new pasts) }
-        ensures same { OnErr result (EachKey SameParts self.old self.new) }
-    {
-        prune_at(&mut self.kept, key)
     }
 }

@@ -7,12 +7,10 @@ mod fault;
 mod joining;
 mod judged;
 mod judging;
-mod keep;
 mod laws;
 mod limit;
 mod merging;
 mod room;
-mod taken;
 #[cfg(test)]
 mod tests;
 
@@ -21,4 +19,3 @@ pub use fault::{BeginFault, MergeFault};
 pub use judged::Judged;
 pub use laws::{books_join_laws, prepared_law, repeat_law};
 pub use limit::KEY_LIMIT;
-pub use taken::{Pruned, Taken};

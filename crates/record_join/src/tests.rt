@@ -2,9 +2,9 @@
 ghost use Rattle.std.specs.Prelude.{IfOk};
 ghost use Rattle.record_join.specs.BooksPasts.{EachOnce};
 
-use crate::{BeginFault, Books, KEY_LIMIT, MergeFault, Pruned, Taken};
+use crate::{BeginFault, Books, Judged, KEY_LIMIT, MergeFault};
 use edge_kit::{Items, PubKey, Root};
-use protect_record::Verdict;
+use protect_record::{Record, Verdict};
 use slash_defs::{BlockEntry, Book, File, Message, VoteEntry};
 use std::alloc::{AllocError, Global};
 use std::test::Fail;
@@ -54,15 +54,16 @@ fn the_limit_counts_new_keys_alone(rt: HostRuntime) -> Result<(), Fail> {
     let alloc = rt.alloc();
     let mut books = Books::new(alloc);
     for number in 0..=u16::MAX {
-        books.begin(key(number))?;
+        let _ = books.prepare_key(key(number))?;
     }
     assert_eq!(rt; books.len(), KEY_LIMIT);
     let too_many = BeginFault::TooManyKeys {
         have: 65_536,
         new: 1,
     };
-    assert_eq!(rt; books.begin(OTHER), Err(too_many));
-    books.begin(key(3))?;
+    assert_eq!(rt; books.prepare_key(OTHER).err(), Some(too_many));
+    assert_eq!(rt; books.insert(OTHER, Record::new(alloc)), Err(too_many));
+    assert_eq!(rt; books.prepare_key(key(3))?.len(), 0);
     let refused = books.merge_file(&file(alloc, OTHER, 7)?, true);
     let too_many = MergeFault::TooManyKeys {
         have: 65_536,
@@ -76,37 +77,58 @@ fn the_limit_counts_new_keys_alone(rt: HostRuntime) -> Result<(), Fail> {
     Ok(())
 }
 
+/// How a block is judged by the books, which it is added to where it may be.
+fn sign(books: &mut Books, key: &PubKey, slot: u64, has_room: bool) -> Judged {
+    let message = Message::Block { slot, root: RA };
+    let judged = books.judge(key, &message, has_room);
+    if let Judged::Ready { .. } = judged {
+        books.add(key, &message);
+    }
+    judged
+}
+
 #[test]
 fn a_file_of_one_key_leaves_another_as_it_was(rt: HostRuntime) -> Result<(), Fail> {
     let alloc = rt.alloc();
     let mut books = Books::new(alloc);
-    books.begin(key(1))?;
+    assert_eq!(rt; books.prepare_key(key(1))?.as_slice(), [key(1)].as_slice());
     books.merge_file(&file(alloc, key(2), 20)?, true)?;
+    books.insert(key(4), Record::new(alloc))?;
     let rows = [
-        (1, 10, true, Taken::Added),
-        (1, 10, true, Taken::Added),
-        (2, 10, true, Taken::Refused(Verdict::SlotBelow(20))),
-        (2, 20, true, Taken::Refused(Verdict::DoubleBlock(entry(20)))),
-        (2, 21, false, Taken::NoRoom),
-        (2, 21, true, Taken::Added),
-        (3, 10, true, Taken::Unknown),
+        (1, 10, true, Judged::Ready { repeat: false }),
+        (1, 10, true, Judged::Ready { repeat: true }),
+        (2, 10, true, Judged::Refused(Verdict::SlotBelow(20))),
+        (
+            2,
+            20,
+            true,
+            Judged::Refused(Verdict::DoubleBlock(entry(20))),
+        ),
+        (2, 21, false, Judged::NoRoom),
+        (2, 21, true, Judged::Ready { repeat: false }),
+        (3, 10, true, Judged::Unknown),
+        (4, 10, true, Judged::Ready { repeat: false }),
     ];
     for (number, slot, has_room, want) in rows {
-        let message = Message::Block { slot, root: RA };
-        let taken = books.take_in(&key(number), &message, has_room);
-        assert_eq!(rt; taken, want, "block of slot {slot} by key {number}");
+        let judged = sign(&mut books, &key(number), slot, has_room);
+        assert_eq!(rt; judged, want, "block of slot {slot} by key {number}");
     }
-    assert_eq!(rt; books.prune(&key(2))?, Pruned::Done);
-    assert_eq!(rt; books.prune(&key(3))?, Pruned::Unknown);
-    for (number, slot, want) in [
-        (1, 11, Taken::Added),
-        (2, 20, Taken::Refused(Verdict::SlotBelow(21))),
-        (2, 21, Taken::Added),
-    ] {
-        let message = Message::Block { slot, root: RA };
-        let taken = books.take_in(&key(number), &message, true);
-        assert_eq!(rt; taken, want, "block of slot {slot} by key {number}");
-    }
+    Ok(())
+}
+
+#[test]
+fn what_was_made_ready_is_merged_or_taken_back(rt: HostRuntime) -> Result<(), Fail> {
+    let alloc = rt.alloc();
+    let mut books = Books::new(alloc);
+    let file = file(alloc, key(2), 20)?;
+    let fresh = books.prepare(file.books.as_slice(), true)?;
+    assert_eq!(rt; fresh.as_slice(), [key(2)].as_slice());
+    books.take_back(fresh);
+    assert!(rt; books.is_empty());
+    let _ = books.prepare(file.books.as_slice(), true)?;
+    books.merge_prepared(file.books.as_slice());
+    let judged = sign(&mut books, &key(2), 20, true);
+    assert_eq!(rt; judged, Judged::Refused(Verdict::DoubleBlock(entry(20))));
     Ok(())
 }
 
@@ -114,9 +136,8 @@ fn a_file_of_one_key_leaves_another_as_it_was(rt: HostRuntime) -> Result<(), Fai
 fn two_keys(alloc: Global, imported: u16, own: u16, slot: u64) -> Result<Books, Fail> {
     let mut books = Books::new(alloc);
     books.merge_file(&file(alloc, key(imported), slot)?, true)?;
-    books.begin(key(own))?;
-    let message = Message::Block { slot, root: RA };
-    if books.take_in(&key(own), &message, true) != Taken::Added {
+    let _ = books.prepare_key(key(own))?;
+    if sign(&mut books, &key(own), slot, true) != (Judged::Ready { repeat: false }) {
         return Err(Fail::new("the first block is refused"));
     }
     Ok(books)
