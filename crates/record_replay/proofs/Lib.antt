@@ -5,3 +5,4 @@ pub mod GrowLemmas
 pub mod BookItemLemmas
 pub mod SameBookLemmas
 pub mod ChangeLemmas
+pub mod PruningLemmas
