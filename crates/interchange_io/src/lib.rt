@@ -16,7 +16,7 @@ pub use in_order::in_written_order;
 pub use laws::{files_list_once, united_books, written_order};
 pub use member::Member;
 pub use reading::{FILE_LIMIT, read};
-pub use writing::{in_written_order, write, write_text};
+pub use writing::{write, write_text};
 
 #[cfg(test)]
 mod tests;

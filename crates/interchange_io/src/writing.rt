@@ -220,11 +220,3 @@ fn push_text(out: &mut String, text: &str) -> Result<(), AllocError>
 {
     out.push_str(text)
 }
-
-/// The file in the order in which it is written: its keys in byte order and each once, the entries of a key in
-/// file order, equal ones once. The error is want of memory.
-pub fn in_written_order(_alloc: Global, _file: &File) -> Result<File, AllocError>
-    ensures { IfOk result (λ sorted. sorted ≡ canonical _file.now) }
-{
-    Err(AllocError)
-}
