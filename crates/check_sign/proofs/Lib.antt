@@ -1,4 +1,5 @@
 pub mod OpenLemmas
+pub mod StepLemmas
 pub mod MachineLemmas
 pub mod GrantLemmas
 pub mod ExportLemmas

@@ -4,6 +4,7 @@ use Rattle.edge_kit.specs.Causes.{Rose}
 use Rattle.edge_kit.specs.Disks.{LeavesOnly}
 use Rattle.edge_kit.specs.declared.bytes.Root.{Root}
 use Rattle.record_codec.specs.Spelling.{spelling}
+use Rattle.record_codec.specs.Reading.{batch_of}
 use Rattle.record_codec.specs.declared.item.JournalItem.{JournalItem}
 use Rattle.record_journal.specs.Journals.{Journaled, MayRead, journal_size, with_torn}
 use Rattle.record_journal.specs.declared.log.AppendFault.{AppendFault}
@@ -26,10 +27,15 @@ payloads_of (i ∷ items) = spelling (i ∷ items) ∷ []
 abbrev pub with_batch : {D : Type 0} → Journaled D → List JournalItem → D → Journaled D
 with_batch journal items disk = record { disk = disk; root = journal.root; payloads = journal.payloads ++ payloads_of items; size = journal.size + frame_size items; torn = None }
 
+-- what was written is read as it was meant
+abbrev pub IsRead : List JournalItem → Type 0
+IsRead [] = Unit {0}
+IsRead (i ∷ items) = batch_of (spelling (i ∷ items)) ≡ Ok (i ∷ items)
+
 -- how the writing of a batch may end
 abbrev pub Wrote : {D : Type 0} → (D → ℕ) → Journaled D → List JournalItem → Journaled D → Result (Unit {0}) AppendFault → Type 0
-Wrote faults old items new (Ok done) = HasRoomFor old.size items × (new ≡ with_batch old items new.disk)
-Wrote faults old items new (Err Disk) = IsWritten old.size items × Rose (faults old.disk) (faults new.disk) × (new ≡ with_torn old (spelling items) new.disk)
+Wrote faults old items new (Ok done) = HasRoomFor old.size items × IsRead items × (new ≡ with_batch old items new.disk)
+Wrote faults old items new (Err Disk) = IsWritten old.size items × IsRead items × Rose (faults old.disk) (faults new.disk) × (new ≡ with_torn old (spelling items) new.disk)
 Wrote faults old items new (Err OutOfMemory) = new ≡ old
 Wrote faults old items new (Err (Full size wanted)) = IsOver old.size items size wanted × (new ≡ old)
 

@@ -1,0 +1,169 @@
+-- What the writing of a batch makes of the states that a desk stands for.
+use Rattle.std.proofs.Common.{◌≡◌, ◌⊎◌, inl, inr, ℕ, ◌+◌, arith, List, [], ◌∷◌, ◌++◌, length, Option, Some, None, Result, Ok, Err, refl, sym, ◌∙◌, ap, subst, append_assoc, append-nil}
+use Rattle.edge_kit.specs.declared.bytes.Root.{Root}
+use Rattle.record_codec.specs.Spelling.{spelling}
+use Rattle.record_codec.specs.Reading.{batch_of}
+use Rattle.record_codec.specs.declared.item.JournalItem.{JournalItem}
+use Rattle.record_journal.specs.Journals.{Journaled, journal_size, with_torn}
+use Rattle.record_journal.specs.declared.log.AppendFault.{AppendFault}
+use Rattle.record_journal.specs.declared.log.AppendFault.TheVariants as fault
+use Rattle.record_join.specs.BooksPasts.{BooksStand}
+use Rattle.record_replay.specs.Items.{items_in, items_or_none}
+use Rattle.record_replay.specs.Replaying.{ItemsStand}
+use Rattle.check_sign.specs.Contents.{Contents}
+use Rattle.check_sign.specs.States.{State, Lasting, lasting, DeskStands, PayloadsStand, TornStands}
+use Rattle.check_sign.specs.Machine.{frame_size, HasRoomFor, IsOver, IsWritten, IsUp, Proceeds, MayFail, MayWant, IsTooMuch, Succeeds, written, lasting_after, torn_first, latest_after}
+use Rattle.check_sign.specs.Writing.{Wrote, IsRead, payloads_of, with_batch, refusal_of}
+use Rattle.check_sign.specs.declared.call.DeskCall.{DeskCall}
+use Rattle.check_sign.specs.declared.call.DeskReply.{DeskReply}
+use Rattle.check_sign.specs.declared.call.DeskReply.TheVariants as reply
+
+flat_append : (ps qs : List (List ℕ)) → items_in (ps ++ qs) ≡ items_in ps ++ items_in qs
+flat_append [] qs = refl
+flat_append (p ∷ ps) qs = ap (λ l. items_or_none (batch_of p) ++ l) (flat_append ps qs) ∙ sym (append_assoc (items_or_none (batch_of p)) (items_in ps) (items_in qs))
+
+items_more : (ps : List (List ℕ)) (p : List ℕ) (items : List JournalItem) → batch_of p ≡ Ok items → items_in (ps ++ p ∷ []) ≡ items_in ps ++ items
+items_more ps p items is = flat_append ps (p ∷ []) ∙ ap (λ l. items_in ps ++ l) (ap (λ r. items_or_none r ++ []) is ∙ append-nil items)
+
+size_more : (ps : List (List ℕ)) (p : List ℕ) → journal_size (ps ++ p ∷ []) ≡ journal_size ps + (length p + 5)
+size_more [] p = refl
+size_more (q ∷ ps) p = omega (arith, size_more ps p)
+
+-- one payload more
+payload_stands : (ps : List (List ℕ)) (p : List ℕ) (items : List JournalItem) (l : Lasting) → batch_of p ≡ Ok items → ItemsStand (items_in ps ++ items) l.keys l.states → l.size ≡ journal_size ps + (length p + 5) → PayloadsStand (ps ++ p ∷ []) l
+payload_stands ps p items l is stand size = let P : List JournalItem → Type 0 = λ i. ItemsStand i l.keys l.states in record {
+  items = subst P (sym (items_more ps p items is)) stand;
+  size = size ∙ sym (size_more ps p);
+}
+
+-- a batch more, or none
+pub batch_stands : (ps : List (List ℕ)) (items : List JournalItem) (size : ℕ) (l : Lasting) → IsRead items → ItemsStand (items_in ps ++ items) l.keys l.states → size ≡ journal_size ps → l.size ≡ size + frame_size items
+    → PayloadsStand (ps ++ payloads_of items) l
+batch_stands ps [] size l read stand same is =
+    let P : List JournalItem → Type 0 = λ i. ItemsStand i l.keys l.states in
+    let Q : List (List ℕ) → Type 0 = λ x. PayloadsStand x l in
+    subst Q (sym (append-nil ps)) (record { items = subst P (append-nil (items_in ps)) stand; size = omega (arith, same, is) })
+batch_stands ps (i ∷ items) size l read stand same is = payload_stands ps (spelling (i ∷ items)) (i ∷ items) l read stand (omega (arith, same, is))
+
+-- the same of a batch that is written
+written_stands : (ps : List (List ℕ)) (items : List JournalItem) (size : ℕ) (l : Lasting) → IsWritten size items → IsRead items → ItemsStand (items_in ps ++ items) l.keys l.states → size ≡ journal_size ps → l.size ≡ size + frame_size items
+    → PayloadsStand (ps ++ spelling items ∷ []) l
+written_stands ps [] size l w read stand same is = absurd w
+written_stands ps (i ∷ items) size l w read stand same is = payload_stands ps (spelling (i ∷ items)) (i ∷ items) l read stand (omega (arith, same, is))
+
+-- all of a desk but its journal stands for all of a state but what its journal has
+pub record Rest (desk : Contents) (state : State) : Type 0 where
+  pub genesis : desk.genesis ≡ state.genesis
+  pub keys : BooksStand desk.keys state.keys
+  pub states : desk.states ≡ state.states
+  pub grants : desk.grants ≡ state.grants
+  pub next : desk.next ≡ state.next
+  pub latest : desk.latest ≡ state.latest
+  pub watch : desk.watch ≡ state.watch
+
+pub whole : (desk : Contents) (state : State) → Rest desk state → desk.size ≡ state.size → PayloadsStand desk.payloads (lasting state) → TornStands desk.payloads desk.torn state.torn → DeskStands desk state
+whole desk state rest size payloads torn = record {
+  genesis = rest.genesis;
+  keys = rest.keys;
+  states = rest.states;
+  grants = rest.grants;
+  next = rest.next;
+  latest = rest.latest;
+  watch = rest.watch;
+  size = size;
+  payloads = payloads;
+  torn = torn;
+}
+
+-- a desk that is up stands for states that are up, and the other way
+pub up_state : (ps : List (List ℕ)) (t : Option (List ℕ)) (l : Option Lasting) → TornStands ps t l → t ≡ None → l ≡ None
+up_state ps t None s e = refl
+up_state ps None (Some l) s e = absurd s
+up_state ps (Some p) (Some l) s e = let bad : Some p ≡ None = e in absurd cc
+
+pub down_state : (ps : List (List ℕ)) (t : Option (List ℕ)) (l : Option Lasting) (p : List ℕ) → TornStands ps t l → t ≡ Some p → (x : Lasting) × (l ≡ Some x)
+down_state ps t (Some l) p s e = (l, refl)
+down_state ps None None p s e = let bad : None ≡ Some p = e in absurd cc
+down_state ps (Some q) None p s e = absurd s
+
+none_torn : (ps : List (List ℕ)) (t : Option (List ℕ)) (l : Option Lasting) → t ≡ None → l ≡ None → TornStands ps t l
+none_torn ps t l e f =
+    let T : Option (List ℕ) → Type 0 = λ x. TornStands ps x l in
+    let L : Option Lasting → Type 0 = λ x. TornStands ps None x in
+    subst T (sym e) (subst L (sym f) tt)
+
+some_torn : (ps : List (List ℕ)) (t : Option (List ℕ)) (l : Option Lasting) (p : List ℕ) (x : Lasting) → t ≡ Some p → l ≡ Some x → PayloadsStand (ps ++ p ∷ []) x → TornStands ps t l
+some_torn ps t l p x e f s =
+    let T : Option (List ℕ) → Type 0 = λ y. TornStands ps y l in
+    let L : Option Lasting → Type 0 = λ y. TornStands ps (Some p) y in
+    subst T (sym e) (subst L (sym f) s)
+
+-- ---- a batch was written
+
+pub grown : {D : Type 0} (faults : D → ℕ) (old new : Journaled D) (items : List JournalItem) (desk : Contents) (state after : State)
+    → Wrote faults old items new (Ok tt) → old.size ≡ state.size → old.size ≡ journal_size old.payloads
+    → desk.payloads ≡ new.payloads → desk.size ≡ new.size → desk.torn ≡ new.torn
+    → ItemsStand (items_in old.payloads ++ items) after.keys after.states → after.size ≡ state.size + frame_size items → after.torn ≡ None
+    → Rest desk after → DeskStands desk after
+grown faults old new items desk state after wrote size journal payloads_are size_is torn_is stand grows up rest =
+    let made = wrote.2.1 in
+    let sized : desk.size ≡ old.size + frame_size items = size_is ∙ ap (λ j. j.size) made in
+    let lists : desk.payloads ≡ old.payloads ++ payloads_of items = payloads_are ∙ ap (λ j. j.payloads) made in
+    let whole_torn : desk.torn ≡ None = torn_is ∙ ap (λ j. j.torn) made in
+    let P : List (List ℕ) → Type 0 = λ l. PayloadsStand l (lasting after) in
+    whole desk after rest (sized ∙ ap (λ n. n + frame_size items) size ∙ sym grows)
+    (subst P (sym lists) (batch_stands old.payloads items old.size (lasting after) wrote.2.0 stand journal (grows ∙ ap (λ n. n + frame_size items) (sym size))))
+    (none_torn desk.payloads desk.torn after.torn whole_torn up)
+
+-- ---- nothing was written, and the reply says why
+
+-- only the moment, and where the disk failed what the call would have left, may differ
+module _ {D : Type 0} (faults : D → ℕ) (old new : Journaled D) (items : List JournalItem) (desk : Contents) (state : State) (c : DeskCall) where
+  abbrev moved_on : Option Lasting → State
+  moved_on torn = record state { latest = latest_after state.latest c; torn = torn }
+
+  pub by_fault : (f : AppendFault) (R : DeskReply → Type 0) (A : DeskReply → State) → Wrote faults old items new (Err f)
+      → PayloadsStand old.payloads (lasting state) → old.size ≡ state.size → old.size ≡ journal_size old.payloads → old.torn ≡ None → IsUp state
+      → desk.payloads ≡ new.payloads → desk.size ≡ new.size → desk.torn ≡ new.torn
+      → Proceeds state c → written state c ≡ items
+      → ItemsStand (items_in old.payloads ++ items) (lasting_after state c).keys (lasting_after state c).states → (lasting_after state c).size ≡ state.size + frame_size items
+      → (MayFail state c → R reply.Disk) → (MayWant state c → R reply.OutOfMemory) → ((s w : ℕ) → IsTooMuch state c s w → R (reply.Full s w))
+      → A reply.Disk ≡ moved_on (torn_first state.torn (lasting_after state c)) → A reply.OutOfMemory ≡ moved_on state.torn → ((s w : ℕ) → A (reply.Full s w) ≡ moved_on state.torn)
+      → Rest desk (moved_on state.torn)
+      → R (refusal_of f) × DeskStands desk (A (refusal_of f))
+  by_fault fault.Disk R A wrote stand size journal clean up payloads_are size_is torn_is proceeds writes more grows disk memory full on_disk on_memory on_full rest =
+      let made = wrote.3 in
+      let l = lasting_after state c in
+      let torn : torn_first state.torn l ≡ Some l = ap (λ t. torn_first t l) up in
+      let sizes : ℕ → Type 0 = λ n. IsWritten n items in
+      let whats : List JournalItem → Type 0 = λ i. IsWritten state.size i in
+      let P : State → Type 0 = λ s. DeskStands desk s in
+      let lists : desk.payloads ≡ old.payloads = payloads_are ∙ ap (λ j. j.payloads) made in
+      let L : List (List ℕ) → Type 0 = λ ps. PayloadsStand ps (lasting state) in
+      let N : List (List ℕ) → Type 0 = λ ps. PayloadsStand (ps ++ spelling items ∷ []) l in (
+        disk (inr (up, proceeds, subst whats (sym writes) (subst sizes size wrote.0))),
+        subst P (sym on_disk) (whole desk (moved_on (torn_first state.torn l)) (record {
+          genesis = rest.genesis;
+          keys = rest.keys;
+          states = rest.states;
+          grants = rest.grants;
+          next = rest.next;
+          latest = rest.latest;
+          watch = rest.watch;
+        }) (size_is ∙ ap (λ j. j.size) made ∙ size) (subst L (sym lists) stand)
+            (some_torn desk.payloads desk.torn (torn_first state.torn l) (spelling items) l (torn_is ∙ ap (λ j. j.torn) made) torn
+            (subst N (sym lists) (written_stands old.payloads items old.size l wrote.0 wrote.1 more journal (grows ∙ ap (λ n. n + frame_size items) (sym size)))))),
+      )
+  by_fault fault.OutOfMemory R A wrote stand size journal clean up payloads_are size_is torn_is proceeds writes more grows disk memory full on_disk on_memory on_full rest =
+      let P : State → Type 0 = λ s. DeskStands desk s in
+      let L : List (List ℕ) → Type 0 = λ ps. PayloadsStand ps (lasting state) in
+      (memory (up, proceeds), subst P (sym on_memory) (whole desk (moved_on state.torn) rest (size_is ∙ ap (λ j. j.size) wrote ∙ size) (subst L (sym (payloads_are ∙ ap (λ j. j.payloads) wrote)) stand)
+      (none_torn desk.payloads desk.torn state.torn (torn_is ∙ ap (λ j. j.torn) wrote ∙ clean) up)))
+  by_fault (fault.Full s w) R A wrote stand size journal clean up payloads_are size_is torn_is proceeds writes more grows disk memory full on_disk on_memory on_full rest =
+      let P : State → Type 0 = λ x. DeskStands desk x in
+      let L : List (List ℕ) → Type 0 = λ ps. PayloadsStand ps (lasting state) in
+      let sizes : ℕ → Type 0 = λ n. IsOver n items s w in
+      let whats : List JournalItem → Type 0 = λ i. IsOver state.size i s w in
+      let same = wrote.1 in
+      (full s w (up, proceeds, subst whats (sym writes) (subst sizes size wrote.0)), subst P (sym (on_full s w)) (whole desk (moved_on state.torn) rest (size_is ∙ ap (λ j. j.size) same ∙ size) (subst L (sym (payloads_are ∙ ap (λ j. j.payloads) same)) stand)
+      (none_torn desk.payloads desk.torn state.torn (torn_is ∙ ap (λ j. j.torn) same ∙ clean) up)))
