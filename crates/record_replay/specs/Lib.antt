@@ -1,3 +1,4 @@
 pub mod Items
 pub mod Batches
 pub mod Replaying
+pub mod Gathering

@@ -3,6 +3,8 @@
 
 mod batches;
 mod fault;
+mod gathered;
+mod gathering;
 mod laws;
 mod payloads;
 mod state;

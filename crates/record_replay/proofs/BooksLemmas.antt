@@ -1,0 +1,1 @@
+-- From what was gathered of each key to the records.
