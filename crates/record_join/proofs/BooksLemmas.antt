@@ -12,7 +12,7 @@ use Rattle.protect_record.specs.Exporting.{prune_book}
 use Rattle.protect_record.specs.declared.verdict.Verdict.{Verdict}
 use Rattle.protect_record.specs.declared.verdict.Verdict.TheVariants as verdict
 use Rattle.record_join.specs.Keys.{kept_of, with_key, with_kept, EachKey}
-use Rattle.record_join.specs.Taking.{Judged, Takes, Shrinks}
+use Rattle.record_join.specs.Taking.{HasJudged, Takes, Shrinks}
 use Rattle.record_join.specs.BooksPasts.{BooksStand, IsRefusal, TakesIn, Prunes, own_grown, own_grown_from}
 use Rattle.record_join.specs.Preparing.{IsRoomier}
 use Rattle.record_join.specs.declared.taken.Taken.{Taken}
@@ -61,19 +61,18 @@ roomier_same before old new key roomier each =
           same_through p roomier.parts roomier.roomy (subst S (some_inj found.0 roomier.parts (sym found.1 ∙ roomier.is_kept)) found.2) roomier.same
 
 -- a judged message, at the pasts
-judged : (old new : List (PubKey × Parts)) (pasts : List (PubKey × Past)) (key : PubKey) (m : Message) (v : Verdict) → BooksStand old pasts → Judged old new key m v
-    → (past : Past) × (kept_of pasts key ≡ Some past) × (roomy : Parts) × Stands roomy past × IsVerdict roomy m v × (v ≡ verdict.Pass → Passes past m) × (Passes past m → v ≡ verdict.Pass) × BooksStand new pasts
-judged old new pasts key m v each j =
+pub judged_at : (old new : List (PubKey × Parts)) (pasts : List (PubKey × Past)) (key : PubKey) (m : Message) (v : Verdict) → BooksStand old pasts → (j : HasJudged old new key m v)
+    → (past : Past) × (kept_of pasts key ≡ Some past) × Stands j.roomy past × BooksStand new pasts
+judged_at old new pasts key m v each j =
     let found = each_found Stands old pasts key j.parts each j.is_kept in
     let past = found.0 in
     let stands = same_stands j.parts j.roomy past j.same found.2 in
-    let passes = j.passes past stands in
     let E : List (PubKey × Parts) → Type 0 = λ l. EachKey Stands l pasts in
     let P : Past → Type 0 = λ p. Stands j.roomy p in
     let others = each_refit Stands old pasts key j.roomy each (λ y e. subst P (some_inj past y (sym found.1 ∙ e)) stands) in
-    (past, found.1, j.roomy, stands, j.is_verdict, passes.0, passes.1, subst E (sym j.others) others)
+    (past, found.1, stands, subst E (sym j.others) others)
 
-some_is : {A : Type 0} (o : Option A) (x : A) (P : A → Type 0) → o ≡ Some x → P x → IsSomeAnd o P
+pub some_is : {A : Type 0} (o : Option A) (x : A) (P : A → Type 0) → o ≡ Some x → P x → IsSomeAnd o P
 some_is o x P e p = rw e p
 
 -- what becomes of a message, at the pasts
@@ -82,13 +81,14 @@ takes_in old new pasts key m taken.Unknown each t =
     let E : List (PubKey × Parts) → Type 0 = λ l. EachKey Stands l pasts in
     (each_none Stands old pasts key each t.0, subst E (sym t.1) each)
 takes_in old new pasts key m (taken.Refused v) each t =
-    let at = judged old new pasts key m v each t.1 in (
-      some_is (kept_of pasts key) at.0 (λ past. IsRefusal past m v) at.1 (record { parts = at.2; stands = at.3; is_verdict = at.4; is_no_pass = t.0; forbids = λ p. t.0 (at.6 p) }),
-      at.7,
+    let at = judged_at old new pasts key m v each t.1 in (
+      some_is (kept_of pasts key) at.0 (λ past. IsRefusal past m v) at.1
+          (record { parts = t.1.roomy; stands = at.2; is_verdict = t.1.is_verdict; is_no_pass = t.0; forbids = λ p. t.0 ((t.1.passes at.0 at.2).1 p) }),
+      at.3,
     )
 takes_in old new pasts key m taken.NoRoom each t =
-    let at = judged old new pasts key m verdict.Pass each t in
-    (some_is (kept_of pasts key) at.0 (λ past. Passes past m) at.1 (at.5 refl), at.7)
+    let at = judged_at old new pasts key m verdict.Pass each t in
+    (some_is (kept_of pasts key) at.0 (λ past. Passes past m) at.1 ((t.passes at.0 at.2).0 refl), at.3)
 takes_in old new pasts key m taken.Added each t =
     let found = each_found Stands old pasts key t.parts each t.is_kept in
     let past = found.0 in

@@ -231,7 +231,7 @@ each_fresh R x y r xs ys (key ∷ keys) each are =
     let rest = each_fresh R x y r (with_key xs key x) (with_key ys key y) keys (each_new R xs ys key x y each r) are.1 in
     ((each_none R xs ys key each are.0, rest.0), rest.1)
 
-no_parts_stand : Stands no_parts no_past
+pub no_parts_stand : Stands no_parts no_past
 no_parts_stand = record {
   floors = refl;
   blocks = λ e. (λ has. absurd (omega (arith, has.1)), block e);

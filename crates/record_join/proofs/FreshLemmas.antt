@@ -57,7 +57,7 @@ known_noted : (old new : List (PubKey × Parts)) (key : PubKey) (fresh more : Li
 known_noted old new key fresh more (inl h) = inl h.2
 known_noted old new key fresh more (inr h) = inr h.2
 
-known_same : (old new : List (PubKey × Parts)) (key : PubKey) (fresh more : List PubKey) → Knows old new key fresh more → (before : List (PubKey × Parts)) → AreFresh no_parts before fresh → EachKey SameParts (with_each no_parts before fresh) old
+pub known_same : (old new : List (PubKey × Parts)) (key : PubKey) (fresh more : List PubKey) → Knows old new key fresh more → (before : List (PubKey × Parts)) → AreFresh no_parts before fresh → EachKey SameParts (with_each no_parts before fresh) old
     → AreFresh no_parts before more × EachKey SameParts (with_each no_parts before more) new
 known_same old new key fresh more (inl h) before are each =
     let P : List PubKey → Type 0 = λ ks. AreFresh no_parts before ks × EachKey SameParts (with_each no_parts before ks) new in

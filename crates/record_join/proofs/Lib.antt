@@ -4,3 +4,6 @@ pub mod BooksLemmas
 pub mod FreshLemmas
 pub mod FileLemmas
 pub mod LawLemmas
+pub mod RepeatLemmas
+pub mod JudgeLemmas
+pub mod BeginLemmas

@@ -13,6 +13,9 @@ use Rattle.protect_record.specs.Exporting.{prune_book}
 use Rattle.protect_record.specs.declared.verdict.Verdict.{Verdict}
 use Rattle.protect_record.specs.declared.verdict.Verdict.TheVariants as verdict
 use Rattle.record_join.specs.Keys.{kept_of, with_key, with_kept, EachKey}
+use Rattle.record_join.specs.Repeats.{repeats}
+use Rattle.record_join.specs.declared.judged.Judged.{Judged}
+use Rattle.record_join.specs.declared.judged.Judged.TheVariants as judged
 use Rattle.record_join.specs.declared.fault.BeginFault.{BeginFault}
 use Rattle.record_join.specs.declared.fault.BeginFault.TheVariants as begin_fault
 use Rattle.record_join.specs.declared.fault.MergeFault.{MergeFault}
@@ -92,6 +95,13 @@ pub record IsRefusal (past : Past) (m : Message) (v : Verdict) : Type 0 where
   pub is_verdict : IsVerdict parts m v
   pub is_no_pass : v ≢ verdict.Pass
   pub forbids : ¬ (Passes past m)
+
+-- what the key's past says of the message
+abbrev pub Judges : List (PubKey × Past) → PubKey → Message → Judged → Type 0
+Judges pasts key m judged.Unknown = kept_of pasts key ≡ None
+Judges pasts key m (judged.Refused v) = IsSomeAnd (kept_of pasts key) (λ past. IsRefusal past m v)
+Judges pasts key m judged.NoRoom = IsSomeAnd (kept_of pasts key) (λ past. Passes past m)
+Judges pasts key m (judged.Ready repeat) = IsSomeAnd (kept_of pasts key) (λ past. Passes past m × (repeat ≡ repeats past m))
 
 -- whether the key's past lets the message pass, and the pasts after it was taken in or not
 abbrev pub TakesIn : List (PubKey × Past) → List (PubKey × Parts) → PubKey → Message → Taken → Type 0

@@ -1,4 +1,5 @@
 pub mod Keys
+pub mod Repeats
 pub mod Taking
 pub mod BooksPasts
 pub mod Preparing

@@ -49,6 +49,15 @@ pub record IsReady {X : Type 0} (size : X → ℕ × ℕ) (old : List (PubKey ×
   pub count : length fresh ≡ new_keys old listed
   pub room : HaveRoomFor size new listed
 
+-- the keys of these books are kept, with room for them
+abbrev pub IsPrepared : List (PubKey × Parts) → List (PubKey × Book) → List PubKey → List (PubKey × Parts) → Type 0
+IsPrepared old listed fresh new = IsReady book_size old listed fresh new
+
+-- fresh keys joined the kept ones with empty records, and of the others each keeps what it kept, maybe with more room
+pub record AreTaken (before : List (PubKey × Parts)) (fresh : List PubKey) (now : List (PubKey × Parts)) : Type 0 where
+  pub absent : AreFresh no_parts before fresh
+  pub same : EachKey SameParts (with_each no_parts before fresh) now
+
 -- the key was kept; or it is now, with an empty record, and stands behind the fresh ones
 abbrev pub Knows : List (PubKey × Parts) → List (PubKey × Parts) → PubKey → List PubKey → List PubKey → Type 0
 Knows old new key fresh more =

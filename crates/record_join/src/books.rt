@@ -1,21 +1,27 @@
 //! The records of many keys.
-ghost use Rattle.std.specs.Prelude.{◌≡◌, ◌+◌, ◌≤◌, ◌<◌, ◌↔◌, List, [], None, IsSome, IsTrue, OnOk, OnErr, IfOk, IfErr, length, option_copied};
+ghost use Rattle.std.specs.Prelude.{Bool, ◌≡◌, ◌+◌, ◌≤◌, ◌<◌, ◌↔◌, List, [], None, IsSome, IsTrue, OnOk, OnErr, IfOk, IfErr, is_some, length, option_copied, if◌then◌else◌};
 ghost use Rattle.std.specs.Map.{keys_of};
 ghost use Rattle.edge_kit.specs.declared.bytes.PubKey.{PubKey};
-ghost use Rattle.protect_record.specs.Parts.{SameParts};
+ghost use Rattle.protect_record.specs.Parts.{Parts, SameParts};
 ghost use Rattle.protect_record.specs.Pasts.{Past, no_past};
 ghost use Rattle.record_join.specs.Keys.{kept_of, with_key, EachKey};
-ghost use Rattle.record_join.specs.BooksPasts.{BooksStand, TakesIn, Prunes, IsBeginFault, IsMergeFault, EachOnce, KeepsOthers, with_file, joined, new_keys, key_limit};
+ghost use Rattle.record_join.specs.BooksPasts.{BooksStand, Judges, TakesIn, Prunes, IsBeginFault, IsMergeFault, EachOnce, KeepsOthers, own_grown, with_file, joined, new_keys, key_limit};
+ghost use Rattle.record_join.specs.Preparing.{AreTaken, IsPrepared};
+ghost use Rattle.record_join.specs.Taking.{IsReadyFor};
 
+use crate::beginning::{insert_new, make_fresh};
 use crate::fault::{BeginFault, MergeFault};
 use crate::joining::{join_records, prepare_records};
+use crate::judged::Judged;
+use crate::judging::{add, judge};
 use crate::keep::{prune_at, take_in};
-use crate::limit::{KEY_LIMIT, new_books, new_records, over_limit};
-use crate::merging::{merge_books, prepare_books};
+use crate::limit::{KEY_LIMIT, new_records, over_limit};
+use crate::merging::{merge_books, prepare_within};
+use crate::room::take_out;
 use crate::taken::{Pruned, Taken};
 use edge_kit::{Items, PubKey};
 use protect_record::Record;
-use slash_defs::{File, Message};
+use slash_defs::{Book, File, Message};
 use std::alloc::{AllocError, Global};
 use std::collections::BTreeMap;
 use std::collections::btree_map::Iter;
@@ -23,6 +29,9 @@ use std::marker::Model;
 
 /// Keys in order, each once.
 pub type Keys = Items<PubKey>;
+
+/// Keys that were not kept before they were made ready, each once.
+pub type Fresh = Items<PubKey>;
 
 /// The protection records of at most 65,536 keys. Contracts see each key with what its record keeps, in key
 /// order, each key once.
@@ -124,6 +133,105 @@ impl Books {
         }
     }
 
+    /// Makes ready for these books, of which each key is listed once: each listed key is kept, with room for its
+    /// book. The keys that were not kept are given. `has_room` says whether there is room beside; without it
+    /// nothing is made ready.
+    ///
+    /// # Errors
+    ///
+    /// `TooManyKeys` exactly where there would be more than 65,536 keys, and `OutOfMemory`. Each record keeps
+    /// what it kept.
+    pub fn prepare(
+        &mut self,
+        listed: &[(PubKey, Book)],
+        has_room: bool,
+    ) -> Result<Fresh, MergeFault>
+        requires { EachOnce listed.now }
+        ensures prepared { IfOk result (λ fresh. IsPrepared self.old listed.now fresh self.new) }
+        ensures within { OnOk result (length self.old + new_keys self.old listed.now ≤ key_limit) }
+        ensures room { OnOk result (IsTrue has_room) }
+        ensures fault { IfErr result (IsMergeFault self.old listed.now) }
+        ensures err { OnErr result ((pasts : List (PubKey × Past)) → BooksStand self.old pasts → BooksStand self.new pasts) }
+        ensures same { OnErr result (EachKey SameParts self.old self.new) }
+    {
+        let fresh = prepare_within(&mut self.kept, self.alloc, listed, has_room)?;
+        Ok(Items::from_vec(fresh))
+    }
+
+    /// Merges the books that were made ready for: of each listed key the past gains the book (EIP-3076), and a
+    /// key that was not kept begins with it. Takes no memory.
+    pub fn merge_prepared(&mut self, listed: &[(PubKey, Book)])
+        requires once { EachOnce listed.now }
+        requires ready { (before : List (PubKey × Parts)) × (fresh : List PubKey) × IsPrepared before listed.now fresh self.old }
+        ensures { (before : List (PubKey × Parts)) (fresh : List PubKey) (pasts : List (PubKey × Past)) → IsPrepared before listed.now fresh self.old
+            → BooksStand before pasts → BooksStand self.new (with_file pasts listed.now) }
+    {
+        merge_books(&mut self.kept, listed);
+    }
+
+    /// Keeps a key that was not kept, with no past; a key that is kept stays. The key is given where it was not
+    /// kept.
+    ///
+    /// # Errors
+    ///
+    /// `TooManyKeys` exactly where 65,536 keys are kept and this is another, and `OutOfMemory`. Nothing has
+    /// changed then.
+    pub fn prepare_key(&mut self, key: PubKey) -> Result<Fresh, BeginFault>
+        ensures known { IfOk result (λ fresh. (pasts : List (PubKey × Past)) → BooksStand self.old pasts
+            → BooksStand self.new (if is_some (kept_of pasts key) then pasts else with_key pasts key no_past)) }
+        ensures fresh { IfOk result (λ fresh. AreTaken self.old fresh self.new) }
+        ensures within { OnOk result (kept_of self.old key ≡ None → length self.old < key_limit) }
+        ensures fault { IfErr result (IsBeginFault self.old key) }
+        ensures err { OnErr result (self.new ≡ self.old) }
+    {
+        let fresh = make_fresh(&mut self.kept, self.alloc, key)?;
+        Ok(Items::from_vec(fresh))
+    }
+
+    /// Takes back what was made ready: the fresh keys are kept no more, and each other record keeps what it
+    /// kept. Takes no memory.
+    pub fn take_back(&mut self, fresh: Fresh)
+        ensures same { (before : List (PubKey × Parts)) → AreTaken before fresh self.old → EachKey SameParts before self.new }
+        ensures stands { (before : List (PubKey × Parts)) (pasts : List (PubKey × Past)) → AreTaken before fresh self.old → BooksStand before pasts → BooksStand self.new pasts }
+    {
+        take_out(&mut self.kept, fresh.into_vec());
+    }
+
+    /// Judges a message by the past of its key, and makes room for it there. `has_room` says whether there is
+    /// room beside. Each record keeps what it kept.
+    pub fn judge(&mut self, key: &PubKey, message: &Message, has_room: bool) -> Judged
+        ensures judged { (pasts : List (PubKey × Past)) → BooksStand self.old pasts → Judges pasts key.now message.now result × BooksStand self.new pasts }
+        ensures ready { (repeat : Bool) → result ≡ Judged.Ready repeat → IsReadyFor self.new key.now message.now × IsTrue has_room }
+    {
+        judge(&mut self.kept, key, message, has_room)
+    }
+
+    /// Takes a message that was judged ready into the past of its key. A repeat changes no record. Takes no
+    /// memory.
+    pub fn add(&mut self, key: &PubKey, message: &Message)
+        requires { IsReadyFor self.old key.now message.now }
+        ensures { (pasts : List (PubKey × Past)) → BooksStand self.old pasts → BooksStand self.new (own_grown pasts key.now message.now) }
+    {
+        add(&mut self.kept, key, message);
+    }
+
+    /// Keeps a key that is not kept with this record. A key that is kept stays as it is.
+    ///
+    /// # Errors
+    ///
+    /// `TooManyKeys` exactly where 65,536 keys are kept and this is another, and `OutOfMemory`. Nothing has
+    /// changed then.
+    pub fn insert(&mut self, key: PubKey, record: Record) -> Result<(), BeginFault>
+        ensures known { IsSome (kept_of self.old key) → OnOk result (self.new ≡ self.old) }
+        ensures inserted { OnOk result (kept_of self.old key ≡ None → self.new ≡ with_key self.old key «record») }
+        ensures within { OnOk result (kept_of self.old key ≡ None → length self.old < key_limit) }
+        ensures fault { IfErr result (IsBeginFault self.old key) }
+        ensures err { OnErr result (self.new ≡ self.old) }
+        ensures limit { length self.old ≤ key_limit → length self.new ≤ key_limit }
+    {
+        insert_new(&mut self.kept, key, record)
+    }
+
     /// Takes a message into the past of its key, where that lets it pass and `has_room` says that there is room
     /// beside. Where it was not added, each record keeps what it kept.
     pub fn take_in(&mut self, key: &PubKey, message: &Message, has_room: bool) -> Taken
@@ -154,16 +262,7 @@ impl Books {
         ensures others { KeepsOthers file.now.books self.old self.new }
     {
         let books = file.books.as_slice();
-        let new = new_books(&self.kept, books);
-        if let Some(fault) = over_limit(self.kept.len(), new) {
-            return Err(fault);
-        }
-        if !has_room {
-            return Err(MergeFault::OutOfMemory);
-        }
-        let Ok(()) = prepare_books(&mut self.kept, self.alloc, books) else {
-            return Err(MergeFault::OutOfMemory);
-        };
+        prepare_within(&mut self.kept, self.alloc, books, has_room)?;
         merge_books(&mut self.kept, books);
         Ok(())
     }

@@ -1,8 +1,9 @@
 //! How many keys are kept at most.
-ghost use Rattle.std.specs.Prelude.{◌≡◌, ◌+◌, ◌≤◌, MatchOption};
-ghost use Rattle.record_join.specs.BooksPasts.{key_limit, new_keys, IsOverLimit};
+ghost use Rattle.std.specs.Prelude.{◌≡◌, ◌+◌, ◌≤◌, ◌<◌, None, MatchOption, length};
+ghost use Rattle.record_join.specs.Keys.{kept_of};
+ghost use Rattle.record_join.specs.BooksPasts.{key_limit, new_keys, IsBeginFault, IsOverLimit};
 
-use crate::fault::MergeFault;
+use crate::fault::{BeginFault, MergeFault};
 use edge_kit::PubKey;
 use protect_record::Record;
 use slash_defs::Book;
@@ -21,6 +22,20 @@ pub fn over_limit(have: usize, new: usize) -> Option<MergeFault>
     Some(MergeFault::TooManyKeys {
         have: have as u64,
         new: new as u64,
+    })
+}
+
+/// The fault of a key that is not kept, where no more may be.
+pub fn no_more(kept: &BTreeMap<PubKey, Record>, key: &PubKey) -> Option<BeginFault>
+    ensures { MatchOption result (kept_of kept.now.entries key.now ≡ None → length kept.now.entries < key_limit) (IsBeginFault kept.now.entries key.now) }
+{
+    let have = kept.len();
+    if kept.contains_key(key) || have < KEY_LIMIT {
+        return None;
+    }
+    Some(BeginFault::TooManyKeys {
+        have: have as u64,
+        new: 1,
     })
 }
 

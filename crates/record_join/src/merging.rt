@@ -1,13 +1,15 @@
 //! Books that are merged into the records of their keys.
-ghost use Rattle.std.specs.Prelude.{◌≡◌, [], List, false, IsSomeAnd, OnOk, OnErr, length};
+ghost use Rattle.std.specs.Prelude.{◌≡◌, ◌+◌, ◌≤◌, [], List, false, IsSomeAnd, IsTrue, IfOk, IfErr, OnOk, OnErr, length};
 ghost use Rattle.std.specs.BTreeMap.{is_at};
 ghost use Rattle.edge_kit.specs.declared.bytes.PubKey.{PubKey};
 ghost use Rattle.protect_record.specs.Parts.{SameParts};
 ghost use Rattle.protect_record.specs.Pasts.{Past};
 ghost use Rattle.record_join.specs.Keys.{key_cmp, kept_of, EachKey};
-ghost use Rattle.record_join.specs.BooksPasts.{BooksStand, EachOnce, KeepsOthers, with_file, with_file_book};
+ghost use Rattle.record_join.specs.BooksPasts.{BooksStand, EachOnce, IsMergeFault, KeepsOthers, key_limit, new_keys, with_file, with_file_book};
 ghost use Rattle.record_join.specs.Preparing.{ArePrepared, HasRoomFor, HaveRoomFor, IsReady, book_size};
 
+use crate::fault::MergeFault;
+use crate::limit::{new_books, over_limit};
 use crate::room::{make_room, take_out};
 use edge_kit::PubKey;
 use protect_record::Record;
@@ -15,18 +17,53 @@ use slash_defs::Book;
 use std::alloc::{AllocError, Global};
 use std::collections::BTreeMap;
 
-/// Keeps each listed key, with room for its book. After an error each record keeps what it kept.
+/// Keeps each listed key, with room for its book, and gives those that were not kept. `has_room`: whether there
+/// is room beside.
+///
+/// # Errors
+///
+/// `TooManyKeys` where there would be too many, and `OutOfMemory`. Each record keeps what it kept.
+pub fn prepare_within(
+    kept: &mut BTreeMap<PubKey, Record>,
+    alloc: Global,
+    books: &[(PubKey, Book)],
+    has_room: bool,
+) -> Result<Vec<PubKey>, MergeFault>
+    requires { EachOnce books.now }
+    ensures ready { IfOk result (λ fresh. IsReady book_size kept.old.entries books.now fresh.items kept.new.entries) }
+    ensures within { OnOk result (length kept.old.entries + new_keys kept.old.entries books.now ≤ key_limit) }
+    ensures room { OnOk result (IsTrue has_room) }
+    ensures fault { IfErr result (IsMergeFault kept.old.entries books.now) }
+    ensures err { OnErr result ((pasts : List (PubKey × Past)) → BooksStand kept.old.entries pasts → BooksStand kept.new.entries pasts) }
+    ensures same { OnErr result (EachKey SameParts kept.old.entries kept.new.entries) }
+    ensures others { KeepsOthers books.now kept.old.entries kept.new.entries }
+{
+    let new = new_books(kept, books);
+    if let Some(fault) = over_limit(kept.len(), new) {
+        return Err(fault);
+    }
+    if !has_room {
+        return Err(MergeFault::OutOfMemory);
+    }
+    match prepare_books(kept, alloc, books) {
+        Ok(fresh) => Ok(fresh),
+        Err(_) => Err(MergeFault::OutOfMemory),
+    }
+}
+
+/// Keeps each listed key, with room for its book, and gives those that were not kept. After an error each
+/// record keeps what it kept.
 ///
 /// # Errors
 ///
 /// `AllocError` where memory was wanted.
-pub fn prepare_books(
+fn prepare_books(
     kept: &mut BTreeMap<PubKey, Record>,
     alloc: Global,
     books: &[(PubKey, Book)],
-) -> Result<(), AllocError>
+) -> Result<Vec<PubKey>, AllocError>
     requires { EachOnce books.now }
-    ensures ready { OnOk result ((fresh : List PubKey) × IsReady book_size kept.old.entries books.now fresh kept.new.entries) }
+    ensures ready { IfOk result (λ fresh. IsReady book_size kept.old.entries books.now fresh.items kept.new.entries) }
     ensures err { OnErr result (EachKey SameParts kept.old.entries kept.new.entries) }
     ensures others { KeepsOthers books.now kept.old.entries kept.new.entries }
 {
@@ -35,7 +72,7 @@ pub fn prepare_books(
         take_out(kept, fresh);
         return Err(AllocError);
     }
-    Ok(())
+    Ok(fresh)
 }
 
 /// Merges each book into the record of its key, in the room that there is.

@@ -1,5 +1,5 @@
 //! Records that are made ready, so that more can be taken in without refusal.
-ghost use Rattle.std.specs.Prelude.{◌≡◌, ◌+◌, List, false, All, IsSome, IsSomeAnd, OnOk, OnErr, length, is_some, if◌then◌else◌};
+ghost use Rattle.std.specs.Prelude.{◌≡◌, ◌+◌, List, None, false, All, IsSome, IsSomeAnd, OnOk, OnErr, length, is_some, if◌then◌else◌};
 ghost use Rattle.std.specs.BTreeMap.{is_at};
 ghost use Rattle.edge_kit.specs.declared.bytes.PubKey.{PubKey};
 ghost use Rattle.protect_record.specs.Parts.{Parts, SameParts};
@@ -44,7 +44,7 @@ pub fn take_out(kept: &mut BTreeMap<PubKey, Record>, mut fresh: Vec<PubKey>)
 }
 
 /// Keeps a key that is not kept with an empty record, and notes it.
-fn make_known(
+pub fn make_known(
     kept: &mut BTreeMap<PubKey, Record>,
     alloc: Global,
     key: PubKey,
@@ -52,6 +52,7 @@ fn make_known(
 ) -> Result<(), AllocError>
     ensures knows { OnOk result (Knows kept.old.entries kept.new.entries key fresh.old.items fresh.new.items) }
     ensures err { OnErr result ((kept.new.entries ≡ kept.old.entries) × (fresh.new.items ≡ fresh.old.items)) }
+    ensures absent { OnErr result (kept_of kept.old.entries key ≡ None) }
 {
     if kept.contains_key(&key) {
         return Ok(());

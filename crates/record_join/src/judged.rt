@@ -1,0 +1,18 @@
+//! What the past of a key says of a message.
+use protect_record::Verdict;
+
+/// How a message was judged by the past of its key.
+#[derive(Clone, Copy, PartialEq, Eq, Debug)]
+pub enum Judged {
+    /// No past is kept of the key.
+    Unknown,
+    /// The past forbids the message; never `Verdict::Pass`.
+    Refused(Verdict),
+    /// The message passes, and there is no room to keep it.
+    NoRoom,
+    /// The message passes, and there is room to add it.
+    Ready {
+        /// Whether the past has the message already, with its root.
+        repeat: bool,
+    },
+}
