@@ -24,7 +24,8 @@ use Rattle.record_codec.specs.declared.item.JournalItem.{JournalItem}
 use Rattle.record_codec.specs.declared.item.JournalItem.TheVariants as item
 use Rattle.record_join.specs.Keys.{key_cmp, kept_of, with_key, with_kept}
 use Rattle.record_join.proofs.OrderLemmas.{at_itself, same_key, apart_back, kept_here, kept_apart, put_kept}
-use Rattle.record_replay.specs.Items.{key_of, named_keys, blocks_of, votes_of, floors_of_item, blocks_in, votes_in, floors_in, states_in, with_state}
+use Rattle.record_codec.specs.Reading.{batch_of}
+use Rattle.record_replay.specs.Items.{items_in, items_or_none, key_of, named_keys, blocks_of, votes_of, floors_of_item, blocks_in, votes_in, floors_in, states_in, with_state}
 use Rattle.record_replay.specs.Gathering.{Gains, no_gains, with_gain, gains_in, known_gains, with_item, IsGathered}
 use Rattle.record_replay.specs.declared.state.KeyState.{KeyState}
 
@@ -120,6 +121,21 @@ gathered_next before items i d kept new states stated lt gathered is has =
     let one : JournalItem = get_or items i d in
     let P : List JournalItem → Type 0 = λ xs. IsGathered xs new stated in
     subst P (append_assoc before (take i items) (one ∷ []) ∙ ap (λ xs. before ++ xs) (sym (take_more items i d lt))) (gathered_more (before ++ take i items) one kept new states stated gathered is has)
+
+-- so far in a list of payloads
+pub items_next : {V : Type 0} (bytes : V → List ℕ) (payloads : List V) (i : ℕ) (v : V) (payload : List ℕ) (kept : List (PubKey × Gains)) (states : List (PubKey × KeyState)) → i < length payloads → v ≡ get_or payloads i v
+    → payload ≡ bytes v → IsGathered (items_in (map bytes (take i payloads)) ++ items_or_none (batch_of payload)) kept states → IsGathered (items_in (map bytes (take (i + 1) payloads))) kept states
+items_next {V} bytes payloads i v payload kept states lt at is gathered =
+    let P : List JournalItem → Type 0 = λ xs. IsGathered xs kept states in
+    subst P (sym longer) gathered where
+      one : flat_map (λ p. items_or_none (batch_of p)) (bytes v ∷ []) ≡ items_or_none (batch_of payload)
+      one = append-nil (items_or_none (batch_of (bytes v))) ∙ ap (λ p. items_or_none (batch_of p)) (sym is)
+
+      split : map bytes (take (i + 1) payloads) ≡ map bytes (take i payloads) ++ bytes v ∷ []
+      split = ap (λ xs. map bytes xs) (take_more payloads i v lt ∙ ap (λ x. take i payloads ++ x ∷ []) (sym at)) ∙ map-append bytes (take i payloads) (v ∷ [])
+
+      longer : items_in (map bytes (take (i + 1) payloads)) ≡ items_in (map bytes (take i payloads)) ++ items_or_none (batch_of payload)
+      longer = ap (λ xs. items_in xs) split ∙ flat_map-append (λ p. items_or_none (batch_of p)) (map bytes (take i payloads)) (bytes v ∷ []) ∙ ap (λ xs. items_in (map bytes (take i payloads)) ++ xs) one
 
 -- an item of a key that is kept
 pub took_known : {E : Type 0} (r : Result (Unit {0}) E) (old new : List (PubKey × Gains)) (key : PubKey) (one : JournalItem) (was after : Gains) → IsStrictlySortedBy key_cmp (keys_of old) → key ≡ key_of one
