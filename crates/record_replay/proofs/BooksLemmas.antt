@@ -1,34 +1,31 @@
 -- From what was gathered of each key to its record, and to the past that the items stand for.
-use Rattle.std.proofs.Common.{◌≡◌, ℕ, suc, ◌+◌, ◌<◌, ◌≤◌, Bool, true, false, cond, List, [], ◌∷◌, ◌++◌, length, map, take, get_or, Option, None, Some, refl, sym, ◌∙◌, ap, subst, arith, Contains}
-use Rattle.std.specs.List.{IsDistinct, flat_map, AllByRecursion}
+use Rattle.std.proofs.Common.{◌≡◌, ◌+◌, Bool, true, false, cond, List, [], ◌∷◌, ◌++◌, map, None, Some, refl, sym, ◌∙◌, ap, subst}
+use Rattle.std.specs.List.{IsDistinct, AllByRecursion}
 use Rattle.std.specs.List.Sorted.{IsStrictlySortedBy}
-use Rattle.std.specs.Ordering.{eq_by_cmp, is_eq, match_ordering}
-use Rattle.std.specs.declared.cmp.Ordering.{Ordering}
-use Rattle.std.specs.declared.cmp.Ordering.TheVariants.{Less, Equal, Greater}
+use Rattle.std.specs.Ordering.{eq_by_cmp}
+use Rattle.std.specs.declared.cmp.Ordering.TheVariants.{Less, Greater}
 use Rattle.std.specs.BTreeMap.{is_at}
 use Rattle.std.specs.Map.{keys_of}
 use Rattle.std.proofs.lemmas.Cmp.{eq_by_cmp_equiv}
 use Rattle.std.proofs.lemmas.List.{map-id}
-use Rattle.std.proofs.lemmas.List.Concat.{flat_map-append}
 use Rattle.std.proofs.lemmas.Map.{lookup-none}
 use Rattle.std.proofs.lemmas.Map.Entries.{none_past_head}
 use Rattle.std.proofs.lemmas.Map.Keys.{sorted_head, sorted_tail, IsDistinct-tail}
 use Rattle.edge_kit.specs.declared.bytes.PubKey.{PubKey}
 use Rattle.slash_defs.specs.declared.entry.BlockEntry.{BlockEntry}
 use Rattle.slash_defs.specs.declared.entry.VoteEntry.{VoteEntry}
-use Rattle.slash_defs.specs.FileOrder.{block_cmp, vote_cmp}
 use Rattle.protect_record.specs.declared.floors.Floors.{Floors}
-use Rattle.protect_record.specs.Floors.{IsDeadBlock, IsDeadVote, floors_of}
+use Rattle.protect_record.specs.Floors.{IsDeadBlock, IsDeadVote}
 use Rattle.protect_record.specs.Parts.{Parts}
-use Rattle.protect_record.specs.Pasts.{Past, IsPastBlock, IsPastVote}
+use Rattle.protect_record.specs.Pasts.{Past}
 use Rattle.protect_record.specs.Standing.{Stands}
 use Rattle.protect_record.proofs.OrderLemmas.{greater_from_less}
 use Rattle.record_join.specs.Keys.{key_cmp, kept_of, with_key, EachKey}
 use Rattle.record_join.specs.BooksPasts.{BooksStand}
-use Rattle.record_join.proofs.KeyLemmas.{each_flip, each_found, each_keys}
-use Rattle.record_join.proofs.OrderLemmas.{key_total, at_itself, same_key}
+use Rattle.record_join.proofs.KeyLemmas.{each_flip, each_found}
+use Rattle.record_join.proofs.OrderLemmas.{key_total, at_itself}
 use Rattle.record_codec.specs.declared.item.JournalItem.{JournalItem}
-use Rattle.record_replay.specs.Items.{named_keys, blocks_in, votes_in, floors_in}
+use Rattle.record_replay.specs.Items.{named_keys, floors_in}
 use Rattle.record_replay.specs.Gathering.{Gains, gains_in, known_gains, IsRecordOf}
 use Rattle.record_replay.specs.Replaying.{IsReplayed, KeyStands}
 

@@ -1,5 +1,5 @@
 -- What is gathered where one more item comes.
-use Rattle.std.proofs.Common.{◌≡◌, ℕ, ◌+◌, ◌<◌, Bool, true, false, cond, List, [], ◌∷◌, ◌++◌, length, get_or, map, take, fold, Option, Some, None, Result, Ok, Err, refl, sym, ◌∙◌, ap, subst}
+use Rattle.std.proofs.Common.{◌≡◌, ℕ, ◌+◌, ◌<◌, Bool, true, false, List, [], ◌∷◌, ◌++◌, length, get_or, map, take, fold, Some, Result, refl, sym, ◌∙◌, ap, subst}
 use Rattle.std.specs.Prelude.{IsSome, OnOk}
 use Rattle.std.specs.List.{flat_map}
 use Rattle.std.specs.List.Sorted.{IsStrictlySortedBy}
@@ -14,8 +14,6 @@ use Rattle.std.proofs.lemmas.List.Concat.{flat_map-append}
 use Rattle.std.proofs.lemmas.List.Sums.{fold-append}
 use Rattle.std.proofs.lemmas.Result.{MatchResult-weaker}
 use Rattle.edge_kit.specs.declared.bytes.PubKey.{PubKey}
-use Rattle.slash_defs.specs.declared.entry.BlockEntry.{BlockEntry}
-use Rattle.slash_defs.specs.declared.entry.VoteEntry.{VoteEntry}
 use Rattle.protect_record.specs.declared.floors.Floors.{Floors}
 use Rattle.protect_record.specs.Parts.{no_floors}
 use Rattle.protect_record.specs.Floors.{greater_floors}
@@ -26,7 +24,7 @@ use Rattle.record_join.specs.Keys.{key_cmp, kept_of, with_key, with_kept}
 use Rattle.record_join.proofs.OrderLemmas.{at_itself, same_key, apart_back, kept_here, kept_apart, put_kept}
 use Rattle.record_codec.specs.Reading.{batch_of}
 use Rattle.record_replay.specs.Items.{items_in, items_or_none, key_of, named_keys, blocks_of, votes_of, floors_of_item, blocks_in, votes_in, floors_in, states_in, with_state}
-use Rattle.record_replay.specs.Gathering.{Gains, no_gains, with_gain, gains_in, known_gains, with_item, IsGathered}
+use Rattle.record_replay.specs.Gathering.{Gains, with_gain, gains_in, known_gains, with_item, IsGathered}
 use Rattle.record_replay.specs.declared.state.KeyState.{KeyState}
 
 -- what one more item adds to each part

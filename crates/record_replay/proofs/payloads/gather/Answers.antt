@@ -1,6 +1,4 @@
-use Rattle.std.proofs.Common.{sym, subst, List, rules, ◌≡◌}
-use Rattle.record_codec.specs.declared.item.JournalItem.{JournalItem}
-use Rattle.record_replay.specs.Gathering.{IsGathered}
+use Rattle.std.proofs.Common.{rules, ◌≡◌}
 use Rattle.record_replay.proofs.GatherLemmas.{items_next}
 use Rattle.record_replay.proofs.payloads.gather.Goals as goal
 
