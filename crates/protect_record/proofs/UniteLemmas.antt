@@ -63,6 +63,16 @@ gathered_dropped cmp Dead old more both new united drops = record {
   in_order = drops.in_order;
 }
 
+-- put in order, each once, and then dropped
+pub once_dropped : {X : Type 0} (cmp : X → X → Ordering) (Dead : X → Type 0) (more both new : List X) → HasUnited cmp [] more both → HasDropped cmp Dead both new → HasDropped cmp Dead more new
+once_dropped {X} cmp Dead more both new united drops = record {
+  elements = λ e. (λ has. let h = (drops.elements e).0 has in (only e ((united.elements e).0 h.0), h.1), λ h. (drops.elements e).1 ((united.elements e).1 (inr h.0), h.1));
+  in_order = drops.in_order;
+} where
+  only : (e : X) → Contains [] e ⊎ Contains more e → Contains more e
+  only e (inl has) = contains_none e has
+  only e (inr has) = has
+
 -- united with none
 pub united_none : {X : Type 0} (cmp : X → X → Ordering) (xs : List X) → IsInOrder cmp xs → HasUnited cmp xs [] xs
 united_none {X} cmp xs up = record {

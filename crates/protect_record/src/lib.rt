@@ -16,6 +16,7 @@ mod tests;
 mod verdict;
 mod walk;
 
+pub use bounds::{floors_of_book, join_floors};
 pub use floors::Floors;
 pub use kept::Kept;
 pub use laws::{covers_own, join_laws, passes_less};

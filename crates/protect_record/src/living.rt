@@ -4,10 +4,10 @@ ghost use Rattle.std.specs.Bool.{OnFalse};
 ghost use Rattle.slash_defs.specs.FileOrder.{block_cmp, vote_cmp};
 ghost use Rattle.protect_record.specs.Order.{IsInOrder};
 ghost use Rattle.protect_record.specs.Floors.{IsDeadBlock, IsDeadVote, is_dead_block, is_dead_vote};
-ghost use Rattle.protect_record.specs.Gathering.{HasGathered};
+ghost use Rattle.protect_record.specs.Gathering.{HasDropped, HasGathered};
 
 use crate::floors::Floors;
-use crate::sorted::unite;
+use crate::sorted::{sort_once, unite};
 use slash_defs::{BlockEntry, VoteEntry};
 
 /// Unites kept blocks with more of them, in the room that was reserved, and drops those that are dead.
@@ -33,6 +33,22 @@ pub fn gather_votes(list: &mut Vec<VoteEntry>, more: &[VoteEntry], floors: Floor
     if !has_dead_vote(list.as_slice(), floors) {
         return;
     }
+    drop_dead_votes(list, floors);
+}
+
+/// Puts blocks in file order, each once, and drops those that are dead.
+pub fn keep_live_blocks(list: &mut Vec<BlockEntry>, floors: Floors)
+    ensures { HasDropped block_cmp (IsDeadBlock floors) list.old.items list.new.items }
+{
+    sort_once(list);
+    drop_dead_blocks(list, floors);
+}
+
+/// Puts votes in file order, each once, and drops those that are dead.
+pub fn keep_live_votes(list: &mut Vec<VoteEntry>, floors: Floors)
+    ensures { HasDropped vote_cmp (IsDeadVote floors) list.old.items list.new.items }
+{
+    sort_once(list);
     drop_dead_votes(list, floors);
 }
 

@@ -8,17 +8,18 @@ ghost use Rattle.protect_record.specs.Standing.{Stands};
 ghost use Rattle.protect_record.specs.Verdicts.{IsVerdict};
 ghost use Rattle.protect_record.specs.Changes.{HasAdded};
 ghost use Rattle.std.specs.Option.{option_to_list};
-ghost use Rattle.protect_record.specs.Floors.{book_floors};
-ghost use Rattle.protect_record.specs.Gathering.{Gathers, IsJoin, IsMerge, IsWellKept};
+ghost use Rattle.protect_record.specs.Floors.{book_floors, IsDeadBlock, IsDeadVote};
+ghost use Rattle.protect_record.specs.Gathering.{Gathers, HasDropped, IsJoin, IsMerge, IsWellKept};
 ghost use Rattle.protect_record.specs.Exporting.{export_of, prune_book, IsExportedExactly};
 ghost use Rattle.slash_defs.specs.declared.message.Message.{Message};
+ghost use Rattle.slash_defs.specs.FileOrder.{block_cmp, vote_cmp};
 ghost use Rattle.protect_record.specs.Iterating.{entries_left};
 
 use crate::bounds::{floors_of_book, greatest_slot, join_floors};
 use crate::export::{greatest_of, vote_to_prune, votes_to_export};
 use crate::floors::Floors;
 use crate::kept::Kept;
-use crate::living::{gather_blocks, gather_votes};
+use crate::living::{gather_blocks, gather_votes, keep_live_blocks, keep_live_votes};
 use crate::pruning::{blocks_to_prune, votes_of};
 use crate::sorted::insert_once;
 use crate::verdict::Verdict;
@@ -68,6 +69,22 @@ impl Record {
             },
             blocks: Vec::new(alloc),
             votes: Vec::new(alloc),
+        }
+    }
+
+    /// The record of these floors and of those of these entries that still count under them, each once. Takes
+    /// no memory.
+    pub fn of_parts(floors: Floors, mut blocks: Vec<BlockEntry>, mut votes: Vec<VoteEntry>) -> Self
+        ensures floors { result.floors ≡ floors }
+        ensures blocks { HasDropped block_cmp (IsDeadBlock floors) blocks.items result.blocks }
+        ensures votes { HasDropped vote_cmp (IsDeadVote floors) votes.items result.votes }
+    {
+        keep_live_blocks(&mut blocks, floors);
+        keep_live_votes(&mut votes, floors);
+        Record {
+            floors,
+            blocks,
+            votes,
         }
     }
 

@@ -1,5 +1,5 @@
 //! Vectors in an order, each element once.
-ghost use Rattle.std.specs.Prelude.{◌≡◌, ◌<◌, ◌≤◌, ◌+◌, vec_len, vec_capacity, length};
+ghost use Rattle.std.specs.Prelude.{◌≡◌, ◌<◌, ◌≤◌, ◌+◌, [], vec_len, vec_capacity, length};
 ghost use Rattle.std.proofs.lemmas.Map.Lookups.{CmpEqualImpliesEq};
 ghost use Rattle.protect_record.specs.Order.{IsInOrder};
 ghost use Rattle.protect_record.specs.Changes.{HasJoined};
@@ -34,6 +34,15 @@ pub fn unite<T: Ord + Copy>(list: &mut Vec<T>, more: &[T])
         return;
     }
     let _ = list.extend_from_slice(more);
+    list.sort_unstable();
+    list.dedup();
+}
+
+/// Puts a list in order, each item once.
+pub fn sort_once<T: Ord + Copy>(list: &mut Vec<T>)
+    requires { CmpEqualImpliesEq T.cmp }
+    ensures { HasUnited T.cmp [] list.old.items list.new.items }
+{
     list.sort_unstable();
     list.dedup();
 }

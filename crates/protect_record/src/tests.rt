@@ -167,3 +167,38 @@ fn a_long_book_comes_back_in_order(rt: HostRuntime) -> Result<(), Fail> {
     assert_eq!(rt; joined.floors(), record.floors());
     Ok(())
 }
+
+#[test]
+fn a_record_of_parts_keeps_what_counts_once(rt: HostRuntime) -> Result<(), Fail> {
+    let alloc = rt.alloc();
+    let floors = Floors {
+        block: Some(10),
+        vote: Some((2, 9)),
+    };
+    let blocks = [
+        block(12, Some(RA)),
+        block(9, None),
+        block(10, None),
+        block(12, Some(RA)),
+    ];
+    let votes = [
+        vote(4, 11, None),
+        vote(2, 8, None),
+        vote(3, 8, Some(RB)),
+        vote(4, 11, None),
+    ];
+    let record = Record::of_parts(
+        floors,
+        Vec::from_slice(alloc, &blocks)?,
+        Vec::from_slice(alloc, &votes)?,
+    );
+    let want = [
+        Entry::Block(block(10, None)),
+        Entry::Block(block(12, Some(RA))),
+        Entry::Vote(vote(3, 8, Some(RB))),
+        Entry::Vote(vote(4, 11, None)),
+    ];
+    assert!(rt; gives(&record, &want));
+    assert_eq!(rt; record.floors(), floors);
+    Ok(())
+}

@@ -6,3 +6,5 @@ pub mod BookItemLemmas
 pub mod SameBookLemmas
 pub mod ChangeLemmas
 pub mod PruningLemmas
+pub mod GatherLemmas
+pub mod BooksLemmas

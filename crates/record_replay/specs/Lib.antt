@@ -2,3 +2,4 @@ pub mod Items
 pub mod Batches
 pub mod Replaying
 pub mod Pruning
+pub mod Gathering

@@ -3,9 +3,13 @@
 
 mod batches;
 mod fault;
+mod gathered;
+mod gathering;
 mod laws;
 mod payloads;
 mod state;
+#[cfg(test)]
+mod tests;
 
 pub use batches::{book_items, file_items, message_item};
 pub use fault::ReplayFault;

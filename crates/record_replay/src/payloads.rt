@@ -4,17 +4,20 @@ ghost use Rattle.std.specs.Map.{keys_of};
 ghost use Rattle.edge_kit.specs.declared.bytes.PubKey.{PubKey};
 ghost use Rattle.protect_record.specs.Parts.{Parts};
 ghost use Rattle.protect_record.specs.Pasts.{Past};
-ghost use Rattle.record_join.specs.Keys.{kept_of};
+ghost use Rattle.record_join.specs.Keys.{EachKey, kept_of};
 ghost use Rattle.record_join.specs.BooksPasts.{BooksStand, key_limit};
+ghost use Rattle.record_replay.specs.Gathering.{IsGathered, IsRecordOf};
 ghost use Rattle.record_replay.specs.Items.{items_in, named_keys, states_in};
 ghost use Rattle.record_replay.specs.Replaying.{IsReplayed, IsReplayFault, ItemsStand, lasting_states};
 ghost use Rattle.record_replay.specs.declared.state.KeyState.{KeyState};
 
 use crate::fault::ReplayFault;
+use crate::gathered::Gathered;
+use crate::gathering::Gathering;
 use crate::state::KeyState;
 use edge_kit::PubKey;
-use record_join::Books;
-use std::alloc::Global;
+use record_join::{BeginFault, Books, KEY_LIMIT};
+use std::alloc::{AllocError, Global};
 use std::collections::BTreeMap;
 
 /// The keys that a journal's payloads name: the record of each, and the state of those that were activated
@@ -42,5 +45,43 @@ pub fn replay(alloc: Global, payloads: &[Vec<u8>]) -> Result<Replayed, ReplayFau
         → BooksStand r.books pasts × (r.states.entries ≡ lasting_states states)) }
     ensures fault { IfErr result (IsReplayFault (items_in (map (λ v. v.items) payloads.now))) }
 {
-    Err(ReplayFault::OutOfMemory)
+    let Ok(gathering) = gather(alloc, payloads) else {
+        return Err(ReplayFault::OutOfMemory);
+    };
+    let new = gathering.keys.len();
+    if new > KEY_LIMIT {
+        return Err(ReplayFault::TooManyKeys {
+            have: 0,
+            new: new as u64,
+        });
+    }
+    let Ok(books) = books_of(alloc, gathering.keys) else {
+        return Err(ReplayFault::OutOfMemory);
+    };
+    Ok(Replayed {
+        books,
+        states: gathering.states,
+    })
+}
+
+/// What the items of payloads say of each key. A payload that can't be read adds nothing.
+fn gather(alloc: Global, payloads: &[Vec<u8>]) -> Result<Gathering, AllocError>
+    ensures { IfOk result (λ g. IsGathered (items_in (map (λ v. v.items) payloads.now)) g.keys.entries g.states.entries) }
+{
+    let mut gathering = Gathering::new(alloc);
+    for payload in payloads {
+        gathering.take_payload(alloc, payload.as_slice())?;
+    }
+    Ok(gathering)
+}
+
+/// The record of each key, of what was gathered of it.
+fn books_of(alloc: Global, keys: BTreeMap<PubKey, Gathered>) -> Result<Books, BeginFault>
+    ensures { IfOk result (λ books. EachKey IsRecordOf keys.entries books) }
+{
+    let mut books = Books::new(alloc);
+    'keys: for (key, gathered) in keys {
+        books.insert(key, gathered.into_record())?;
+    }
+    Ok(books)
 }
