@@ -15,7 +15,7 @@ use crate::room::{count_of, fits_one, make_room, note};
 use crate::writing::{refusal, write_items};
 use edge_kit::{Disk, PubKey};
 use record_codec::JournalItem;
-use record_replay::KeyState;
+use record_replay::{KeyState, replay_laws};
 
 impl<D: Disk> Desk<D> {
     /// Makes a key active.
@@ -39,6 +39,7 @@ impl<D: Disk> Desk<D> {
             KeyState::Closing => return DeskReply::Closing,
             KeyState::Known | KeyState::Closed => {}
         }
+        replay_laws();
         if !fits_one(&self.books, &key) {
             return DeskReply::TooManyKeys {
                 have: self.books.len() as u64,
@@ -77,6 +78,7 @@ impl<D: Disk> Desk<D> {
         ensures genesis { self.new.contents.genesis ≡ self.old.contents.genesis }
         ensures second { self.new.second ≡ self.old.second }
     {
+        replay_laws();
         let Some(_) = self.books.get(&key) else {
             return DeskReply::Unknown;
         };
@@ -109,6 +111,7 @@ impl<D: Disk> Desk<D> {
         let Some(record) = self.books.get(&key) else {
             return DeskReply::Unknown;
         };
+        replay_laws();
         let state = state_of(&self.states, &key);
         if state != KeyState::Closing {
             return DeskReply::NotClosing(state);

@@ -13,7 +13,8 @@ use crate::event::Event;
 use crate::room::{make_room, note, note_merge};
 use crate::writing::{refusal, write_book, write_file};
 use edge_kit::{Disk, PubKey};
-use record_join::MergeFault;
+use record_join::{MergeFault, prepared_law};
+use record_replay::{pruning_law, replay_laws};
 use slash_defs::File;
 
 impl<D: Disk> Desk<D> {
@@ -38,6 +39,8 @@ impl<D: Disk> Desk<D> {
                 given: file.genesis,
             };
         }
+        replay_laws();
+        prepared_law();
         let has_room = make_room(&mut self.events, &mut self.grants, self.closable);
         let fresh = match self.books.prepare(file.books.as_slice(), has_room) {
             Ok(fresh) => fresh,
@@ -79,6 +82,9 @@ impl<D: Disk> Desk<D> {
         let Ok(noted) = record.pruning_book(self.alloc) else {
             return DeskReply::OutOfMemory;
         };
+        replay_laws();
+        pruning_law();
+        prepared_law();
         let has_room = make_room(&mut self.events, &mut self.grants, self.closable);
         let listed = [(key, book)];
         let Ok(fresh) = self.books.prepare(&listed, has_room) else {

@@ -14,7 +14,7 @@ use crate::room::{give, make_room, open_grant};
 use crate::writing::{refusal, write_message};
 use edge_kit::{Disk, PubKey};
 use record_join::Judged;
-use record_replay::KeyState;
+use record_replay::{KeyState, replay_laws};
 use slash_defs::Message;
 
 impl<D: Disk> Desk<D> {
@@ -42,6 +42,7 @@ impl<D: Disk> Desk<D> {
             KeyState::Closing => return DeskReply::Closing,
             KeyState::Known | KeyState::Closed => return DeskReply::NotActive,
         }
+        replay_laws();
         let has_room = make_room(&mut self.events, &mut self.grants, self.closable);
         let repeat = match self.books.judge(&key, &message, has_room) {
             Judged::Unknown => return DeskReply::Unknown,
