@@ -106,13 +106,13 @@ pub grown : {D : Type 0} (faults : D → ℕ) (old new : Journaled D) (items : L
     → ItemsStand (items_in old.payloads ++ items) after.keys after.states → after.size ≡ state.size + frame_size items → after.torn ≡ None
     → Rest desk after → DeskStands desk after
 grown faults old new items desk state after wrote size journal payloads_are size_is torn_is stand grows up rest =
-    let made = wrote.2.1 in
+    let made = wrote.2 in
     let sized : desk.size ≡ old.size + frame_size items = size_is ∙ ap (λ j. j.size) made in
     let lists : desk.payloads ≡ old.payloads ++ payloads_of items = payloads_are ∙ ap (λ j. j.payloads) made in
     let whole_torn : desk.torn ≡ None = torn_is ∙ ap (λ j. j.torn) made in
     let P : List (List ℕ) → Type 0 = λ l. PayloadsStand l (lasting after) in
     whole desk after rest (sized ∙ ap (λ n. n + frame_size items) size ∙ sym grows)
-    (subst P (sym lists) (batch_stands old.payloads items old.size (lasting after) wrote.2.0 stand journal (grows ∙ ap (λ n. n + frame_size items) (sym size))))
+    (subst P (sym lists) (batch_stands old.payloads items old.size (lasting after) wrote.1 stand journal (grows ∙ ap (λ n. n + frame_size items) (sym size))))
     (none_torn desk.payloads desk.torn after.torn whole_torn up)
 
 -- ---- nothing was written, and the reply says why
@@ -156,14 +156,18 @@ module _ {D : Type 0} (faults : D → ℕ) (old new : Journaled D) (items : List
       )
   by_fault fault.OutOfMemory R A wrote stand size journal clean up payloads_are size_is torn_is proceeds writes more grows disk memory full on_disk on_memory on_full rest =
       let P : State → Type 0 = λ s. DeskStands desk s in
-      let L : List (List ℕ) → Type 0 = λ ps. PayloadsStand ps (lasting state) in
-      (memory (up, proceeds), subst P (sym on_memory) (whole desk (moved_on state.torn) rest (size_is ∙ ap (λ j. j.size) wrote ∙ size) (subst L (sym (payloads_are ∙ ap (λ j. j.payloads) wrote)) stand)
-      (none_torn desk.payloads desk.torn state.torn (torn_is ∙ ap (λ j. j.torn) wrote ∙ clean) up)))
+      let L : List (List ℕ) → Type 0 = λ ps. PayloadsStand ps (lasting state) in (
+        memory (up, proceeds),
+        subst P (sym on_memory) (whole desk (moved_on state.torn) rest (size_is ∙ ap (λ j. j.size) wrote ∙ size) (subst L (sym (payloads_are ∙ ap (λ j. j.payloads) wrote)) stand)
+            (none_torn desk.payloads desk.torn state.torn (torn_is ∙ ap (λ j. j.torn) wrote ∙ clean) up)),
+      )
   by_fault (fault.Full s w) R A wrote stand size journal clean up payloads_are size_is torn_is proceeds writes more grows disk memory full on_disk on_memory on_full rest =
       let P : State → Type 0 = λ x. DeskStands desk x in
       let L : List (List ℕ) → Type 0 = λ ps. PayloadsStand ps (lasting state) in
       let sizes : ℕ → Type 0 = λ n. IsOver n items s w in
       let whats : List JournalItem → Type 0 = λ i. IsOver state.size i s w in
-      let same = wrote.1 in
-      (full s w (up, proceeds, subst whats (sym writes) (subst sizes size wrote.0)), subst P (sym (on_full s w)) (whole desk (moved_on state.torn) rest (size_is ∙ ap (λ j. j.size) same ∙ size) (subst L (sym (payloads_are ∙ ap (λ j. j.payloads) same)) stand)
-      (none_torn desk.payloads desk.torn state.torn (torn_is ∙ ap (λ j. j.torn) same ∙ clean) up)))
+      let same = wrote.1 in (
+        full s w (up, proceeds, subst whats (sym writes) (subst sizes size wrote.0)),
+        subst P (sym (on_full s w)) (whole desk (moved_on state.torn) rest (size_is ∙ ap (λ j. j.size) same ∙ size) (subst L (sym (payloads_are ∙ ap (λ j. j.payloads) same)) stand)
+            (none_torn desk.payloads desk.torn state.torn (torn_is ∙ ap (λ j. j.torn) same ∙ clean) up)),
+      )

@@ -49,9 +49,23 @@ impl<D: Disk> Model for Desk<D> {
 
     ghost Value = { Seen D };
 
-    ghost view = { λ d. record { disk = d.journal.disk; second = d.second; contents = record {
-      genesis = d.genesis; keys = d.books; states = d.states.entries; grants = d.grants.items; next = d.next; latest = d.latest; watch = d.watch;
-      events = d.events.items; payloads = d.journal.payloads; size = d.journal.size; torn = d.journal.torn } } };
+    ghost view = { λ d. record {
+      disk = d.journal.disk;
+      second = d.second;
+      contents = record {
+        genesis = d.genesis;
+        keys = d.books;
+        states = d.states.entries;
+        grants = d.grants.items;
+        next = d.next;
+        latest = d.latest;
+        watch = d.watch;
+        events = d.events.items;
+        payloads = d.journal.payloads;
+        size = d.journal.size;
+        torn = d.journal.torn;
+      };
+    } };
 
     // There is room for the events of settling each open grant and of beginning to close each active key.
     ghost invariant = { λ d. (vec_len d.events + vec_len d.grants + d.closable ≤ vec_capacity d.events) × (d.next ≤ vec_len d.events)

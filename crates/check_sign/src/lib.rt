@@ -17,7 +17,7 @@ mod room;
 mod signing;
 mod writing;
 
-pub use call::{DeskCall, DeskReply, Keys, KeyStates, MOMENT_LIMIT, Outcome};
+pub use call::{DeskCall, DeskReply, KeyStates, Keys, MOMENT_LIMIT, Outcome};
 pub use desk::Desk;
 pub use event::{DeskEvent, Event, Events};
 pub use grant::Grant;

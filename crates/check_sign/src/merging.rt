@@ -16,6 +16,7 @@ use edge_kit::{Disk, PubKey};
 use record_join::{MergeFault, prepared_law};
 use record_replay::{pruning_law, replay_laws};
 use slash_defs::File;
+use std::slice::from_ref;
 
 impl<D: Disk> Desk<D> {
     /// Merges a file, and keeps each of its keys.
@@ -86,18 +87,18 @@ impl<D: Disk> Desk<D> {
         pruning_law();
         prepared_law();
         let has_room = make_room(&mut self.events, &mut self.grants, self.closable);
-        let listed = [(key, book)];
-        let Ok(fresh) = self.books.prepare(&listed, has_room) else {
+        let listed = (key, book);
+        let Ok(fresh) = self.books.prepare(from_ref(&listed), has_room) else {
             return DeskReply::OutOfMemory;
         };
-        if let Err(fault) = write_book(&mut self.journal, self.alloc, &listed[0]) {
+        if let Err(fault) = write_book(&mut self.journal, self.alloc, &listed) {
             self.books.take_back(fresh);
             return refusal(fault);
         }
-        self.books.merge_prepared(&listed);
+        self.books.merge_prepared(from_ref(&listed));
         let event = Event::Pruned { key, book: noted };
         note(&mut self.events, event, self.latest);
-        let [(_, book)] = listed;
+        let (_, book) = listed;
         DeskReply::Pruned(book)
     }
 }

@@ -16,11 +16,7 @@ use slash_defs::{File, Message};
 /// Makes room for one more grant: for its event, for the event of its settling, and for itself, beside the
 /// events of settling those that are open and of beginning to close so many keys. Whether there is room; it
 /// fails only where there was too little.
-pub fn make_room(
-    events: &mut Vec<DeskEvent>,
-    grants: &mut Vec<OpenGrant>,
-    closable: usize,
-) -> bool
+pub fn make_room(events: &mut Vec<DeskEvent>, grants: &mut Vec<OpenGrant>, closable: usize) -> bool
     ensures events { events.new.items ≡ events.old.items }
     ensures events_len { vec_len events.new ≡ vec_len events.old }
     ensures kept { grants.new.items ≡ grants.old.items }
