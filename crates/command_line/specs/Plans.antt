@@ -1,5 +1,5 @@
 -- What the words ask the program to do, as `clap` reads them by the table.
-use Rattle.std.specs.Prelude.{Bool, true, false, List, [], ◌∷◌, ◌||◌, Option, Some, None, Result, Ok, Err, option_map, option_and_then, if◌then◌else◌, codes}
+use Rattle.std.specs.Prelude.{ℕ, ◌==◌, Bool, true, false, List, [], ◌∷◌, ◌||◌, length, Option, Some, None, Result, Ok, Err, option_map, option_and_then, if◌then◌else◌, codes}
 use Rattle.std.specs.Str.{bytes_eq}
 use Rattle.edge_kit.specs.Texts.{hex_bytes}
 use Rattle.edge_kit.specs.declared.bytes.Root.{Root}
@@ -10,18 +10,22 @@ use Rattle.clap.specs.declared.error.kind.ErrorKind.TheVariants.{DisplayHelp, Di
 use Rattle.command_line.specs.Forks.{fork_at}
 use Rattle.command_line.specs.Table.{table}
 use Rattle.command_line.specs.declared.planned.Plan.{Plan}
-use Rattle.command_line.specs.declared.planned.Plan.TheVariants.{Session, Shown}
+use Rattle.command_line.specs.declared.planned.Plan.TheVariants.{Session, Merge, Show, Shown}
 use Rattle.command_line.specs.declared.planned.Usage.{Usage}
 
--- what words ask for: a session, the text of help or the version, or nothing that there is
+-- what words ask for: a session, with its journal's path if any, a merge or a showing of a journal, the text of help or the version, or nothing that there is
 pub data Asked : Type 0 where
-  session : Root → Fork → Asked
+  session : Root → Option (List ℕ) → Fork → Asked
+  merge : Root → List ℕ → Asked
+  show : Root → List ℕ → Asked
   shown : Asked
   nothing : Asked
 
 -- what an answer takes the words to ask for
 abbrev pub taken_as : Result Plan Usage → Asked
-taken_as (Ok (Session genesis fork)) = session genesis fork
+taken_as (Ok (Session genesis journal fork)) = session genesis journal fork
+taken_as (Ok (Merge genesis journal)) = merge genesis journal
+taken_as (Ok (Show genesis journal)) = show genesis journal
 taken_as (Ok (Shown text)) = shown
 taken_as (Err usage) = nothing
 
@@ -38,14 +42,37 @@ genesis_in options = option_map (λ bytes. record { 0 = bytes }) (option_and_the
 abbrev pub fork_in : List Row → Option Fork
 fork_in options = option_and_then fork_at (first_of (codes "fork") options)
 
+-- the path that a text writes: none where the text is empty
+abbrev pub path_at : Text → Option (List ℕ)
+path_at text = if length text == 0 then None else Some text
+
+-- the path that the value of `--journal` writes
+abbrev pub journal_in : List Row → Option (List ℕ)
+journal_in options = option_and_then path_at (first_of (codes "journal") options)
+
+-- the session of a chain and a fork with the value of `--journal`, if there is one
+abbrev pub session_with : Root → Fork → Option Text → Asked
+session_with genesis fork None = session genesis None fork
+session_with genesis fork (Some text) = or_nothing (option_map (λ path. session genesis (Some path) fork) (path_at text))
+
 -- the session of these options
 abbrev pub session_in : List Row → Asked
-session_in options = or_nothing (option_and_then (λ genesis. option_map (session genesis) (fork_in options)) (genesis_in options))
+session_in options =
+    or_nothing (option_and_then (λ genesis. option_map (λ fork. session_with genesis fork (first_of (codes "journal") options)) (fork_in options)) (genesis_in options))
+
+-- the merge of these options
+abbrev pub merge_in : List Row → Asked
+merge_in options = or_nothing (option_and_then (λ genesis. option_map (merge genesis) (journal_in options)) (genesis_in options))
+
+-- the showing of these options
+abbrev pub show_in : List Row → Asked
+show_in options = or_nothing (option_and_then (λ genesis. option_map (show genesis) (journal_in options)) (genesis_in options))
 
 -- help on the program, or on the command that is named
 abbrev pub help_on : Option Text → Asked
 help_on None = shown
-help_on (Some name) = if bytes_eq name (codes "session") || bytes_eq name (codes "help") then shown else nothing
+help_on (Some name) =
+    if bytes_eq name (codes "session") || bytes_eq name (codes "merge") || bytes_eq name (codes "show") || bytes_eq name (codes "help") then shown else nothing
 
 -- the help that is asked for with the value of `COMMAND`
 abbrev pub help_in : List Row → Asked
@@ -55,7 +82,9 @@ help_in options = help_on (first_of (codes "command") options)
 abbrev pub asked_in : Text → List Row → Asked
 asked_in name options =
     if bytes_eq name (codes "session") then session_in options
-    else (if bytes_eq name (codes "help") then help_in options else nothing)
+    else (if bytes_eq name (codes "merge") then merge_in options
+    else (if bytes_eq name (codes "show") then show_in options
+    else (if bytes_eq name (codes "help") then help_in options else nothing)))
 
 -- what the subcommand that the words name asks for
 abbrev pub asked_at : Option (Text × List Row) → Asked

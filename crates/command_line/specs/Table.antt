@@ -1,5 +1,5 @@
 -- The program's command line: its subcommands, their options, and what stands where an option is absent.
-use Rattle.std.specs.Prelude.{[], ◌∷◌, Some, true, codes}
+use Rattle.std.specs.Prelude.{Bool, [], ◌∷◌, Some, true, false, codes}
 use Rattle.clap.specs.Words.{App, Rule, Shape, new_app, new_rule, with_rule, with_subcommand}
 use Rattle.clap.specs.declared.builder.action.ArgAction.TheVariants.{Set}
 
@@ -10,6 +10,15 @@ genesis_rule = record (new_rule (codes "genesis")) {
   action = Some Set;
   value_names = 1;
   required = true;
+}
+
+-- `--journal PATH`, which must be given or may be absent
+abbrev pub journal_rule : Bool → Rule
+journal_rule is_required = record (new_rule (codes "journal")) {
+  long = Some (codes "journal");
+  action = Some Set;
+  value_names = 1;
+  required = is_required;
 }
 
 -- `--fork PREVIOUS:CURRENT:EPOCH`, both versions zero from epoch 0 on where it is absent
@@ -23,7 +32,15 @@ fork_rule = record (new_rule (codes "fork")) {
 
 -- the command `session` with its options
 abbrev pub session_shape : Shape
-session_shape = (with_rule (with_rule (new_app (codes "session")) genesis_rule) fork_rule).top
+session_shape = (with_rule (with_rule (with_rule (new_app (codes "session")) genesis_rule) (journal_rule false)) fork_rule).top
+
+-- the command `merge` with its options
+abbrev pub merge_shape : Shape
+merge_shape = (with_rule (with_rule (new_app (codes "merge")) genesis_rule) (journal_rule true)).top
+
+-- the command `show` with its options
+abbrev pub show_shape : Shape
+show_shape = (with_rule (with_rule (new_app (codes "show")) genesis_rule) (journal_rule true)).top
 
 -- `help [COMMAND]`: a command's name, or none
 abbrev pub help_shape : Shape
@@ -42,4 +59,4 @@ program_shape = record (new_app (codes "validator")).top {
 
 -- the whole command line
 abbrev pub table : App
-table = with_subcommand (with_subcommand (record { top = program_shape; subs = [] }) session_shape) help_shape
+table = with_subcommand (with_subcommand (with_subcommand (with_subcommand (record { top = program_shape; subs = [] }) session_shape) merge_shape) show_shape) help_shape

@@ -1,7 +1,7 @@
 //! The table of commands and options, as `clap` takes it.
 ghost use Rattle.std.specs.Prelude.{◌≡◌, IfOk, false};
 ghost use Rattle.clap.specs.Words.{app_of, rule_of, shape_of};
-ghost use Rattle.command_line.specs.Table.{table, session_shape, help_shape, genesis_rule, fork_rule};
+ghost use Rattle.command_line.specs.Table.{table, session_shape, merge_shape, show_shape, help_shape, genesis_rule, journal_rule, fork_rule};
 
 use clap::{Arg, ArgAction, Command};
 use std::alloc::{AllocError, Global};
@@ -10,19 +10,31 @@ use std::alloc::{AllocError, Global};
 const SESSION_AT_A_GLANCE: &str = "Options of session:
       --genesis <HEX32>
           Genesis validators root of the chain: 0x and 64 hex digits [required]
+      --journal <PATH>
+          Remembers over restarts, in PATH.a and PATH.b; without it the record ends with the run
       --fork <PREVIOUS:CURRENT:EPOCH>
           Fork of the signing domains: two versions, each 0x and 8 hex digits, and the epoch from
           which the second holds, in decimal [default: 0x00000000:0x00000000:0]
 
+Options of merge and show:
+      --genesis <HEX32>
+          Genesis validators root of the chain: 0x and 64 hex digits [required]
+      --journal <PATH>
+          Journal of a session, in PATH.a and PATH.b [required]
+
 A session reads requests from standard input, one JSON object a line, and writes the answer to each
-to standard output, until the input ends. What it signed it remembers for the length of the run.
-Hex digits may be of either case.";
+to standard output, until the input ends. Hex digits may be of either case.";
+
+/// What `--journal` names where a command needs it.
+const JOURNAL_OF_A_SESSION: &str = "Journal of a session, in PATH.a and PATH.b";
 
 /// The whole command line.
 pub(crate) fn program<'a>(alloc: Global) -> Result<Command<'a>, AllocError>
     ensures { IfOk result (λ c. app_of c ≡ table) }
 {
     let session = session(alloc)?;
+    let merge = merge(alloc)?;
+    let show = show(alloc)?;
     let help = help(alloc)?;
     Command::new(alloc, "validator")
         .version("0.1.0")
@@ -31,6 +43,8 @@ pub(crate) fn program<'a>(alloc: Global) -> Result<Command<'a>, AllocError>
         .subcommand_required(true)
         .disable_help_subcommand(true)
         .subcommand(session)?
+        .subcommand(merge)?
+        .subcommand(show)?
         .subcommand(help)
 }
 
@@ -39,11 +53,41 @@ pub(crate) fn session<'a>(alloc: Global) -> Result<Command<'a>, AllocError>
     ensures { IfOk result (λ c. shape_of c ≡ session_shape) }
 {
     let genesis = genesis(alloc);
+    let journal = journal(
+        alloc,
+        "Remembers over restarts, in PATH.a and PATH.b; without{n}it the record ends with the run",
+        false,
+    );
     let fork = fork(alloc);
     Command::new(alloc, "session")
         .about("Answers signing requests, one JSON object a line, from standard input")
         .arg(genesis)?
+        .arg(journal)?
         .arg(fork)
+}
+
+/// The command `merge`.
+pub(crate) fn merge<'a>(alloc: Global) -> Result<Command<'a>, AllocError>
+    ensures { IfOk result (λ c. shape_of c ≡ merge_shape) }
+{
+    let genesis = genesis(alloc);
+    let journal = journal(alloc, JOURNAL_OF_A_SESSION, true);
+    Command::new(alloc, "merge")
+        .about("Merges the interchange file (EIP-3076) on the input into a journal")
+        .arg(genesis)?
+        .arg(journal)
+}
+
+/// The command `show`.
+pub(crate) fn show<'a>(alloc: Global) -> Result<Command<'a>, AllocError>
+    ensures { IfOk result (λ c. shape_of c ≡ show_shape) }
+{
+    let genesis = genesis(alloc);
+    let journal = journal(alloc, JOURNAL_OF_A_SESSION, true);
+    Command::new(alloc, "show")
+        .about("Prints what each key of a journal has")
+        .arg(genesis)?
+        .arg(journal)
 }
 
 /// The option `--genesis`.
@@ -56,6 +100,19 @@ fn genesis<'a>(alloc: Global) -> Arg<'a>
         .value_name("HEX32")
         .help("Genesis validators root of the chain: 0x and 64 hex digits")
         .required(true)
+        .action(ArgAction::Set)
+}
+
+/// The option `--journal`, which some commands cannot do without.
+fn journal<'a>(alloc: Global, about: &'a str, is_required: bool) -> Arg<'a>
+    ensures local { result.global ≡ false }
+    ensures rule { rule_of result ≡ journal_rule is_required }
+{
+    Arg::new(alloc, "journal")
+        .long("journal")
+        .value_name("PATH")
+        .help(about)
+        .required(is_required)
         .action(ArgAction::Set)
 }
 

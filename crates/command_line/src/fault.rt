@@ -18,6 +18,9 @@ pub(crate) enum Fault<'a> {
     /// The value of `--genesis` is out of form.
     #[error("error: invalid value '{0}' for '--genesis <HEX32>': 0x and 64 hex digits are wanted")]
     Genesis(&'a str),
+    /// The value of `--journal` is empty.
+    #[error("error: invalid value '' for '--journal <PATH>': a path is wanted")]
+    Journal,
     /// The value of `--fork` is out of form.
     #[error("error: invalid value '{0}' for '--fork <PREVIOUS:CURRENT:EPOCH>': two versions, each 0x and 8 hex digits, and an epoch in decimal below 2^64 are wanted, joined by :")]
     Fork(&'a str),

@@ -1,6 +1,7 @@
 //! What the words ask the program to do, and the texts that answer other words.
 ghost use Rattle.std.specs.Prelude.{◌≡◌, string_bytes};
 
+use crate::path_text::PathText;
 use edge_kit::Root;
 use phase0_types::Fork;
 use std::fmt;
@@ -11,8 +12,25 @@ use thiserror::Error;
 #[derive(Debug, Drop)]
 pub enum Plan {
     /// A session over standard input and output, for the chain of this genesis validators root, whose
-    /// signing domains are those of this fork.
-    Session { genesis: Root, fork: Fork },
+    /// signing domains are those of this fork. What it signs is kept in the journal of this path, and
+    /// where there is none, for the length of the run.
+    Session {
+        genesis: Root,
+        journal: Option<PathText>,
+        fork: Fork,
+    },
+    /// The interchange file on standard input, of the chain of this genesis validators root, is merged
+    /// into the journal of this path.
+    Merge {
+        genesis: Root,
+        journal: PathText,
+    },
+    /// What each key of the journal of this path has is written to standard output. The journal is of the
+    /// chain of this genesis validators root.
+    Show {
+        genesis: Root,
+        journal: PathText,
+    },
     /// Nothing but a text, for standard output: the words ask for help or for the version.
     Shown(ShownText),
 }

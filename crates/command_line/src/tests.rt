@@ -49,8 +49,15 @@ fn sessions_have_their_genesis_and_fork(rt: HostRuntime) -> Result<(), Fail> {
         (&["session", "--fork", FORK, "--genesis", ROOT], last),
     ];
     for (words, wanted) in rows {
-        let Ok(Plan::Session { genesis, fork }) = answer(rt.alloc(), words)? else {
-            return Err(Fail::from("no session"));
+        let Ok(
+            Plan::Session {
+                genesis,
+                journal: None,
+                fork,
+            },
+        ) = answer(rt.alloc(), words)?
+        else {
+            return Err(Fail::from("no session without a journal"));
         };
         assert_eq!(rt; genesis, Root([0xab; 32]), "{words:?}");
         assert_eq!(rt; fork, wanted, "{words:?}");
@@ -58,8 +65,50 @@ fn sessions_have_their_genesis_and_fork(rt: HostRuntime) -> Result<(), Fail> {
     Ok(())
 }
 
+/// Words behind the program's name that name a journal, each with its command and its path.
+const WITH_JOURNAL: [(&[&str], &str); 6] = [
+    (
+        &["session", GENESIS_IS_ROOT, "--journal", "keys"],
+        "session keys",
+    ),
+    (
+        &["session", "--journal=/var/a b", GENESIS_IS_ROOT],
+        "session /var/a b",
+    ),
+    (
+        &["merge", GENESIS_IS_ROOT, "--journal", "keys"],
+        "merge keys",
+    ),
+    (&["merge", "--journal=a=b", GENESIS_IS_ROOT], "merge a=b"),
+    (&["show", GENESIS_IS_ROOT, "--journal", "keys"], "show keys"),
+    (&["show", "--journal=.", GENESIS_IS_ROOT], "show ."),
+];
+
+#[test]
+fn journals_have_their_paths(rt: HostRuntime) -> Result<(), Fail> {
+    for (words, wanted) in WITH_JOURNAL {
+        let Ok(planned) = answer(rt.alloc(), words)? else {
+            return Err(Fail::from("a usage error"));
+        };
+        let (command, root, path) = match planned {
+            Plan::Session {
+                genesis,
+                journal: Some(path),
+                fork: _,
+            } => ("session", genesis, path),
+            Plan::Merge { genesis, journal } => ("merge", genesis, journal),
+            Plan::Show { genesis, journal } => ("show", genesis, journal),
+            _ => return Err(Fail::from("no journal")),
+        };
+        let text = format!(in rt.alloc(); "{command} {}", path.as_str())?;
+        assert_eq!(rt; text.as_str(), wanted, "{words:?}");
+        assert_eq!(rt; root, Root([0xab; 32]), "{words:?}");
+    }
+    Ok(())
+}
+
 /// Words behind the program's name that are no command, each with a piece of what is told.
-const FAULTY: [(&[&str], &str); 16] = [
+const FAULTY: [(&[&str], &str); 22] = [
     (&[], "requires a subcommand"),
     (&["serve"], "unrecognized subcommand 'serve'"),
     (&["session"], "not provided:\n  --genesis <HEX32>"),
@@ -136,6 +185,30 @@ const FAULTY: [(&[&str], &str); 16] = [
         ],
         "for '--fork",
     ),
+    (
+        &["session", GENESIS_IS_ROOT, "--journal", ""],
+        "value '' for '--journal <PATH>': a path",
+    ),
+    (
+        &["merge", GENESIS_IS_ROOT, "--journal="],
+        "value '' for '--journal <PATH>': a path",
+    ),
+    (
+        &["merge", GENESIS_IS_ROOT],
+        "not provided:\n  --journal <PATH>",
+    ),
+    (
+        &["show", "--journal", "keys"],
+        "not provided:\n  --genesis <HEX32>",
+    ),
+    (
+        &["show", "--journal=keys", "--genesis=0xab"],
+        "for '--genesis <HEX32>': 0x and 64",
+    ),
+    (
+        &["show", GENESIS_IS_ROOT, "--journal=keys", "--fork", FORK],
+        "unexpected argument '--fork'",
+    ),
     (&["help", "serve"], "unrecognized subcommand 'serve'"),
 ];
 
@@ -166,6 +239,8 @@ Usage: validator <COMMAND>
 
 Commands:
   session  Answers signing requests, one JSON object a line, from standard input
+  merge    Merges the interchange file (EIP-3076) on the input into a journal
+  show     Prints what each key of a journal has
   help     Shows this help, or that of a command
 
 Options:
@@ -175,13 +250,20 @@ Options:
 Options of session:
       --genesis <HEX32>
           Genesis validators root of the chain: 0x and 64 hex digits [required]
+      --journal <PATH>
+          Remembers over restarts, in PATH.a and PATH.b; without it the record ends with the run
       --fork <PREVIOUS:CURRENT:EPOCH>
           Fork of the signing domains: two versions, each 0x and 8 hex digits, and the epoch from
           which the second holds, in decimal [default: 0x00000000:0x00000000:0]
 
+Options of merge and show:
+      --genesis <HEX32>
+          Genesis validators root of the chain: 0x and 64 hex digits [required]
+      --journal <PATH>
+          Journal of a session, in PATH.a and PATH.b [required]
+
 A session reads requests from standard input, one JSON object a line, and writes the answer to each
-to standard output, until the input ends. What it signed it remembers for the length of the run.
-Hex digits may be of either case.
+to standard output, until the input ends. Hex digits may be of either case.
 ";
 
 const SESSION_SCREEN: &str = "Answers signing requests, one JSON object a line, from standard input
@@ -190,20 +272,34 @@ Usage: validator session [OPTIONS] --genesis <HEX32>
 
 Options:
       --genesis <HEX32>                Genesis validators root of the chain: 0x and 64 hex digits
+      --journal <PATH>                 Remembers over restarts, in PATH.a and PATH.b; without
+                                       it the record ends with the run
       --fork <PREVIOUS:CURRENT:EPOCH>  Fork of the signing domains: two versions, each 0x and 8
                                        hex digits, and the epoch from which the second holds,
                                        in decimal [default: 0x00000000:0x00000000:0]
   -h, --help                           Print help
 ";
 
+const MERGE_SCREEN: &str = "Merges the interchange file (EIP-3076) on the input into a journal
+
+Usage: validator merge --genesis <HEX32> --journal <PATH>
+
+Options:
+      --genesis <HEX32>  Genesis validators root of the chain: 0x and 64 hex digits
+      --journal <PATH>   Journal of a session, in PATH.a and PATH.b
+  -h, --help             Print help
+";
+
 #[test]
 fn help_and_version_are_shown(rt: HostRuntime) -> Result<(), Fail> {
-    let rows: [(&[&str], &str); 7] = [
+    let rows: [(&[&str], &str); 9] = [
         (&["--help"], SCREEN),
         (&["-h"], SCREEN),
         (&["help"], SCREEN),
         (&["session", "--help"], SESSION_SCREEN),
         (&["help", "session"], SESSION_SCREEN),
+        (&["merge", "--help"], MERGE_SCREEN),
+        (&["help", "merge"], MERGE_SCREEN),
         (&["--version"], "validator 0.1.0\n"),
         (&["-V", "serve"], "validator 0.1.0\n"),
     ];

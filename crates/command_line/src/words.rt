@@ -2,21 +2,26 @@
 ghost use Rattle.std.specs.Prelude.{◌≡◌, ◌≢◌, IfOk, map, option_map, string_bytes, if◌then◌else◌};
 ghost use Rattle.clap.specs.Words.{found_of, kind_of, rows_of, subcommand_rows_of};
 ghost use Rattle.clap.specs.declared.error.kind.ErrorKind.TheVariants.{OutOfMemory};
-ghost use Rattle.command_line.specs.Plans.{asked_at, asked_in, asked_of, help_on, is_display, nothing, session_in, shown, taken_as};
+ghost use Rattle.command_line.specs.Plans.{asked_at, asked_in, asked_of, help_on, is_display, merge_in, nothing, session_in, session_with, show_in, shown, taken_as};
 
-use crate::command::{help, program, session};
+use crate::command::{help, merge, program, session, show};
 use crate::fault::{Fault, refused};
-use crate::options::{fork_of, genesis_of, text_of};
+use crate::options::{fork_of, genesis_of, journal_of, text_of};
+use crate::path_text::read_path;
 use crate::planned::{Plan, ShownText, Usage};
 use clap::error::ErrorKind;
 use clap::{ArgMatches, Command, Error};
+use edge_kit::Root;
+use phase0_types::Fork;
 use std::alloc::{AllocError, Global};
 
 /// What the words ask the program to do, the first of which is the program's name:
 ///
-/// - `session` with `--genesis`, `0x` and 64 hex digits, and maybe `--fork`, two versions and an epoch
-///   joined by `:`, each version `0x` and 8 hex digits, the epoch 1 to 20 decimal digits below 2^64;
-///   `0x00000000:0x00000000:0` where it is absent. Hex digits are of either case.
+/// - `session` with `--genesis`, `0x` and 64 hex digits, maybe `--journal`, a path that is not empty, and
+///   maybe `--fork`, two versions and an epoch joined by `:`, each version `0x` and 8 hex digits, the
+///   epoch 1 to 20 decimal digits below 2^64; `0x00000000:0x00000000:0` where it is absent. Hex digits
+///   are of either case.
+/// - `merge` and `show`, each with `--genesis` and `--journal`.
 /// - `--help` anywhere before a fault, `help`, `help` with a command's name, and `--version`: a text.
 ///
 /// The words are read as `clap` reads them. The inner error comes exactly where they are none of these;
@@ -70,6 +75,12 @@ fn command_plan(
     if name == "session" {
         return session_plan(alloc, options);
     }
+    if name == "merge" {
+        return merge_plan(alloc, options);
+    }
+    if name == "show" {
+        return show_plan(alloc, options);
+    }
     if name == "help" {
         return help_plan(alloc, text_of(options, "command"));
     }
@@ -81,14 +92,75 @@ fn session_plan(alloc: Global, options: &ArgMatches<'_>) -> Result<Result<Plan, 
     ensures { IfOk result (λ answer. taken_as answer ≡ session_in (rows_of (found_of options.now))) }
 {
     let Some(genesis) = genesis_of(options) else {
-        let text = text_of(options, "genesis").unwrap_or("");
-        return refused(alloc, Fault::Genesis(text));
+        return no_genesis(alloc, options);
     };
     let Some(fork) = fork_of(options) else {
         let text = text_of(options, "fork").unwrap_or("");
         return refused(alloc, Fault::Fork(text));
     };
-    Ok(Ok(Plan::Session { genesis, fork }))
+    session_at(alloc, genesis, text_of(options, "journal"), fork)
+}
+
+/// The answer to `session` for a chain and a fork, with the value of `--journal`, if there is one.
+fn session_at(
+    alloc: Global,
+    genesis: Root,
+    path: Option<&str>,
+    fork: Fork,
+) -> Result<Result<Plan, Usage>, AllocError>
+    ensures { IfOk result (λ answer. taken_as answer ≡ session_with genesis fork (option_map (λ s. s.now) path.entry)) }
+{
+    let Some(path) = path else {
+        let journal = None;
+        return Ok(Ok(Plan::Session {
+            genesis,
+            journal,
+            fork,
+        }));
+    };
+    let Some(journal) = read_path(alloc, path)? else {
+        return refused(alloc, Fault::Journal);
+    };
+    let journal = Some(journal);
+    Ok(Ok(Plan::Session {
+        genesis,
+        journal,
+        fork,
+    }))
+}
+
+/// The answer to `merge`.
+fn merge_plan(alloc: Global, options: &ArgMatches<'_>) -> Result<Result<Plan, Usage>, AllocError>
+    ensures { IfOk result (λ answer. taken_as answer ≡ merge_in (rows_of (found_of options.now))) }
+{
+    let Some(genesis) = genesis_of(options) else {
+        return no_genesis(alloc, options);
+    };
+    let Some(journal) = journal_of(alloc, options)? else {
+        return refused(alloc, Fault::Journal);
+    };
+    Ok(Ok(Plan::Merge { genesis, journal }))
+}
+
+/// The answer to `show`.
+fn show_plan(alloc: Global, options: &ArgMatches<'_>) -> Result<Result<Plan, Usage>, AllocError>
+    ensures { IfOk result (λ answer. taken_as answer ≡ show_in (rows_of (found_of options.now))) }
+{
+    let Some(genesis) = genesis_of(options) else {
+        return no_genesis(alloc, options);
+    };
+    let Some(journal) = journal_of(alloc, options)? else {
+        return refused(alloc, Fault::Journal);
+    };
+    Ok(Ok(Plan::Show { genesis, journal }))
+}
+
+/// The answer to a command whose value of `--genesis` is out of form.
+fn no_genesis(alloc: Global, options: &ArgMatches<'_>) -> Result<Result<Plan, Usage>, AllocError>
+    ensures { IfOk result (λ answer. taken_as answer ≡ nothing) }
+{
+    let text = text_of(options, "genesis").unwrap_or("");
+    refused(alloc, Fault::Genesis(text))
 }
 
 /// The answer to `help`, on a command or on the program.
@@ -98,6 +170,8 @@ fn help_plan(alloc: Global, command: Option<&str>) -> Result<Result<Plan, Usage>
     match command {
         None => shown_help(program(alloc)?),
         Some("session") => shown_help(session(alloc)?.bin_name("validator session")?),
+        Some("merge") => shown_help(merge(alloc)?.bin_name("validator merge")?),
+        Some("show") => shown_help(show(alloc)?.bin_name("validator show")?),
         Some("help") => shown_help(help(alloc)?.bin_name("validator help")?),
         Some(other) => refused(alloc, Fault::Command(other)),
     }
