@@ -1,5 +1,6 @@
 pub mod OpenLemmas
 pub mod StepLemmas
+pub mod DeskLemmas
 pub mod MachineLemmas
 pub mod GrantLemmas
 pub mod ExportLemmas

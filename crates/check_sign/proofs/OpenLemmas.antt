@@ -1,5 +1,5 @@
 -- From what a journal's file may read as to what it may open to.
-use Rattle.std.proofs.Common.{◌≡◌, ◌⊎◌, inl, inr, ⊎_elim, ℕ, List, [], ◌∷◌, ◌++◌, Option, Some, None, refl, sym, ap, subst, arith}
+use Rattle.std.proofs.Common.{◌≡◌, ◌⊎◌, inl, inr, ⊎_elim, ℕ, List, [], ◌∷◌, ◌++◌, Option, Some, None, refl, sym, ◌∙◌, ap, subst, arith}
 use Rattle.std.specs.Prelude.{IsSomeAnd}
 use Rattle.edge_kit.specs.Disks.{LeavesOnly}
 use Rattle.edge_kit.specs.declared.bytes.Root.{Root}
@@ -41,3 +41,11 @@ module _ {D : Type 0} (moment : D → ℕ) (leaves : D → ℕ → List ℕ → 
     root = refl;
     later = omega arith;
   }
+
+  -- the same journals, with the root as the desk knows it
+  pub moved_rooted : (j k : Journaled D) (root : List ℕ) → j.root ≡ root → Moved moment leaves faults j k
+      → Moved moment leaves faults (record { disk = j.disk; root = root; payloads = j.payloads; size = j.size; torn = j.torn }) (record { disk = k.disk; root = root; payloads = k.payloads; size = k.size; torn = k.torn })
+  moved_rooted j k root e moved =
+      let K : List ℕ → Type 0 = λ r. Moved moment leaves faults j (record { disk = k.disk; root = r; payloads = k.payloads; size = k.size; torn = k.torn }) in
+      let J : List ℕ → Type 0 = λ r. Moved moment leaves faults (record { disk = j.disk; root = r; payloads = j.payloads; size = j.size; torn = j.torn }) (record { disk = k.disk; root = root; payloads = k.payloads; size = k.size; torn = k.torn }) in
+      subst J e (subst K (moved.root ∙ e) moved)

@@ -1,5 +1,6 @@
 //! The desk.
-ghost use Rattle.std.specs.Prelude.{◌≡◌, ◌⊎◌, ◌+◌, ◌≤◌, ◌++◌, ◌∷◌, [], ℕ, List, None, Some, Contains, option_copied};
+ghost use Rattle.std.specs.Prelude.{◌≡◌, ◌⊎◌, ◌+◌, ◌≤◌, ◌++◌, ◌∷◌, [], ℕ, List, None, Some, Contains, option_copied, IfOk};
+ghost use Rattle.std.specs.Map.{keys_of};
 ghost use Rattle.edge_kit.specs.Causes.{Rose};
 ghost use Rattle.edge_kit.specs.Disks.{LeavesOnly};
 ghost use Rattle.record_join.specs.Keys.{kept_of};
@@ -19,7 +20,7 @@ use record_join::Books;
 use record_journal::Journal;
 use record_replay::KeyState;
 use slash_defs::{File, Message};
-use std::alloc::Global;
+use std::alloc::{AllocError, Global};
 use std::collections::BTreeMap;
 use std::marker::Model;
 
@@ -150,6 +151,17 @@ impl<D: Disk> Desk<D> {
         ensures { result.now ≡ self.now.contents.events }
     {
         self.events.as_slice()
+    }
+
+    /// The kept keys, in order.
+    ///
+    /// # Errors
+    ///
+    /// `AllocError` where memory was wanted.
+    pub fn kept_keys(&self) -> Result<Keys, AllocError>
+        ensures { IfOk result (λ keys. keys ≡ keys_of self.now.contents.keys) }
+    {
+        self.books.keys(self.alloc)
     }
 
     /// The record of a key, lent, if a past is kept of it. It stands for the key's past. Takes no memory.

@@ -229,11 +229,11 @@ ends_stop h3 fault.Read result rf1 rfm rf2 wf1 wfm wf2 s more rl wl read line in
 ends_stop h3 (fault.TooLong limit.Line) result rf1 rfm rf2 wf1 wfm wf2 s more rl wl read line input st =
     closed_as (status.InputTooLong limit.Line) result (too_long_text limit.Line) _ wfm st wl
     (λ closed. stops rf1 rf2 wf1 wf2 (too_long_text limit.Line) (PassesLimit limit.Line) s more (line refl) closed)
-    (λ n part. breaks_closing rf1 rf2 wf1 wf2 (too_long_text limit.Line) n s more (inr (inr (limit.Line, refl))) part)
+    (λ n part. breaks_closing rf1 rf2 wf1 wf2 (too_long_text limit.Line) n s more (inr (inr (inr (limit.Line, refl)))) part)
 ends_stop h3 (fault.TooLong limit.Input) result rf1 rfm rf2 wf1 wfm wf2 s more rl wl read line input st =
     closed_as (status.InputTooLong limit.Input) result (too_long_text limit.Input) _ wfm st wl
     (λ closed. stops rf1 rf2 wf1 wf2 (too_long_text limit.Input) (PassesLimit limit.Input) s more (input refl) closed)
-    (λ n part. breaks_closing rf1 rf2 wf1 wf2 (too_long_text limit.Input) n s more (inr (inr (limit.Input, refl))) part)
+    (λ n part. breaks_closing rf1 rf2 wf1 wf2 (too_long_text limit.Input) n s more (inr (inr (inr (limit.Input, refl)))) part)
 
 -- each line takes a byte at least
 pub counted : {l2 l3 : Option (List ℕ)} {old new : Pending} (n : ℕ) (line : _) → GivesLine l2 l3 old new (next.Line line) → n + length old.bytes ≤ old.total → n + 1 + length new.bytes ≤ new.total

@@ -1,5 +1,5 @@
 -- What one request did to the desk and the signer.
-use Rattle.std.specs.Prelude.{◌≡◌, ◌≢◌, ℕ, ◌≤◌, ◌++◌, ◌⊎◌, List, Option, None, Some, Result, Ok, Err}
+use Rattle.std.specs.Prelude.{◌≡◌, ◌≢◌, ℕ, ◌≤◌, ◌++◌, ◌⊎◌, List, Option, None, Some, IsSome, Result, Ok, Err}
 use Rattle.std.specs.Map.{keys_of}
 use Rattle.edge_kit.specs.Causes.{Rose}
 use Rattle.edge_kit.specs.Tellings.{Tells}
@@ -11,7 +11,7 @@ use Rattle.signer_link.specs.declared.signer.SignCall.{SignCall}
 use Rattle.signer_link.specs.declared.signer.SignRequest.{SignRequest}
 use Rattle.signer_link.specs.declared.signer.SignReply.{SignReply}
 use Rattle.signer_link.specs.declared.signer.SignReply.TheVariants as signing
-use Rattle.check_sign.specs.Contents.{Contents}
+use Rattle.check_sign.specs.Contents.{Contents, Seen}
 use Rattle.check_sign.specs.States.{State, DeskStands}
 use Rattle.check_sign.specs.Machine.{Reply, after, noted}
 use Rattle.check_sign.specs.declared.open_grant.OpenGrant.{OpenGrant}
@@ -27,6 +27,14 @@ use Rattle.session_format.specs.declared.request.Op.{Op}
 use Rattle.session_format.specs.declared.request.Op.TheVariants as op
 use Rattle.session_format.specs.declared.request.Request.{Request}
 use Rattle.session_format.specs.declared.member.Member.{Member}
+
+-- how a desk with its disks fared: the count of faults has not fallen, a desk that was up failed only where it rose, and the
+-- chain and the other disk are the same
+pub record DeskFares {D : Type 0} (faults : D → ℕ) (old new : Seen D) : Type 0 where
+  pub later : faults old.disk ≤ faults new.disk
+  pub fails : old.contents.torn ≡ None → IsSome new.contents.torn → Rose (faults old.disk) (faults new.disk)
+  pub genesis : new.contents.genesis ≡ old.contents.genesis
+  pub second : new.second ≡ old.second
 
 -- a desk, what its signer tells, and how often that failed
 pub record Pair : Type 0 where

@@ -17,7 +17,7 @@ use Rattle.session_run.specs.declared.next.LineFault.TheVariants as fault
 use Rattle.session_run.specs.Closings.{Closes}
 use Rattle.session_run.specs.declared.status.Status.{Status}
 use Rattle.session_run.specs.declared.status.Status.TheVariants as status
-use Rattle.std.specs.Prelude.{Some, None}
+use Rattle.std.specs.Prelude.{Some, None, IsSome}
 
 -- what a run does to the desk and to the signer: each turn asks what its line says; whichever state the desk stood for, the replies are the machine's, the
 -- desk stands for the state after them, and has noted just that
@@ -92,9 +92,14 @@ read_fault_text = codes "validator: read fault\n"
 abbrev pub too_long_text : Limit → List ℕ
 too_long_text limit.Line = codes "validator: input too long: limit 16777216\n"
 too_long_text limit.Input = codes "validator: input too long: limit 18446744073709551615\n"
+too_long_text limit.File = codes "validator: input too long: limit 268435456\n"
+too_long_text limit.Keys = codes "validator: input too long: limit 65536\n"
+
+abbrev pub disk_fault_text : List ℕ
+disk_fault_text = codes "validator: disk fault\n"
 
 abbrev pub IsClosing : List ℕ → Type 0
-IsClosing text = (text ≡ []) ⊎ (text ≡ read_fault_text) ⊎ ((l : Limit) × (text ≡ too_long_text l))
+IsClosing text = (text ≡ []) ⊎ (text ≡ read_fault_text) ⊎ (text ≡ disk_fault_text) ⊎ ((l : Limit) × (text ≡ too_long_text l))
 
 -- one line was served, and a front of its answer written
 pub record CutShort (domains : Domains) (moment : ℕ) (line : List ℕ) (before now : Pair) (held_before held_now : Option (List ℕ)) : Type 0 where
@@ -163,6 +168,22 @@ pub record LeavesOff (domains : Domains) (moment : ℕ) (before now : View) : Ty
   pub kept : Keeps held now.held
   pub is_next : (now.pair ≡ mid) ⊎ IsNext pending line
 
+-- The first lines were served, up to the one at which the disk failed, each with its answer, and then the closing text was
+-- written.
+pub record Fails (domains : Domains) (moment : ℕ) (before now : View) : Type 0 where
+  pub front : List Turn
+  pub last : Turn
+  pub mid : Pair
+  pub held : Option (List ℕ)
+  pub held_last : Option (List ℕ)
+  pub first : ReadsFirst before.left now.left (front ++ last ∷ [])
+  pub served : HasServed domains moment front before.pair mid before.held held
+  pub served_last : HasServed domains (moment_after moment front) (last ∷ []) mid now.pair held held_last
+  pub up : mid.desk.torn ≡ None
+  pub failed : IsSome now.pair.desk.torn
+  pub laws : Laws moment (front ++ last ∷ []) before.pair
+  pub closed : Appends held_last now.held disk_fault_text
+
 -- why reading stopped
 abbrev pub StoppedShort : List ℕ → ℕ → Type 0
 StoppedShort pending total = IsShortLine pending × (total < input_limit)
@@ -170,6 +191,8 @@ StoppedShort pending total = IsShortLine pending × (total < input_limit)
 abbrev pub PassesLimit : Limit → List ℕ → ℕ → Type 0
 PassesLimit limit.Line pending total = BeginsTooLong pending
 PassesLimit limit.Input pending total = total ≡ input_limit
+PassesLimit limit.File pending total = ⊥
+PassesLimit limit.Keys pending total = ⊥
 
 -- how a session ends, status by status, each with its cause
 abbrev pub Ends : Domains → ℕ → View → View → Status → Type 0
@@ -177,8 +200,25 @@ Ends domains moment before now status.Done = Session domains moment before now
 Ends domains moment before now status.Usage = ⊥
 Ends domains moment before now status.ReadFault = Rose before.reads_failed now.reads_failed × Stops domains moment before now read_fault_text StoppedShort
 Ends domains moment before now status.WriteFault = Rose before.writes_failed now.writes_failed × Breaks domains moment before now
+Ends domains moment before now status.DiskFault = Fails domains moment before now
+Ends domains moment before now status.Damaged = ⊥
+Ends domains moment before now status.GenesisDiffers = ⊥
+Ends domains moment before now status.FileRefused = ⊥
 Ends domains moment before now status.OutOfMemory = LeavesOff domains moment before now
 Ends domains moment before now (status.InputTooLong l) = Stops domains moment before now (too_long_text l) (PassesLimit l)
+
+-- where the input was read to its end, or reading stopped, the disk has not failed
+abbrev pub IsUpAt : Status → Type 0
+IsUpAt status.Done = Unit {0}
+IsUpAt status.ReadFault = Unit {0}
+IsUpAt (status.InputTooLong l) = Unit {0}
+IsUpAt status.Usage = ⊥
+IsUpAt status.WriteFault = ⊥
+IsUpAt status.DiskFault = ⊥
+IsUpAt status.Damaged = ⊥
+IsUpAt status.GenesisDiffers = ⊥
+IsUpAt status.OutOfMemory = ⊥
+IsUpAt status.FileRefused = ⊥
 
 -- how an output is closed after a fault of reading
 abbrev pub StopsAs : LineFault → Option (List ℕ) → Option (List ℕ) → ℕ → ℕ → Status → Type 0

@@ -19,6 +19,10 @@ pub enum Limit {
     Line,
     /// The whole input has 18,446,744,073,709,551,615 bytes or more.
     Input,
+    /// An interchange file has more than 268,435,456 bytes.
+    File,
+    /// A journal names more than 65,536 keys.
+    Keys,
 }
 
 /// Why no line comes.

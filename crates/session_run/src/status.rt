@@ -15,10 +15,18 @@ pub enum Status {
     ReadFault,
     /// The output failed.
     WriteFault,
+    /// The disk failed.
+    DiskFault,
+    /// The journal is damaged.
+    Damaged,
+    /// The journal or the file is of a chain with another root of genesis validators.
+    GenesisDiffers,
     /// Memory ran out.
     OutOfMemory,
     /// The input passed a limit.
     InputTooLong(Limit),
+    /// The file that was to be merged is refused.
+    FileRefused,
 }
 
 impl Status {
@@ -31,8 +39,12 @@ impl Status {
             Status::Usage => 2,
             Status::ReadFault => 3,
             Status::WriteFault => 4,
+            Status::DiskFault => 5,
+            Status::Damaged => 6,
+            Status::GenesisDiffers => 7,
             Status::OutOfMemory => 8,
             Status::InputTooLong(_) => 9,
+            Status::FileRefused => 12,
         }
     }
 }

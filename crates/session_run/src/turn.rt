@@ -8,10 +8,10 @@ ghost use Rattle.signer_link.specs.InMemory.{root_of};
 ghost use Rattle.signer_link.specs.declared.signer.SignReply.{SignReply};
 ghost use Rattle.session_format.specs.Answers.{answer_text};
 ghost use Rattle.session_run.specs.Turns.{IsAnswered, object_of, outcome_of, reply_answer, signed_answer};
-ghost use Rattle.session_run.specs.Acts.{Acts, CallsFor, Did, IsGiven, LeftUndone, ListsOnce, Signs};
+ghost use Rattle.session_run.specs.Acts.{Acts, DeskFares, CallsFor, Did, IsGiven, LeftUndone, ListsOnce, Signs};
 
 use check_sign::{Desk, DeskCall, DeskReply, Grant, Outcome};
-use edge_kit::Root;
+use edge_kit::{Disk, Root};
 use interchange_io::ReadFault;
 use session_format::{Answer, Cause, Op};
 use sign_roots::Domains;
@@ -21,18 +21,19 @@ use std::alloc::{AllocError, Global};
 
 /// Does what a line asks, at the moment, and gives its answer's line. A grant is settled on every path:
 /// `Sent` where its signature goes out, else `Dropped`. Where memory ran out, the desk's call may be done.
-pub fn act<S: Signer>(
+pub fn act<D: Disk, S: Signer>(
     alloc: Global,
     domains: &Domains,
-    desk: &mut Desk,
+    desk: &mut Desk<D>,
     signer: &mut S,
     op: Op,
     now: u64,
 ) -> Result<String, AllocError>
     requires moment { now ≤ moment_limit }
     requires once { ListsOnce op }
-    ensures done { IfOk result (λ text. Did domains.now op now (record { desk = desk.old; told = S.told signer.old; faults = S.faults signer.old }) (record { desk = desk.new; told = S.told signer.new; faults = S.faults signer.new }) (string_bytes text)) }
-    ensures undone { OnErr result (LeftUndone domains.now op now (record { desk = desk.old; told = S.told signer.old; faults = S.faults signer.old }) (record { desk = desk.new; told = S.told signer.new; faults = S.faults signer.new })) }
+    ensures done { IfOk result (λ text. Did domains.now op now (record { desk = desk.old.contents; told = S.told signer.old; faults = S.faults signer.old }) (record { desk = desk.new.contents; told = S.told signer.new; faults = S.faults signer.new }) (string_bytes text)) }
+    ensures undone { OnErr result (LeftUndone domains.now op now (record { desk = desk.old.contents; told = S.told signer.old; faults = S.faults signer.old }) (record { desk = desk.new.contents; told = S.told signer.new; faults = S.faults signer.new })) }
+    ensures fares { DeskFares D.faults desk.old desk.new }
 {
     let request = SignRequest {
         fork: domains.fork,
@@ -63,11 +64,15 @@ fn object_in(op: &Op) -> Option<SignObject>
 }
 
 /// The desk's call of what a line asks; the fault where its text is no file.
-fn call_for(desk: &Desk, op: Op, now: u64) -> Result<Result<DeskCall, ReadFault>, AllocError>
+fn call_for<D: Disk>(
+    desk: &Desk<D>,
+    op: Op,
+    now: u64,
+) -> Result<Result<DeskCall, ReadFault>, AllocError>
     requires moment { now ≤ moment_limit }
     requires once { ListsOnce op }
-    ensures call { IfOk result (λ asked. CallsFor asked (keys_of desk.now.keys) op now) }
-    ensures may { IfOk result (λ asked. IfOk asked (λ c. MayCall desk.now.grants c)) }
+    ensures call { IfOk result (λ asked. CallsFor asked (keys_of desk.now.contents.keys) op now) }
+    ensures may { IfOk result (λ asked. IfOk asked (λ c. MayCall desk.now.contents.grants c)) }
 {
     match op {
         Op::Merge { file } => Ok(Ok(DeskCall::Merge { file })),
@@ -88,24 +93,34 @@ fn call_for(desk: &Desk, op: Op, now: u64) -> Result<Result<DeskCall, ReadFault>
 }
 
 /// Calls the desk, and under the grant that it gives, if any, the signer.
-fn call_desk<S: Signer>(
+fn call_desk<D: Disk, S: Signer>(
     alloc: Global,
     request: &SignRequest,
-    desk: &mut Desk,
+    desk: &mut Desk<D>,
     signer: &mut S,
     call: DeskCall,
 ) -> Result<String, AllocError>
-    requires { MayCall desk.old.grants call }
+    requires { MayCall desk.old.contents.grants call }
     ensures done { IfOk result (λ text. (r : DeskReply) × (s : SignReply)
-        × Acts request.now (record { desk = desk.old; told = S.told signer.old; faults = S.faults signer.old }) (record { desk = desk.new; told = S.told signer.new; faults = S.faults signer.new }) call r s (outcome_of s)
+        × Acts request.now (record { desk = desk.old.contents; told = S.told signer.old; faults = S.faults signer.old }) (record { desk = desk.new.contents; told = S.told signer.new; faults = S.faults signer.new }) call r s (outcome_of s)
         × IsAnswered r s × (string_bytes text ≡ answer_text (reply_answer r s))) }
     ensures undone { OnErr result ((r : DeskReply) × (s : SignReply)
-        × Acts request.now (record { desk = desk.old; told = S.told signer.old; faults = S.faults signer.old }) (record { desk = desk.new; told = S.told signer.new; faults = S.faults signer.new }) call r s Dropped) }
+        × Acts request.now (record { desk = desk.old.contents; told = S.told signer.old; faults = S.faults signer.old }) (record { desk = desk.new.contents; told = S.told signer.new; faults = S.faults signer.new }) call r s Dropped) }
+    ensures fares { DeskFares D.faults desk.old desk.new }
 {
     match desk.call(call) {
         DeskReply::Granted(grant) => sign(alloc, request, desk, signer, grant),
         DeskReply::Merged { keys } => Answer::Merged { keys }.line(alloc),
-        DeskReply::Active | DeskReply::Already | DeskReply::Settled => Answer::Active.line(alloc),
+        DeskReply::Active
+        | DeskReply::Already
+        | DeskReply::Settled
+        | DeskReply::CloseBegun
+        | DeskReply::AlreadyClosing
+        | DeskReply::Closed(_)
+        | DeskReply::Keys(_)
+        | DeskReply::HasFailed(_)
+        | DeskReply::NotClosing(_)
+        | DeskReply::Busy { .. } => Answer::Active.line(alloc),
         DeskReply::Exported(file) => Answer::Exported(file).line(alloc),
         DeskReply::Pruned(_) => Answer::Pruned.line(alloc),
         DeskReply::GenesisDiffers { kept, given } => {
@@ -115,25 +130,29 @@ fn call_desk<S: Signer>(
         DeskReply::NotActive => Answer::NotActive.line(alloc),
         DeskReply::Refused(verdict) => Answer::Refused(verdict).line(alloc),
         DeskReply::TooManyKeys { have, new } => Answer::TooManyKeys { have, new }.line(alloc),
+        DeskReply::Closing => Answer::Closing.line(alloc),
+        DeskReply::Full { size, wanted } => Answer::Full { size, wanted }.line(alloc),
+        DeskReply::Disk => Answer::Disk.line(alloc),
         DeskReply::OutOfMemory => Err(AllocError),
     }
 }
 
 /// Has a granted message signed, and settles the grant.
-fn sign<S: Signer>(
+fn sign<D: Disk, S: Signer>(
     alloc: Global,
     request: &SignRequest,
-    desk: &mut Desk,
+    desk: &mut Desk<D>,
     signer: &mut S,
     grant: Grant,
 ) -> Result<String, AllocError>
-    requires is_open { Contains desk.old.grants grant }
+    requires is_open { Contains desk.old.contents.grants grant }
     requires message { IsSome grant.message }
     ensures done { IfOk result (λ text. (s : SignReply)
-        × Signs request.now (record { desk = desk.old; told = S.told signer.old; faults = S.faults signer.old }) (record { desk = desk.new; told = S.told signer.new; faults = S.faults signer.new }) grant s (outcome_of s)
+        × Signs request.now (record { desk = desk.old.contents; told = S.told signer.old; faults = S.faults signer.old }) (record { desk = desk.new.contents; told = S.told signer.new; faults = S.faults signer.new }) grant s (outcome_of s)
         × IsGiven s × (string_bytes text ≡ answer_text (signed_answer grant.message s))) }
     ensures undone { OnErr result ((s : SignReply)
-        × Signs request.now (record { desk = desk.old; told = S.told signer.old; faults = S.faults signer.old }) (record { desk = desk.new; told = S.told signer.new; faults = S.faults signer.new }) grant s Dropped) }
+        × Signs request.now (record { desk = desk.old.contents; told = S.told signer.old; faults = S.faults signer.old }) (record { desk = desk.new.contents; told = S.told signer.new; faults = S.faults signer.new }) grant s Dropped) }
+    ensures fares { DeskFares D.faults desk.old desk.new }
 {
     let reply = signer.sign(request, &grant);
     let message = grant.what().copied();

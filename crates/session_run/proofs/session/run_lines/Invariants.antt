@@ -7,7 +7,7 @@ use Rattle.session_run.proofs.session.run_lines.Given as goal
 abbrev pub invariant-lines : goal.invariant-lines
 invariant-lines g l = record {
   so_far : SoFar l.domains 0 (g.I.Source.left l.fn.input) (g.I.Source.left l.input)
-      (record { desk = l.fn.desk; told = g.S.Signer.told l.fn.signer; faults = g.S.Signer.faults l.fn.signer }) (record { desk = l.desk; told = g.S.Signer.told l.signer; faults = g.S.Signer.faults l.signer })
+      (record { desk = l.fn.desk.contents; told = g.S.Signer.told l.fn.signer; faults = g.S.Signer.faults l.fn.signer }) (record { desk = l.desk.contents; told = g.S.Signer.told l.signer; faults = g.S.Signer.faults l.signer })
       (g.O.Sink.held l.fn.out) (g.O.Sink.held l.out) l.lines.bytes l.lines.total l.latest;
   count : l.counter + length l.lines.bytes ≤ l.lines.total;
   within : l.lines.total < input_limit;
