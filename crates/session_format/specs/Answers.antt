@@ -111,8 +111,15 @@ answer_data (answer.TooManyKeys have new) =
     (member (codes "have") (string (decimal have))
     (member (codes "new") (string (decimal new))
     (member (codes "reason") (string (codes "too_many_keys")) no_members))))
+answer_data (answer.Full size wanted) =
+    object (member (codes "answer") (string (codes "refused"))
+    (member (codes "reason") (string (codes "full"))
+    (member (codes "size") (string (decimal size))
+    (member (codes "wanted") (string (decimal wanted)) no_members))))
+answer_data answer.Disk = with_reason (codes "disk")
 answer_data answer.Unknown = with_reason (codes "unknown")
 answer_data answer.NotActive = with_reason (codes "not_active")
+answer_data answer.Closing = with_reason (codes "closing")
 answer_data (answer.Refused v) = verdict_data v
 
 -- the bytes of the answer's line

@@ -3,3 +3,4 @@ pub mod Steps
 pub mod Objects
 pub mod Requests
 pub mod Answers
+pub mod Closing

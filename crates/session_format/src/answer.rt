@@ -5,7 +5,8 @@ ghost use Rattle.session_format.specs.Answers.{answer_data, answer_text, cause_n
 
 use crate::member::Member;
 use crate::values::{
-    exported, fault_value, genesis_differs, merged, signed, too_many_keys, verdict_value, with_name,
+    exported, fault_value, full, genesis_differs, merged, signed, too_many_keys, verdict_value,
+    with_name,
 };
 use edge_kit::{Root, Sig};
 use interchange_io::ReadFault;
@@ -58,10 +59,16 @@ pub enum Answer {
     GenesisDiffers { kept: Root, given: Root },
     /// There would be too many keys. Nothing was done.
     TooManyKeys { have: u64, new: u64 },
+    /// The journal has no room: its size in bytes, and how many more were wanted. Nothing was done.
+    Full { size: u64, wanted: u64 },
+    /// The disk failed, for this line or an earlier one.
+    Disk,
     /// No past is kept of the key.
     Unknown,
-    /// The key is not active.
+    /// The key is neither active nor being closed.
     NotActive,
+    /// The key is being closed.
+    Closing,
     /// The key's past forbids the message.
     Refused(Verdict),
 }
@@ -93,8 +100,11 @@ impl Answer {
             Answer::BadFile(fault) => fault_value(alloc, fault),
             Answer::GenesisDiffers { kept, given } => genesis_differs(alloc, kept, given),
             Answer::TooManyKeys { have, new } => too_many_keys(alloc, *have, *new),
+            Answer::Full { size, wanted } => full(alloc, *size, *wanted),
+            Answer::Disk => json!(in alloc; {"answer": "refused", "reason": "disk"}),
             Answer::Unknown => json!(in alloc; {"answer": "refused", "reason": "unknown"}),
             Answer::NotActive => json!(in alloc; {"answer": "refused", "reason": "not_active"}),
+            Answer::Closing => json!(in alloc; {"answer": "refused", "reason": "closing"}),
             Answer::Refused(verdict) => verdict_value(alloc, verdict),
         }
     }

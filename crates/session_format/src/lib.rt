@@ -2,6 +2,7 @@
 #![tactic(auto)]
 
 mod answer;
+mod closing;
 mod member;
 mod objects;
 mod ops;
@@ -11,6 +12,7 @@ mod texts;
 mod values;
 
 pub use answer::{Answer, Cause};
+pub use closing::{ClosingLine, FileRefusal};
 pub use member::Member;
 pub use reading::read_request;
 pub use request::{Keys, Op, Request};

@@ -1,5 +1,5 @@
 //! Lines and their requests, and answers and their lines.
-use crate::{Answer, Cause, Member, Op, read_request};
+use crate::{Answer, Cause, ClosingLine, FileRefusal, Member, Op, read_request};
 use edge_kit::{Items, PubKey, Root, Sig};
 use interchange_io::{ReadFault, VersionText};
 use protect_record::Verdict;
@@ -262,7 +262,7 @@ fn answer_at(alloc: Global, place: usize) -> Result<Answer, AllocError> {
         6 => Answer::Pruned,
         7 => Answer::BadRequest(Member::Header),
         8 => Answer::BadRequest(Member::Inside(phase0_types::Member::ProposerIndex)),
-        9..=15 => Answer::BadFile(fault_at(alloc, place)?),
+        9..=15 => Answer::BadFile(fault_at(alloc, place - 9)?),
         16 => Answer::GenesisDiffers {
             kept: Root([0; 32]),
             given: Root([0x11; 32]),
@@ -271,21 +271,27 @@ fn answer_at(alloc: Global, place: usize) -> Result<Answer, AllocError> {
             have: 7,
             new: 18_446_744_073_709_551_615,
         },
-        18 => Answer::Unknown,
-        19 => Answer::NotActive,
+        18 => Answer::Full {
+            size: 1_099_511_627_775,
+            wanted: 205,
+        },
+        19 => Answer::Disk,
+        20 => Answer::Unknown,
+        21 => Answer::NotActive,
+        22 => Answer::Closing,
         _ => Answer::Refused(verdict_at(place)),
     })
 }
 
-/// The fault of a file at a place of `LINES`.
+/// The fault of a file, each kind once.
 fn fault_at(alloc: Global, place: usize) -> Result<ReadFault, AllocError> {
     Ok(match place {
-        9 => ReadFault::TooLong(268_435_457),
-        10 => ReadFault::NotUtf8,
-        11 => ReadFault::Json,
-        12 => ReadFault::Missing(interchange_io::Member::Data),
-        13 => ReadFault::Version(VersionText::new(String::from_str(alloc, "4\"")?)),
-        14 => ReadFault::BadNumber(interchange_io::Member::Slot),
+        0 => ReadFault::TooLong(268_435_457),
+        1 => ReadFault::NotUtf8,
+        2 => ReadFault::Json,
+        3 => ReadFault::Missing(interchange_io::Member::Data),
+        4 => ReadFault::Version(VersionText::new(String::from_str(alloc, "4\"")?)),
+        5 => ReadFault::BadNumber(interchange_io::Member::Slot),
         _ => ReadFault::BadHex(interchange_io::Member::Pubkey),
     })
 }
@@ -293,12 +299,12 @@ fn fault_at(alloc: Global, place: usize) -> Result<ReadFault, AllocError> {
 /// The verdict at a place of `LINES`.
 fn verdict_at(place: usize) -> Verdict {
     match place {
-        20 => Verdict::SlotBelow(5),
-        21 => Verdict::DoubleBlock(BlockEntry {
+        23 => Verdict::SlotBelow(5),
+        24 => Verdict::DoubleBlock(BlockEntry {
             slot: 5,
             root: Some(Root([0xaa; 32])),
         }),
-        22 => Verdict::TargetBelow(4),
+        25 => Verdict::TargetBelow(4),
         _ => Verdict::Surrounds(VoteEntry {
             target: 4,
             source: 3,
@@ -307,7 +313,7 @@ fn verdict_at(place: usize) -> Verdict {
     }
 }
 
-const LINES: [&str; 24] = [
+const LINES: [&str; 27] = [
     r#"{"answer":"merged","keys":"1"}"#,
     r#"{"answer":"active"}"#,
     r#"{"answer":"signed","signature":"0xbbbbbbbbbbbbbbbbbbbbbbbbbbbbbbbbbbbbbbbbbbbbbbbbbbbbbbbbbbbbbbbbbbbbbbbbbbbbbbbbbbbbbbbbbbbbbbbbbbbbbbbbbbbbbbbbbbbbbbbbbbbbbbbbbbbbbbbbbbbbbbbbbbbbbbbbbbbbbbbbbbbbbbbbbbbbbbbbbbbbbbbbbbbbbbbb","signing_root":"%"}"#,
@@ -326,8 +332,11 @@ const LINES: [&str; 24] = [
     r#"{"answer":"refused","member":"pubkey","reason":"bad_hex"}"#,
     r#"{"answer":"refused","given":"0x1111111111111111111111111111111111111111111111111111111111111111","kept":"0x0000000000000000000000000000000000000000000000000000000000000000","reason":"genesis_differs"}"#,
     r#"{"answer":"refused","have":"7","new":"18446744073709551615","reason":"too_many_keys"}"#,
+    r#"{"answer":"refused","reason":"full","size":"1099511627775","wanted":"205"}"#,
+    r#"{"answer":"refused","reason":"disk"}"#,
     r#"{"answer":"refused","reason":"unknown"}"#,
     r#"{"answer":"refused","reason":"not_active"}"#,
+    r#"{"answer":"refused","reason":"closing"}"#,
     r#"{"answer":"refused","floor":"5","reason":"slot_below"}"#,
     r#"{"answer":"refused","entry":{"signing_root":"%","slot":"5"},"reason":"double_block"}"#,
     r#"{"answer":"refused","floor":"4","reason":"target_below"}"#,
@@ -339,6 +348,64 @@ fn each_answer_has_its_line(rt: HostRuntime) -> Result<(), Fail> {
     let alloc = rt.alloc();
     for (place, marked) in LINES.iter().enumerate() {
         let found = answer_at(alloc, place)?.line(alloc)?;
+        let mut wanted = with_bytes(alloc, marked)?;
+        wanted.push('\n')?;
+        assert_eq!(rt; found.as_str(), wanted.as_str());
+    }
+    Ok(())
+}
+
+/// The line at a place of `CLOSING_LINES`.
+fn closing_at(alloc: Global, place: usize) -> Result<ClosingLine, AllocError> {
+    Ok(match place {
+        0..=6 => ClosingLine::FileRefused(FileRefusal::Read(fault_at(alloc, place)?)),
+        7 => ClosingLine::FileRefused(FileRefusal::TooManyKeys {
+            have: 7,
+            new: 65_536,
+        }),
+        8 => ClosingLine::FileRefused(FileRefusal::Full {
+            size: 1_099_511_627_775,
+            wanted: 205,
+        }),
+        9 => ClosingLine::DiskFault,
+        10 => ClosingLine::Damaged {
+            offset: 18_446_744_073_709_551_615,
+            byte: Some(0x0f),
+        },
+        11 => ClosingLine::Damaged {
+            offset: 0,
+            byte: None,
+        },
+        12 => ClosingLine::GenesisDiffers {
+            kept: Root([0xaa; 32]),
+            given: Root([0x11; 32]),
+        },
+        _ => ClosingLine::TooLong { limit: 67_108_864 },
+    })
+}
+
+const CLOSING_LINES: [&str; 14] = [
+    "validator: file refused: too_long len 268435457",
+    "validator: file refused: not_utf8",
+    "validator: file refused: json",
+    "validator: file refused: missing member data",
+    "validator: file refused: version text 4\"",
+    "validator: file refused: bad_number member slot",
+    "validator: file refused: bad_hex member pubkey",
+    "validator: file refused: too_many_keys have 7 new 65536",
+    "validator: file refused: full size 1099511627775 wanted 205",
+    "validator: disk fault",
+    "validator: damaged at 18446744073709551615: 0f",
+    "validator: damaged at 0: end",
+    "validator: genesis differs: kept %, given 0x1111111111111111111111111111111111111111111111111111111111111111",
+    "validator: input too long: limit 67108864",
+];
+
+#[test]
+fn each_closing_line_has_its_bytes(rt: HostRuntime) -> Result<(), Fail> {
+    let alloc = rt.alloc();
+    for (place, marked) in CLOSING_LINES.iter().enumerate() {
+        let found = closing_at(alloc, place)?.line(alloc)?;
         let mut wanted = with_bytes(alloc, marked)?;
         wanted.push('\n')?;
         assert_eq!(rt; found.as_str(), wanted.as_str());

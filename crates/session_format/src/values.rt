@@ -54,6 +54,15 @@ pub(crate) fn too_many_keys(alloc: Global, have: u64, new: u64) -> Result<Value,
     json!(in alloc; {"answer": "refused", "have": have.as_str(), "new": new.as_str(), "reason": "too_many_keys"})
 }
 
+/// The size of a journal without room, and how many more bytes were wanted.
+pub(crate) fn full(alloc: Global, size: u64, wanted: u64) -> Result<Value, AllocError>
+    ensures { IfOk result (λ v. view v ≡ answer_data (Answer.Full size wanted)) }
+{
+    let size = size.to_string(alloc)?;
+    let wanted = wanted.to_string(alloc)?;
+    json!(in alloc; {"answer": "refused", "reason": "full", "size": size.as_str(), "wanted": wanted.as_str()})
+}
+
 /// Refused for a member.
 pub(crate) fn with_name(alloc: Global, name: &str, reason: &str) -> Result<Value, AllocError>
     ensures { IfOk result (λ v. view v ≡ with_member name.now reason.now) }
@@ -151,7 +160,8 @@ fn vote_value(alloc: Global, kept: &VoteEntry) -> Result<Value, AllocError>
     }
 }
 
-fn hex_of(alloc: Global, bytes: &[u8]) -> Result<String, AllocError>
+/// `0x` and the digits of bytes.
+pub(crate) fn hex_of(alloc: Global, bytes: &[u8]) -> Result<String, AllocError>
     ensures { IfOk result (λ text. string_bytes text ≡ hex_text bytes.now) }
 {
     let digits = hex::encode(alloc, bytes)?;
