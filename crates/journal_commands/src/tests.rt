@@ -1,0 +1,1 @@
+//! Lines of keys, and inputs that are read whole.
