@@ -1,6 +1,6 @@
 -- The states of keys where one of them is changed, and the desk beside them.
-use Rattle.std.proofs.Common.{◌≡◌, ℕ, ◌+◌, ◌≤◌, arith, Bool, true, false, cond, List, [], ◌∷◌, Option, Some, None, refl, sym, ◌∙◌, ap, subst}
-use Rattle.std.specs.Prelude.{IsSome}
+use Rattle.std.proofs.Common.{◌≡◌, ◌⊎◌, inl, inr, ℕ, ◌+◌, ◌≤◌, max, arith, Bool, true, false, cond, List, [], ◌∷◌, Option, Some, None, refl, sym, ◌∙◌, ap, subst}
+use Rattle.std.specs.Prelude.{IsSome, is_some}
 use Rattle.std.specs.BTreeMap.{is_at}
 use Rattle.std.specs.Map.{keys_of, values_of, remove_entry}
 use Rattle.std.specs.List.{sum_by}
@@ -13,8 +13,13 @@ use Rattle.edge_kit.specs.declared.bytes.PubKey.{PubKey}
 use Rattle.record_join.specs.Keys.{key_cmp, kept_of, with_key, with_kept}
 use Rattle.record_join.proofs.OrderLemmas.{key_total, kept_here, put_kept, taken_out}
 use Rattle.record_replay.specs.declared.state.KeyState.{KeyState}
-use Rattle.record_replay.specs.declared.state.KeyState.TheVariants.{Active, Closing}
-use Rattle.check_sign.specs.States.{is_active}
+use Rattle.record_replay.specs.declared.state.KeyState.TheVariants.{Known, Active, Closing, Closed}
+use Rattle.protect_record.specs.Parts.{Parts}
+use Rattle.record_join.specs.BooksPasts.{BooksStand}
+use Rattle.check_sign.specs.Contents.{Contents}
+use Rattle.check_sign.specs.declared.event.DeskEvent.{DeskEvent}
+use Rattle.check_sign.specs.declared.open_grant.OpenGrant.{OpenGrant}
+use Rattle.check_sign.specs.States.{State, DeskStands, key_state, is_active}
 use Rattle.check_sign.specs.Marking.{count_active}
 
 -- ---- how many keys are active
@@ -50,3 +55,47 @@ restored old marked new key s sorted found is set =
 
 pub unnoted : (old marked new : List (PubKey × KeyState)) (key : PubKey) → kept_of old key ≡ None → marked ≡ with_key old key Active → new ≡ remove_entry (is_at (key_cmp key)) marked → new ≡ old
 unnoted old marked new key none is removed = removed ∙ ap (λ l. remove_entry (is_at (key_cmp key)) l) is ∙ taken_out old key Active none
+
+-- ---- the state of a key, at the desk and at the state
+
+pub none_if : {X : Type 0} (b : Bool) (o : Option X) → b ≡ is_some o → b ≡ false → o ≡ None
+none_if b None e off = refl
+none_if b (Some x) e off = absurd (let bad : true ≡ false = sym e ∙ off in cc)
+
+pub state_at : (r : KeyState) (states held : List (PubKey × KeyState)) (key : PubKey) (s : KeyState) → r ≡ key_state states key → states ≡ held → kept_of held key ≡ Some s → r ≡ s
+state_at r states held key s is same found = is ∙ ap (λ l. key_state l key) same ∙ ap (λ o. unwrap_or o Known) found
+
+not_both : (r : KeyState) → (r ≡ Known) ⊎ (r ≡ Closed) → (r ≡ Active → ⊥) × (r ≡ Closing → ⊥)
+not_both r (inl e) = (λ h. let bad : Known ≡ Active = sym e ∙ h in cc, λ h. let bad : Known ≡ Closing = sym e ∙ h in cc)
+not_both r (inr e) = (λ h. let bad : Closed ≡ Active = sym e ∙ h in cc, λ h. let bad : Closed ≡ Closing = sym e ∙ h in cc)
+
+pub idle_at : (r : KeyState) (states held : List (PubKey × KeyState)) (key : PubKey) → r ≡ key_state states key → states ≡ held → (r ≡ Known) ⊎ (r ≡ Closed)
+    → (kept_of held key ≡ Some Active → ⊥) × (kept_of held key ≡ Some Closing → ⊥)
+idle_at r states held key is same either =
+    let not = not_both r either in
+    (λ h. not.0 (state_at r states held key Active is same h), λ h. not.1 (state_at r states held key Closing is same h))
+
+some_state : (o : Option KeyState) (s : KeyState) → (s ≡ Known → ⊥) → unwrap_or o Known ≡ s → o ≡ Some s
+some_state None s known e = absurd (known (sym e))
+some_state (Some t) s known e = ap (λ x. Some x) e
+
+pub found_at : (r : KeyState) (states held : List (PubKey × KeyState)) (key : PubKey) (s : KeyState) → r ≡ key_state states key → states ≡ held → (s ≡ Known → ⊥) → r ≡ s → kept_of held key ≡ Some s
+found_at r states held key s is same known e = some_state (kept_of held key) s known (sym (is ∙ ap (λ l. key_state l key) same) ∙ e)
+
+-- ---- a desk that is as it was but for room, and a later moment
+
+pub later : (desk : Contents) (state : State) (keys : List (PubKey × Parts)) (states : List (PubKey × KeyState)) (grants : List OpenGrant) (events : List DeskEvent) (latest now : ℕ) → DeskStands desk state
+    → BooksStand keys state.keys → states ≡ desk.states → grants ≡ desk.grants → latest ≡ max desk.latest now
+    → DeskStands (record desk { keys = keys; states = states; grants = grants; events = events; latest = latest }) (record state { latest = max state.latest now })
+later desk state keys states grants events latest now s each held granted moment = record {
+  genesis = s.genesis;
+  keys = each;
+  states = held ∙ s.states;
+  grants = granted ∙ s.grants;
+  next = s.next;
+  latest = moment ∙ ap (λ m. max m now) s.latest;
+  watch = s.watch;
+  size = s.size;
+  payloads = s.payloads;
+  torn = s.torn;
+}
