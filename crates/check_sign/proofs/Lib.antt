@@ -4,3 +4,4 @@ pub mod DeskLemmas
 pub mod MachineLemmas
 pub mod GrantLemmas
 pub mod ExportLemmas
+pub mod MarkLemmas

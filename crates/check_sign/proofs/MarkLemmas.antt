@@ -1,0 +1,101 @@
+-- The states of keys where one of them is changed, and the desk beside them.
+use Rattle.std.proofs.Common.{◌≡◌, ◌⊎◌, inl, inr, ℕ, ◌+◌, ◌≤◌, max, arith, Bool, true, false, cond, List, [], ◌∷◌, Option, Some, None, refl, sym, ◌∙◌, ap, subst}
+use Rattle.std.specs.Prelude.{IsSome, is_some}
+use Rattle.std.specs.BTreeMap.{is_at}
+use Rattle.std.specs.Map.{keys_of, values_of, remove_entry}
+use Rattle.std.specs.List.{sum_by}
+use Rattle.std.specs.List.Sorted.{IsStrictlySortedBy}
+use Rattle.std.specs.Option.{unwrap_or, option_map}
+use Rattle.std.proofs.lemmas.List.Sums.{sum_by-cons}
+use Rattle.std.proofs.lemmas.Map.Entries.{sum_by-insert_entry, sum_by-set_value}
+use Rattle.std.proofs.lemmas.Map.Steps.{set_value_same}
+use Rattle.edge_kit.specs.declared.bytes.PubKey.{PubKey}
+use Rattle.record_join.specs.Keys.{key_cmp, kept_of, with_key, with_kept}
+use Rattle.record_join.proofs.OrderLemmas.{key_total, kept_here, put_kept, taken_out}
+use Rattle.record_replay.specs.declared.state.KeyState.{KeyState}
+use Rattle.record_replay.specs.declared.state.KeyState.TheVariants.{Known, Active, Closing, Closed}
+use Rattle.protect_record.specs.Parts.{Parts}
+use Rattle.record_join.specs.BooksPasts.{BooksStand}
+use Rattle.check_sign.specs.Contents.{Contents}
+use Rattle.check_sign.specs.declared.event.DeskEvent.{DeskEvent}
+use Rattle.check_sign.specs.declared.open_grant.OpenGrant.{OpenGrant}
+use Rattle.check_sign.specs.States.{State, DeskStands, key_state, is_active}
+use Rattle.check_sign.specs.Marking.{count_active}
+
+-- ---- how many keys are active
+
+abbrev weight : KeyState → ℕ
+weight s = cond (is_active s) 1 0
+
+count_values : (es : List (PubKey × KeyState)) → count_active es ≡ sum_by weight (values_of es)
+count_values [] = refl
+count_values (e ∷ es) = sum_by-cons (λ s. cond (is_active s.1) 1 0) e es ∙ ap (λ n. weight e.1 + n) (count_values es) ∙ sym (sum_by-cons weight e.1 (values_of es))
+
+pub count_marked : (es : List (PubKey × KeyState)) (key : PubKey) → IsStrictlySortedBy key_cmp (keys_of es) → count_active (with_key es key Active) ≤ count_active es + 1
+count_marked es key sorted = omega (arith, count_values es, count_values (with_key es key Active), sum_by-insert_entry weight key_total es key Active sorted)
+
+pub count_closing : (es : List (PubKey × KeyState)) (key : PubKey) → kept_of es key ≡ Some Active → count_active (with_kept es key Closing) + 1 ≡ count_active es
+count_closing es key found = omega (arith, count_values es, count_values (with_kept es key Closing), sum_by-set_value weight (is_at (key_cmp key)) es Active Closing found)
+
+-- ---- a key is again what it was
+
+kept_twice : (es : List (PubKey × KeyState)) (key : PubKey) (s t : KeyState) → with_kept (with_kept es key s) key t ≡ with_kept es key t
+kept_twice [] key s t = refl
+kept_twice (e ∷ es) key s t = at (is_at (key_cmp key) e.0) refl (kept_twice es key s t) where
+  at : (b : Bool) → is_at (key_cmp key) e.0 ≡ b → with_kept (with_kept es key s) key t ≡ with_kept es key t
+      → with_kept (cond b ((e.0, s) ∷ es) (e ∷ with_kept es key s)) key t ≡ cond b ((e.0, t) ∷ es) (e ∷ with_kept es key t)
+  at true is rest = rw is refl
+  at false is rest = rw is (ap (λ l. e ∷ l) rest)
+
+pub restored : (old marked new : List (PubKey × KeyState)) (key : PubKey) (s : KeyState) → IsStrictlySortedBy key_cmp (keys_of old) → kept_of old key ≡ Some s → marked ≡ with_key old key Active
+    → (IsSome (kept_of marked key) → new ≡ with_kept marked key s) → new ≡ old
+restored old marked new key s sorted found is set =
+    let some : IsSome (kept_of marked key) = rw (is, kept_here old key Active) refl in
+    set some ∙ ap (λ l. with_kept l key s) (is ∙ put_kept old key Active sorted (rw found refl)) ∙ kept_twice old key Active s ∙ set_value_same (is_at (key_cmp key)) old s found
+
+pub unnoted : (old marked new : List (PubKey × KeyState)) (key : PubKey) → kept_of old key ≡ None → marked ≡ with_key old key Active → new ≡ remove_entry (is_at (key_cmp key)) marked → new ≡ old
+unnoted old marked new key none is removed = removed ∙ ap (λ l. remove_entry (is_at (key_cmp key)) l) is ∙ taken_out old key Active none
+
+-- ---- the state of a key, at the desk and at the state
+
+pub none_if : {X : Type 0} (b : Bool) (o : Option X) → b ≡ is_some o → b ≡ false → o ≡ None
+none_if b None e off = refl
+none_if b (Some x) e off = absurd (let bad : true ≡ false = sym e ∙ off in cc)
+
+pub state_at : (r : KeyState) (states held : List (PubKey × KeyState)) (key : PubKey) (s : KeyState) → r ≡ key_state states key → states ≡ held → kept_of held key ≡ Some s → r ≡ s
+state_at r states held key s is same found = is ∙ ap (λ l. key_state l key) same ∙ ap (λ o. unwrap_or o Known) found
+
+not_both : (r : KeyState) → (r ≡ Known) ⊎ (r ≡ Closed) → (r ≡ Active → ⊥) × (r ≡ Closing → ⊥)
+not_both r (inl e) = (λ h. let bad : Known ≡ Active = sym e ∙ h in cc, λ h. let bad : Known ≡ Closing = sym e ∙ h in cc)
+not_both r (inr e) = (λ h. let bad : Closed ≡ Active = sym e ∙ h in cc, λ h. let bad : Closed ≡ Closing = sym e ∙ h in cc)
+
+pub idle_at : (r : KeyState) (states held : List (PubKey × KeyState)) (key : PubKey) → r ≡ key_state states key → states ≡ held → (r ≡ Known) ⊎ (r ≡ Closed)
+    → (kept_of held key ≡ Some Active → ⊥) × (kept_of held key ≡ Some Closing → ⊥)
+idle_at r states held key is same either =
+    let not = not_both r either in
+    (λ h. not.0 (state_at r states held key Active is same h), λ h. not.1 (state_at r states held key Closing is same h))
+
+some_state : (o : Option KeyState) (s : KeyState) → (s ≡ Known → ⊥) → unwrap_or o Known ≡ s → o ≡ Some s
+some_state None s known e = absurd (known (sym e))
+some_state (Some t) s known e = ap (λ x. Some x) e
+
+pub found_at : (r : KeyState) (states held : List (PubKey × KeyState)) (key : PubKey) (s : KeyState) → r ≡ key_state states key → states ≡ held → (s ≡ Known → ⊥) → r ≡ s → kept_of held key ≡ Some s
+found_at r states held key s is same known e = some_state (kept_of held key) s known (sym (is ∙ ap (λ l. key_state l key) same) ∙ e)
+
+-- ---- a desk that is as it was but for room, and a later moment
+
+pub later : (desk : Contents) (state : State) (keys : List (PubKey × Parts)) (states : List (PubKey × KeyState)) (grants : List OpenGrant) (events : List DeskEvent) (latest now : ℕ) → DeskStands desk state
+    → BooksStand keys state.keys → states ≡ desk.states → grants ≡ desk.grants → latest ≡ max desk.latest now
+    → DeskStands (record desk { keys = keys; states = states; grants = grants; events = events; latest = latest }) (record state { latest = max state.latest now })
+later desk state keys states grants events latest now s each held granted moment = record {
+  genesis = s.genesis;
+  keys = each;
+  states = held ∙ s.states;
+  grants = granted ∙ s.grants;
+  next = s.next;
+  latest = moment ∙ ap (λ m. max m now) s.latest;
+  watch = s.watch;
+  size = s.size;
+  payloads = s.payloads;
+  torn = s.torn;
+}

@@ -1,0 +1,148 @@
+use Rattle.std.proofs.Common.{◌≡◌, ℕ, arith, rules, List, [], ◌∷◌, refl, sym, ◌∙◌, ap, subst, max}
+use Rattle.edge_kit.specs.declared.bytes.PubKey.{PubKey}
+use Rattle.protect_record.specs.Parts.{Parts}
+use Rattle.record_join.specs.Keys.{with_key}
+use Rattle.record_join.specs.BooksPasts.{BooksStand}
+use Rattle.record_codec.specs.declared.item.JournalItem.{JournalItem}
+use Rattle.record_codec.specs.declared.item.JournalItem.TheVariants as item
+use Rattle.record_replay.specs.Items.{items_in}
+use Rattle.record_replay.specs.declared.state.KeyState.TheVariants.{Active}
+use Rattle.check_sign.specs.Contents.{Contents}
+use Rattle.check_sign.specs.States.{State, DeskStands}
+use Rattle.check_sign.specs.Machine.{Reply, after, HasRoomFor}
+use Rattle.check_sign.specs.declared.call.DeskCall.TheVariants as DeskCall
+use Rattle.check_sign.specs.declared.call.DeskReply.{DeskReply}
+use Rattle.check_sign.proofs.MachineLemmas.{opened, none_at, same_length, not_fits, fits}
+use Rattle.check_sign.proofs.StepLemmas.{up_state, by_fault, grown}
+use Rattle.check_sign.proofs.MarkLemmas.{none_if, idle_at, later}
+use Rattle.check_sign.proofs.desk.Desk.activate_key.Goals as goal
+
+pub returns-then-not-fits_one-clause-machine : goal.returns-then-not-fits_one-clause-machine
+returns-then-not-fits_one-clause-machine g c = λ state stands.
+    let s = opened c.args.self.now _ state c.self.view_is stands in
+    let room = not_fits c.fits_one.result _ _ c.fits_one.ensures (search rules) in (
+      (
+        up_state _ _ state.torn s.torn (none_if c.failed.result c.self.inside.journal.torn c.failed.ensures c.if-failed.false),
+        idle_at c.state_of.result c.self.inside.states.entries state.states c.args.key c.state_of.ensures.value s.states c.in-Known.is,
+        none_at c.self.inside.books state.keys c.args.key s.keys room.0,
+        c.len.ensures ∙ same_length c.self.inside.books state.keys s.keys,
+        refl,
+        omega (arith, c.len.ensures, room.1),
+      ),
+      later _ state _ _ _ _ _ c.args.now s s.keys refl refl c.max-self-inside.ensures,
+    )
+
+pub returns-then-not-make_room-clause-machine : goal.returns-then-not-make_room-clause-machine
+returns-then-not-make_room-clause-machine g c = λ state stands.
+    let s = opened c.args.self.now _ state c.self.view_is stands in (
+      (
+        up_state _ _ state.torn s.torn (none_if c.failed.result c.self.inside.journal.torn c.failed.ensures c.if-failed.false),
+        (
+          idle_at c.state_of.result c.self.inside.states.entries state.states c.args.key c.state_of.ensures.value s.states c.in-Known.is,
+          fits c.fits_one.result c.self.inside.books state.keys c.args.key c.fits_one.ensures (search rules) s.keys,
+        ),
+      ),
+      later _ state _ _ _ _ _ c.args.now s s.keys refl c.make_room.ensures.kept c.max-self-inside.ensures,
+    )
+
+pub returns-in_default-clause-machine : goal.returns-in_default-clause-machine
+returns-in_default-clause-machine g c = λ state stands.
+    let s = opened c.args.self.now _ state c.self.view_is stands in
+    let B : List (PubKey × Parts) → Type 0 = λ l. BooksStand l state.keys in (
+      (
+        up_state _ _ state.torn s.torn (none_if c.failed.result c.self.inside.journal.torn c.failed.ensures c.if-failed.false),
+        (
+          idle_at c.state_of.result c.self.inside.states.entries state.states c.args.key c.state_of.ensures.value s.states c.in-Known.is,
+          fits c.fits_one.result c.self.inside.books state.keys c.args.key c.fits_one.ensures (search rules) s.keys,
+        ),
+      ),
+      later _ state _ _ _ _ _ c.args.now s (subst B (sym c.in_default.ensures.err) s.keys) refl c.make_room.ensures.kept c.max-self-inside.ensures,
+    )
+
+pub returns-in_default-mark_active-clause-machine :
+    goal.returns-in_default-mark_active-clause-machine
+returns-in_default-mark_active-clause-machine g c = λ state stands.
+    let s = opened c.args.self.now _ state c.self.view_is stands in (
+      (
+        up_state _ _ state.torn s.torn (none_if c.failed.result c.self.inside.journal.torn c.failed.ensures c.if-failed.false),
+        (
+          idle_at c.state_of.result c.self.inside.states.entries state.states c.args.key c.state_of.ensures.value s.states c.in-Known.is,
+          fits c.fits_one.result c.self.inside.books state.keys c.args.key c.fits_one.ensures (search rules) s.keys,
+        ),
+      ),
+      later _ state _ _ _ _ _ c.args.now s (c.take_back.ensures.stands c.self.inside.books state.keys c.in-Ok.ensures.fresh s.keys) c.in_default-mark_active.ensures.err c.make_room.ensures.kept c.max-self-inside.ensures,
+    )
+
+pub returns-in-Err-clause-machine : goal.returns-in-Err-clause-machine
+returns-in-Err-clause-machine g c = λ state stands.
+    let s = opened c.args.self.now _ state c.self.view_is stands in
+    let clean = none_if c.failed.result c.self.inside.journal.torn c.failed.ensures c.if-failed.false in
+    let call = DeskCall.Activate c.args.key c.args.now in
+    let items : List JournalItem = item.Activate c.args.key ∷ [] in
+    let desk : Contents = record {
+      genesis = c.self.inside.genesis;
+      keys = c.take_back-in-Err.new.self;
+      states = c.unmark.new.states.entries;
+      grants = c.make_room.new.grants.items;
+      next = c.self.inside.next;
+      latest = c.max-self-inside.result;
+      watch = c.self.inside.watch;
+      events = c.make_room.new.events.items;
+      payloads = c.write_items.new.journal.payloads;
+      size = c.write_items.new.journal.size;
+      torn = c.write_items.new.journal.torn;
+    } in
+    let R : DeskReply → Type 0 = λ r. Reply state call r in
+    let A : DeskReply → State = λ r. after state call r in
+    let P : DeskReply → Type 0 = λ r. R r × DeskStands desk (A r) in
+    subst P (sym c.refusal.ensures)
+    (by_fault g.D.Disk.faults c.self.inside.journal c.write_items.new.journal items desk state call c.in-Err.fault R A c.in-Err.ensures.wrote s.payloads s.size c.self.invariant.3.size clean
+    (up_state _ _ state.torn s.torn clean) refl refl refl (
+      idle_at c.state_of.result c.self.inside.states.entries state.states c.args.key c.state_of.ensures.value s.states c.in-Known.is,
+      fits c.fits_one.result c.self.inside.books state.keys c.args.key c.fits_one.ensures (search rules) s.keys,
+    ) refl (c.replay_laws.ensures.activated (items_in c.self.inside.journal.payloads) state.keys state.states c.args.key s.payloads.items) refl (λ h. h) (λ h. h) (λ n w h. h) refl refl (λ n w. refl) (record {
+      genesis = s.genesis;
+      keys = c.take_back-in-Err.ensures.stands c.self.inside.books state.keys c.in-Ok.ensures.fresh s.keys;
+      states = c.unmark.ensures.same c.self.inside.states.entries c.in-Ok-mark_active.ensures.marked ∙ s.states;
+      grants = c.make_room.ensures.kept ∙ s.grants;
+      next = s.next;
+      latest = c.max-self-inside.ensures ∙ ap (λ m. max m c.args.now) s.latest;
+      watch = s.watch;
+    }))
+
+pub invariant_of-self-2 : goal.invariant_of-self-2
+invariant_of-self-2 g c =
+    let room = c.make_room.ensures.room (search rules) in (
+      omega (arith, room.0, c.note.ensures.len, c.note.ensures.no_less),
+      omega (arith, c.self.invariant.1, c.note.ensures.len, c.make_room.ensures.events_len),
+      omega (arith, c.self.invariant.2, c.mark_active.ensures.count),
+      c.write_items.ensures.holds c.self.inside.genesis c.self.invariant.3,
+    )
+
+pub returns-clause-machine : goal.returns-clause-machine
+returns-clause-machine g c = λ state stands.
+    let s = opened c.args.self.now _ state c.self.view_is stands in
+    let clean = none_if c.failed.result c.self.inside.journal.torn c.failed.ensures c.if-failed.false in
+    let up = up_state _ _ state.torn s.torn clean in
+    let items : List JournalItem = item.Activate c.args.key ∷ [] in
+    let wrote = c.in_default-write_items.ensures.wrote in
+    let H : ℕ → Type 0 = λ n. HasRoomFor n items in (
+      (
+        up,
+        (
+          idle_at c.state_of.result c.self.inside.states.entries state.states c.args.key c.state_of.ensures.value s.states c.in-Known.is,
+          fits c.fits_one.result c.self.inside.books state.keys c.args.key c.fits_one.ensures (search rules) s.keys,
+        ),
+        subst H s.size wrote.0,
+      ),
+      grown g.D.Disk.faults c.self.inside.journal c.write_items.new.journal items _ state _ wrote s.size c.self.invariant.3.size refl refl refl
+          (c.replay_laws.ensures.activated (items_in c.self.inside.journal.payloads) state.keys state.states c.args.key s.payloads.items) refl up (record {
+            genesis = s.genesis;
+            keys = c.in-Ok.ensures.known state.keys s.keys;
+            states = c.in-Ok-mark_active.ensures.marked.now ∙ ap (λ l. with_key l c.args.key Active) s.states;
+            grants = c.make_room.ensures.kept ∙ s.grants;
+            next = s.next;
+            latest = c.max-self-inside.ensures ∙ ap (λ m. max m c.args.now) s.latest;
+            watch = s.watch;
+          }),
+    )
