@@ -5,3 +5,4 @@ pub mod MachineLemmas
 pub mod GrantLemmas
 pub mod ExportLemmas
 pub mod MarkLemmas
+pub mod ReadLemmas
