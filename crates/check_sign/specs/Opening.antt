@@ -1,5 +1,5 @@
 -- How the opening of a desk may end.
-use Rattle.std.specs.Prelude.{◌≡◌, ℕ, ◌<◌, List, Some, length, ⊤}
+use Rattle.std.specs.Prelude.{◌≡◌, ℕ, ◌<◌, List, [], Some, None, false, length, ⊤}
 use Rattle.edge_kit.specs.declared.bytes.Root.{Root}
 use Rattle.record_journal.specs.Frames.{reading, begun}
 use Rattle.record_journal.specs.Opened.{Read, FaultIs}
@@ -8,6 +8,8 @@ use Rattle.record_replay.specs.Items.{items_in, named_keys}
 use Rattle.record_journal.specs.declared.open.OpenFault.TheVariants as journal_fault
 use Rattle.record_replay.specs.declared.fault.ReplayFault.{ReplayFault}
 use Rattle.record_replay.specs.declared.fault.ReplayFault.TheVariants as replay_fault
+use Rattle.check_sign.specs.Contents.{Contents}
+use Rattle.check_sign.specs.States.{State, Lasting, DeskStands, Opens, MayOpen, reopened}
 use Rattle.check_sign.specs.declared.open.OpenFault.{OpenFault}
 use Rattle.check_sign.specs.declared.open.OpenFault.TheVariants as fault
 
@@ -27,3 +29,15 @@ OpenFaultIs shows disk genesis (fault.TooManyKeys have new) = (have ≡ 0) × Re
 abbrev pub open_fault_of : ReplayFault → OpenFault
 open_fault_of (replay_fault.TooManyKeys have new) = fault.TooManyKeys have new
 open_fault_of replay_fault.OutOfMemory = fault.Journal journal_fault.OutOfMemory
+
+-- a desk that was opened at the moment 0 over a disk: whatever lasts by the bytes that were read, it stands for it
+pub record IsOpened {D : Type 0} (shows : D → List ℕ → Type 0) (first : D) (genesis : Root) (desk : Contents) : Type 0 where
+  pub read : Read shows first (λ bytes. (l : Lasting) → Opens genesis bytes l → DeskStands desk (reopened genesis l false 0))
+  pub genesis_is : desk.genesis ≡ genesis
+  pub none_open : desk.grants ≡ []
+  pub none_noted : desk.events ≡ []
+  pub up : desk.torn ≡ None
+
+-- each image of the disk that is handed back opens to what the desk stands for
+abbrev pub LeavesDesk : {D : Type 0} → (D → ℕ) → (D → ℕ → List ℕ → Type 0) → D → Contents → Type 0
+LeavesDesk moment leaves disk desk = (state : State) → DeskStands desk state → (c : List ℕ) → leaves disk (moment disk) c → MayOpen desk.genesis state c
