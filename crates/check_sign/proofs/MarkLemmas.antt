@@ -1,11 +1,11 @@
 -- The states of keys where one of them is changed, and the desk beside them.
-use Rattle.std.proofs.Common.{◌≡◌, ◌⊎◌, inl, inr, ℕ, ◌+◌, ◌≤◌, max, arith, Bool, true, false, cond, List, [], ◌∷◌, Option, Some, None, refl, sym, ◌∙◌, ap, subst}
+use Rattle.std.proofs.Common.{◌≡◌, ◌⊎◌, inl, inr, ℕ, ◌+◌, ◌-◌, ◌≤◌, max, arith, Bool, true, false, cond, List, [], ◌∷◌, Option, Some, None, refl, sym, ◌∙◌, ap, subst}
 use Rattle.std.specs.Prelude.{IsSome, is_some}
 use Rattle.std.specs.BTreeMap.{is_at}
 use Rattle.std.specs.Map.{keys_of, values_of, remove_entry}
 use Rattle.std.specs.List.{sum_by}
 use Rattle.std.specs.List.Sorted.{IsStrictlySortedBy}
-use Rattle.std.specs.Option.{unwrap_or, option_map}
+use Rattle.std.specs.Option.{unwrap_or}
 use Rattle.std.proofs.lemmas.List.Sums.{sum_by-cons}
 use Rattle.std.proofs.lemmas.Map.Entries.{sum_by-insert_entry, sum_by-set_value}
 use Rattle.std.proofs.lemmas.Map.Steps.{set_value_same}
@@ -16,6 +16,8 @@ use Rattle.record_replay.specs.declared.state.KeyState.{KeyState}
 use Rattle.record_replay.specs.declared.state.KeyState.TheVariants.{Known, Active, Closing, Closed}
 use Rattle.protect_record.specs.Parts.{Parts}
 use Rattle.record_join.specs.BooksPasts.{BooksStand}
+use Rattle.record_replay.specs.Items.{items_in}
+use Rattle.record_replay.specs.Replaying.{ItemsStand}
 use Rattle.check_sign.specs.Contents.{Contents}
 use Rattle.check_sign.specs.declared.event.DeskEvent.{DeskEvent}
 use Rattle.check_sign.specs.declared.open_grant.OpenGrant.{OpenGrant}
@@ -97,5 +99,43 @@ later desk state keys states grants events latest now s each held granted moment
   watch = s.watch;
   size = s.size;
   payloads = s.payloads;
+  torn = s.torn;
+}
+
+-- ---- an active key that begins to be closed
+
+active_known : Active ≡ Known → ⊥
+active_known e = cc
+
+closing_known : Closing ≡ Known → ⊥
+closing_known e = cc
+
+pub active_at : (r : KeyState) (states held : List (PubKey × KeyState)) (key : PubKey) → r ≡ key_state states key → states ≡ held → r ≡ Active → kept_of held key ≡ Some Active
+active_at r states held key is same e = found_at r states held key Active is same active_known e
+
+pub closing_at : (r : KeyState) (states held : List (PubKey × KeyState)) (key : PubKey) → r ≡ key_state states key → states ≡ held → r ≡ Closing → kept_of held key ≡ Some Closing
+closing_at r states held key is same e = found_at r states held key Closing is same closing_known e
+
+pub one_active : (states : List (PubKey × KeyState)) (key : PubKey) (n : ℕ) → kept_of states key ≡ Some Active → count_active states ≤ n → 1 ≤ n
+one_active states key n found within = omega (arith, count_closing states key found, within)
+
+pub one_fewer : (states new : List (PubKey × KeyState)) (key : PubKey) (n : ℕ) → kept_of states key ≡ Some Active → new ≡ with_kept states key Closing → count_active states ≤ n → count_active new ≤ n - 1
+one_fewer states new key n found is within =
+    let N : List (PubKey × KeyState) → Type 0 = λ l. count_active l ≤ n - 1 in
+    subst N (sym is) (omega (arith, count_closing states key found, within))
+
+pub begun_closing : (desk : Contents) (state : State) (key : PubKey) (states : List (PubKey × KeyState)) (events : List DeskEvent) → DeskStands desk state → states ≡ with_kept desk.states key Closing
+    → ItemsStand (items_in desk.payloads) state.keys (with_kept state.states key Closing)
+    → DeskStands (record desk { states = states; events = events }) (record state { states = with_kept state.states key Closing })
+begun_closing desk state key states events s is items = record {
+  genesis = s.genesis;
+  keys = s.keys;
+  states = is ∙ ap (λ l. with_kept l key Closing) s.states;
+  grants = s.grants;
+  next = s.next;
+  latest = s.latest;
+  watch = s.watch;
+  size = s.size;
+  payloads = record { items = items; size = s.payloads.size };
   torn = s.torn;
 }
