@@ -1,8 +1,8 @@
-pub mod OpenLemmas
-pub mod StepLemmas
 pub mod DeskLemmas
-pub mod MachineLemmas
-pub mod GrantLemmas
 pub mod ExportLemmas
+pub mod GrantLemmas
+pub mod MachineLemmas
 pub mod MarkLemmas
+pub mod OpenLemmas
 pub mod ReadLemmas
+pub mod StepLemmas
