@@ -1,5 +1,5 @@
 //! The calls of the desk, one by one.
-ghost use Rattle.std.specs.Prelude.{◌≡◌, ◌⊎◌, ◌+◌, ◌≤◌, ◌++◌, ◌∷◌, [], ℕ, List, None, Some, Contains, is_some};
+ghost use Rattle.std.specs.Prelude.{◌≡◌, ◌⊎◌, ◌+◌, ◌≤◌, ◌++◌, ◌∷◌, [], ℕ, List, None, Some, IsSome, Contains, is_some};
 ghost use Rattle.edge_kit.specs.Causes.{Rose};
 ghost use Rattle.edge_kit.specs.Disks.{LeavesOnly};
 ghost use Rattle.record_join.specs.BooksPasts.{EachOnce};
@@ -28,6 +28,7 @@ impl<D: Disk> Desk<D> {
         ensures any_moment { (state : State) → DeskStands self.old.contents state → LeavesOnly D.moment D.leaves self.old.disk self.new.disk (λ c. MayOpen self.old.contents.genesis state c ⊎ MayOpen self.old.contents.genesis (after state (DeskCall.Merge file) result) c) }
         ensures left { (state : State) → DeskStands self.new.contents state → (c : List ℕ) → D.leaves self.new.disk (D.moment self.new.disk) c → MayOpen self.new.contents.genesis state c }
         ensures later { D.faults self.old.disk ≤ D.faults self.new.disk }
+        ensures fails { self.old.contents.torn ≡ None → IsSome self.new.contents.torn → Rose (D.faults self.old.disk) (D.faults self.new.disk) }
         ensures genesis { self.new.contents.genesis ≡ self.old.contents.genesis }
         ensures second { self.new.second ≡ self.old.second }
     {
@@ -49,6 +50,7 @@ impl<D: Disk> Desk<D> {
         ensures any_moment { (state : State) → DeskStands self.old.contents state → LeavesOnly D.moment D.leaves self.old.disk self.new.disk (λ c. MayOpen self.old.contents.genesis state c ⊎ MayOpen self.old.contents.genesis (after state (DeskCall.Activate key now) result) c) }
         ensures left { (state : State) → DeskStands self.new.contents state → (c : List ℕ) → D.leaves self.new.disk (D.moment self.new.disk) c → MayOpen self.new.contents.genesis state c }
         ensures later { D.faults self.old.disk ≤ D.faults self.new.disk }
+        ensures fails { self.old.contents.torn ≡ None → IsSome self.new.contents.torn → Rose (D.faults self.old.disk) (D.faults self.new.disk) }
         ensures genesis { self.new.contents.genesis ≡ self.old.contents.genesis }
         ensures second { self.new.second ≡ self.old.second }
     {
@@ -71,6 +73,7 @@ impl<D: Disk> Desk<D> {
         ensures any_moment { (state : State) → DeskStands self.old.contents state → LeavesOnly D.moment D.leaves self.old.disk self.new.disk (λ c. MayOpen self.old.contents.genesis state c ⊎ MayOpen self.old.contents.genesis (after state (DeskCall.Propose key message now) result) c) }
         ensures left { (state : State) → DeskStands self.new.contents state → (c : List ℕ) → D.leaves self.new.disk (D.moment self.new.disk) c → MayOpen self.new.contents.genesis state c }
         ensures later { D.faults self.old.disk ≤ D.faults self.new.disk }
+        ensures fails { self.old.contents.torn ≡ None → IsSome self.new.contents.torn → Rose (D.faults self.old.disk) (D.faults self.new.disk) }
         ensures genesis { self.new.contents.genesis ≡ self.old.contents.genesis }
         ensures second { self.new.second ≡ self.old.second }
     {
@@ -91,6 +94,7 @@ impl<D: Disk> Desk<D> {
         ensures any_moment { (state : State) → DeskStands self.old.contents state → LeavesOnly D.moment D.leaves self.old.disk self.new.disk (λ c. MayOpen self.old.contents.genesis state c ⊎ MayOpen self.old.contents.genesis (after state (DeskCall.Settle grant outcome) result) c) }
         ensures left { (state : State) → DeskStands self.new.contents state → (c : List ℕ) → D.leaves self.new.disk (D.moment self.new.disk) c → MayOpen self.new.contents.genesis state c }
         ensures later { D.faults self.old.disk ≤ D.faults self.new.disk }
+        ensures fails { self.old.contents.torn ≡ None → IsSome self.new.contents.torn → Rose (D.faults self.old.disk) (D.faults self.new.disk) }
         ensures genesis { self.new.contents.genesis ≡ self.old.contents.genesis }
         ensures second { self.new.second ≡ self.old.second }
     {
@@ -110,6 +114,7 @@ impl<D: Disk> Desk<D> {
         ensures any_moment { (state : State) → DeskStands self.old.contents state → LeavesOnly D.moment D.leaves self.old.disk self.new.disk (λ c. MayOpen self.old.contents.genesis state c ⊎ MayOpen self.old.contents.genesis (after state (DeskCall.BeginClose key) result) c) }
         ensures left { (state : State) → DeskStands self.new.contents state → (c : List ℕ) → D.leaves self.new.disk (D.moment self.new.disk) c → MayOpen self.new.contents.genesis state c }
         ensures later { D.faults self.old.disk ≤ D.faults self.new.disk }
+        ensures fails { self.old.contents.torn ≡ None → IsSome self.new.contents.torn → Rose (D.faults self.old.disk) (D.faults self.new.disk) }
         ensures genesis { self.new.contents.genesis ≡ self.old.contents.genesis }
         ensures second { self.new.second ≡ self.old.second }
     {
@@ -130,6 +135,7 @@ impl<D: Disk> Desk<D> {
         ensures any_moment { (state : State) → DeskStands self.old.contents state → LeavesOnly D.moment D.leaves self.old.disk self.new.disk (λ c. MayOpen self.old.contents.genesis state c ⊎ MayOpen self.old.contents.genesis (after state (DeskCall.FinishClose key) result) c) }
         ensures left { (state : State) → DeskStands self.new.contents state → (c : List ℕ) → D.leaves self.new.disk (D.moment self.new.disk) c → MayOpen self.new.contents.genesis state c }
         ensures later { D.faults self.old.disk ≤ D.faults self.new.disk }
+        ensures fails { self.old.contents.torn ≡ None → IsSome self.new.contents.torn → Rose (D.faults self.old.disk) (D.faults self.new.disk) }
         ensures genesis { self.new.contents.genesis ≡ self.old.contents.genesis }
         ensures second { self.new.second ≡ self.old.second }
     {
@@ -149,6 +155,7 @@ impl<D: Disk> Desk<D> {
         ensures any_moment { (state : State) → DeskStands self.old.contents state → LeavesOnly D.moment D.leaves self.old.disk self.new.disk (λ c. MayOpen self.old.contents.genesis state c ⊎ MayOpen self.old.contents.genesis (after state (DeskCall.Export keys) result) c) }
         ensures left { (state : State) → DeskStands self.new.contents state → (c : List ℕ) → D.leaves self.new.disk (D.moment self.new.disk) c → MayOpen self.new.contents.genesis state c }
         ensures later { D.faults self.old.disk ≤ D.faults self.new.disk }
+        ensures fails { self.old.contents.torn ≡ None → IsSome self.new.contents.torn → Rose (D.faults self.old.disk) (D.faults self.new.disk) }
         ensures genesis { self.new.contents.genesis ≡ self.old.contents.genesis }
         ensures second { self.new.second ≡ self.old.second }
     {
@@ -169,6 +176,7 @@ impl<D: Disk> Desk<D> {
         ensures any_moment { (state : State) → DeskStands self.old.contents state → LeavesOnly D.moment D.leaves self.old.disk self.new.disk (λ c. MayOpen self.old.contents.genesis state c ⊎ MayOpen self.old.contents.genesis (after state (DeskCall.Prune key) result) c) }
         ensures left { (state : State) → DeskStands self.new.contents state → (c : List ℕ) → D.leaves self.new.disk (D.moment self.new.disk) c → MayOpen self.new.contents.genesis state c }
         ensures later { D.faults self.old.disk ≤ D.faults self.new.disk }
+        ensures fails { self.old.contents.torn ≡ None → IsSome self.new.contents.torn → Rose (D.faults self.old.disk) (D.faults self.new.disk) }
         ensures genesis { self.new.contents.genesis ≡ self.old.contents.genesis }
         ensures second { self.new.second ≡ self.old.second }
     {
@@ -187,6 +195,7 @@ impl<D: Disk> Desk<D> {
         ensures any_moment { (state : State) → DeskStands self.old.contents state → LeavesOnly D.moment D.leaves self.old.disk self.new.disk (λ c. MayOpen self.old.contents.genesis state c ⊎ MayOpen self.old.contents.genesis (after state (DeskCall.Keys) result) c) }
         ensures left { (state : State) → DeskStands self.new.contents state → (c : List ℕ) → D.leaves self.new.disk (D.moment self.new.disk) c → MayOpen self.new.contents.genesis state c }
         ensures later { D.faults self.old.disk ≤ D.faults self.new.disk }
+        ensures fails { self.old.contents.torn ≡ None → IsSome self.new.contents.torn → Rose (D.faults self.old.disk) (D.faults self.new.disk) }
         ensures genesis { self.new.contents.genesis ≡ self.old.contents.genesis }
         ensures second { self.new.second ≡ self.old.second }
     {

@@ -1,5 +1,5 @@
 //! The desk.
-ghost use Rattle.std.specs.Prelude.{◌≡◌, ◌⊎◌, ◌+◌, ◌≤◌, ◌++◌, ◌∷◌, [], ℕ, List, None, Some, Contains, option_copied, IfOk};
+ghost use Rattle.std.specs.Prelude.{◌≡◌, ◌⊎◌, ◌+◌, ◌≤◌, ◌++◌, ◌∷◌, [], ℕ, List, None, Some, IsSome, Contains, option_copied, IfOk};
 ghost use Rattle.std.specs.Map.{keys_of};
 ghost use Rattle.edge_kit.specs.Causes.{Rose};
 ghost use Rattle.edge_kit.specs.Disks.{LeavesOnly};
@@ -88,6 +88,7 @@ impl<D: Disk> Desk<D> {
         ensures any_moment { (state : State) → DeskStands self.old.contents state → LeavesOnly D.moment D.leaves self.old.disk self.new.disk (λ c. MayOpen self.old.contents.genesis state c ⊎ MayOpen self.old.contents.genesis (after state (call) result) c) }
         ensures left { (state : State) → DeskStands self.new.contents state → (c : List ℕ) → D.leaves self.new.disk (D.moment self.new.disk) c → MayOpen self.new.contents.genesis state c }
         ensures later { D.faults self.old.disk ≤ D.faults self.new.disk }
+        ensures fails { self.old.contents.torn ≡ None → IsSome self.new.contents.torn → Rose (D.faults self.old.disk) (D.faults self.new.disk) }
         ensures genesis { self.new.contents.genesis ≡ self.old.contents.genesis }
         ensures second { self.new.second ≡ self.old.second }
     {
