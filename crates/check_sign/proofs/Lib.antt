@@ -3,3 +3,4 @@ pub mod StepLemmas
 pub mod MachineLemmas
 pub mod GrantLemmas
 pub mod ExportLemmas
+pub mod ProposalLemmas
