@@ -1,5 +1,5 @@
-use Rattle.std.proofs.Common.{◌≡◌, ◌≢◌, ◌+◌, ◌<◌, ◌≤◌, refl, sym, ap, ◌∙◌, subst, arith, rules}
-use Rattle.record_join.specs.Keys.{kept_of, with_kept}
+use Rattle.std.proofs.Common.{◌≡◌, ◌≢◌, ◌≤◌, refl, sym, ap, ◌∙◌, subst, arith, rules}
+use Rattle.record_join.specs.Keys.{with_kept}
 use Rattle.record_replay.specs.declared.state.KeyState.TheVariants.{Closing, Closed}
 use Rattle.check_sign.specs.Marking.{count_active}
 use Rattle.check_sign.specs.States.{key_state, open_grants}
