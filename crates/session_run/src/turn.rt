@@ -116,7 +116,7 @@ fn call_desk<D: Disk, S: Signer>(
         DeskReply::AlreadyClosing => Answer::Active.line(alloc),
         DeskReply::Closed(_book) => Answer::Active.line(alloc),
         DeskReply::Keys(_listed) => Answer::Active.line(alloc),
-        DeskReply::HasFailed(true | false) => Answer::Active.line(alloc),
+        DeskReply::HasFailed(_) => Answer::Active.line(alloc),
         DeskReply::NotClosing(_) => Answer::Active.line(alloc),
         DeskReply::Busy { grants: _ } => Answer::Active.line(alloc),
         DeskReply::Exported(file) => Answer::Exported(file).line(alloc),
