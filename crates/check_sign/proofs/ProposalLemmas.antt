@@ -1,10 +1,12 @@
 -- What a desk that is up says of a key that signs, and of one that is being closed.
-use Rattle.std.proofs.Common.{◌≡◌, ◌≢◌, ◌⊎◌, inl, inr, ℕ, ◌+◌, ◌<◌, ◌≤◌, arith, Bool, true, false, cond, List, [], ◌∷◌, ◌++◌, Option, Some, None, refl, sym, ◌∙◌, ap, subst, append-nil, max, Result, Ok, Err, ⊎_elim, Contains}
-use Rattle.std.specs.Prelude.{◌↔◌, IsSome, IsSomeAnd, is_some, unwrap_or, count_by, if◌then◌else◌}
+use Rattle.std.proofs.Common.{◌≡◌, ◌≢◌, ◌⊎◌, inl, inr, ℕ, ◌+◌, ◌≤◌, arith, Bool, true, false, cond, List, [], ◌∷◌, ◌++◌, Option, Some, None, refl, sym, ◌∙◌, ap, subst, append-nil, max, Ok, Err, ⊎_elim, Contains}
+use Rattle.std.specs.Prelude.{◌↔◌, IsSomeAnd, is_some, unwrap_or, if◌then◌else◌}
 use Rattle.std.specs.BTreeMap.{is_at}
+use Rattle.std.proofs.lemmas.List.Sums.{sum_by-cons}
 use Rattle.std.proofs.lemmas.Map.{keys-set_value}
 use Rattle.edge_kit.specs.Causes.{Rose}
 use Rattle.edge_kit.specs.declared.bytes.PubKey.{PubKey}
+use Rattle.slash_defs.specs.declared.book.Book.{Book}
 use Rattle.slash_defs.specs.declared.entry.BlockEntry.{BlockEntry}
 use Rattle.slash_defs.specs.declared.entry.VoteEntry.{VoteEntry}
 use Rattle.slash_defs.specs.declared.message.Message.{Message}
@@ -12,8 +14,11 @@ use Rattle.slash_defs.specs.declared.message.Message.TheVariants as message
 use Rattle.protect_record.specs.Parts.{Parts}
 use Rattle.protect_record.specs.Passing.{Passes}
 use Rattle.protect_record.specs.Pasts.{Past, no_past, with_own, IsPastBlock, IsPastVote}
+use Rattle.protect_record.specs.Exporting.{export_of}
+use Rattle.protect_record.specs.Standing.{Stands}
 use Rattle.protect_record.proofs.MemberLemmas.{contains_cases, contains_first, contains_none}
 use Rattle.record_codec.specs.declared.item.JournalItem.{JournalItem}
+use Rattle.record_codec.specs.declared.item.JournalItem.TheVariants as item
 use Rattle.record_join.specs.Keys.{key_cmp, kept_of, with_kept}
 use Rattle.record_join.specs.BooksPasts.{BooksStand, own_grown, own_grown_from}
 use Rattle.record_join.specs.Repeats.{IsRepeat, block_entry, repeats, vote_entry}
@@ -28,17 +33,18 @@ use Rattle.record_replay.specs.Items.{items_in}
 use Rattle.record_replay.specs.Replaying.{ItemsStand, KeyStands}
 use Rattle.record_replay.specs.declared.state.KeyState.{KeyState}
 use Rattle.record_replay.specs.declared.state.KeyState.TheVariants.{Known, Active, Closing, Closed}
-use Rattle.check_sign.specs.Contents.{Contents}
+use Rattle.check_sign.specs.Contents.{Contents, Seen}
+use Rattle.check_sign.specs.Handing.{IsExport}
 use Rattle.check_sign.specs.Marking.{count_active}
-use Rattle.check_sign.specs.Machine.{after, frame_size, grant_for, HasRoomFor, IsUp, proposal_items, Reply}
-use Rattle.check_sign.specs.States.{State, DeskStands, PayloadsStand, is_active, key_state, lasting}
-use Rattle.check_sign.specs.Writing.{Wrote, refusal_of}
+use Rattle.check_sign.specs.Machine.{after, frame_size, grant_for, HasRoomFor, IsUp, Proceeds, proposal_items, Reply}
+use Rattle.check_sign.specs.States.{State, DeskStands, PayloadsStand, is_active, key_state, lasting, open_grants}
+use Rattle.check_sign.specs.Writing.{Moved, Wrote, journal_of, refusal_of}
 use Rattle.check_sign.specs.declared.call.DeskCall.TheVariants as call
 use Rattle.check_sign.specs.declared.call.DeskReply.{DeskReply}
 use Rattle.check_sign.specs.declared.call.DeskReply.TheVariants as reply
 use Rattle.check_sign.specs.declared.event.DeskEvent.{DeskEvent}
 use Rattle.check_sign.specs.declared.open_grant.OpenGrant.{OpenGrant}
-use Rattle.check_sign.proofs.MachineLemmas.{is_some_of, some_is}
+use Rattle.check_sign.proofs.MachineLemmas.{is_some_of, some_at, some_is}
 use Rattle.check_sign.proofs.StepLemmas.{Rest, by_fault, grown, up_state}
 
 -- ---- a desk that is up, and the state of a key
@@ -188,8 +194,8 @@ proposal_fault faults old new desk state key m now past f r at active passes wro
     let T : DeskReply → Type 0 = λ x. R x × DeskStands desk (A x) in
     let writes : proposal_items (kept_of state.keys key) key m ≡ proposal_items (Some past) key m = ap (λ o. proposal_items o key m) at in
     subst T (sym is) (by_fault faults old new (proposal_items (Some past) key m) desk state (call.Propose key m now) f R A wrote payloads size journal clean up payloads_are size_is torn_is
-        (active, some_is (kept_of state.keys key) past (λ p. Passes p m) at passes) writes (proposed (items_in old.payloads) state.keys state.states key m past payloads.items at own)
-        (ap (λ i. state.size + frame_size i) writes) (λ h. h) (λ h. h) (λ s w h. h) refl refl (λ s w. refl) rest)
+    (active, some_is (kept_of state.keys key) past (λ p. Passes p m) at passes) writes (proposed (items_in old.payloads) state.keys state.states key m past payloads.items at own)
+    (ap (λ i. state.size + frame_size i) writes) (λ h. h) (λ h. h) (λ s w h. h) refl refl (λ s w. refl) rest)
 
 pub proposal_granted : {D : Type 0} (faults : D → ℕ) (old new : Journaled D) (desk : Contents) (state : State) (key : PubKey) (m : Message) (now : ℕ) (past : Past) (grant : OpenGrant)
     → kept_of state.keys key ≡ Some past → kept_of state.states key ≡ Some Active → Passes past m → Wrote faults old (proposal_items (Some past) key m) new (Ok tt)
@@ -222,3 +228,67 @@ own_repeat (message.Vote source target root) = inr (root, refl, contains_first (
 pub past_of_repeat : (b : Bool) (m : Message) → (past : Past) × (b ≡ repeats past m)
 past_of_repeat true m = (with_own no_past m, sym ((repeats_decides (with_own no_past m) m).1 (own_repeat m)))
 past_of_repeat false m = (no_past, refl)
+
+-- ---- a key that is closed
+
+active_more : (s : PubKey × KeyState) (states : List (PubKey × KeyState)) → count_active (s ∷ states) ≡ cond (is_active s.1) 1 0 + count_active states
+active_more s states = sum_by-cons (λ (x : PubKey × KeyState). cond (is_active x.1) 1 0) s states
+
+no_more : (k n a b : ℕ) → a ≡ 0 + n → b ≡ k + n → a ≤ b
+no_more k n a b first second = omega (arith, first, second)
+
+each_more : (k m n a b : ℕ) → m ≤ n → a ≡ k + m → b ≡ k + n → a ≤ b
+each_more k m n a b h first second = omega (arith, h, first, second)
+
+pub fewer_active : (states : List (PubKey × KeyState)) (key : PubKey) → count_active (with_kept states key Closed) ≤ count_active states
+fewer_active [] key = omega arith
+fewer_active (s ∷ states) key = by (fewer_active states key) (is_at (key_cmp key) s.0) where
+  by : count_active (with_kept states key Closed) ≤ count_active states → (b : Bool) → count_active (cond b ((s.0, Closed) ∷ states) (s ∷ with_kept states key Closed)) ≤ count_active (s ∷ states)
+  by fewer true = no_more (cond (is_active s.1) 1 0) (count_active states) _ _ (active_more (s.0, Closed) states) (active_more s states)
+  by fewer false = each_more (cond (is_active s.1) 1 0) (count_active (with_kept states key Closed)) (count_active states) _ _ fewer (active_more s (with_kept states key Closed)) (active_more s states)
+
+-- no refusal holds: the key is kept, it is being closed, and none of its grants is open
+pub may_close : (desk : Contents) (state : State) (key : PubKey) (parts : Parts) (k : KeyState) (n : ℕ) (grants : List OpenGrant) → DeskStands desk state → kept_of desk.keys key ≡ Some parts → k ≡ key_state desk.states key → k ≡ Closing
+    → n ≡ open_grants grants key → grants ≡ desk.grants → n ≤ 0 → Proceeds state (call.FinishClose key)
+may_close desk state key parts k n grants s kept is closing count same none =
+    let past = some_at desk.keys state.keys key parts s.keys kept in
+    let counted : n ≡ open_grants state.grants key = count ∙ ap (λ l. open_grants l key) (same ∙ s.grants) in
+    (is_some_of (kept_of state.keys key) past.0 past.1, closing_at desk.states state.states key s.states (sym closing ∙ is), omega (arith, counted, none))
+
+pub closing_fault : {D : Type 0} (faults : D → ℕ) (old new : Journaled D) (desk : Contents) (state : State) (key : PubKey) (f : AppendFault) (r : DeskReply) → Proceeds state (call.FinishClose key) → Wrote faults old (item.Close key ∷ []) new (Err f)
+    → PayloadsStand old.payloads (lasting state) → old.size ≡ state.size → old.size ≡ journal_size old.payloads → old.torn ≡ None → IsUp state
+    → ItemsStand (items_in old.payloads ++ item.Close key ∷ []) state.keys (with_kept state.states key Closed)
+    → desk.payloads ≡ new.payloads → desk.size ≡ new.size → desk.torn ≡ new.torn → Rest desk state → r ≡ refusal_of f
+    → Reply state (call.FinishClose key) r × DeskStands desk (after state (call.FinishClose key) r)
+closing_fault faults old new desk state key f r proceeds wrote payloads size journal clean up closed payloads_are size_is torn_is rest is =
+    let R : DeskReply → Type 0 = λ x. Reply state (call.FinishClose key) x in
+    let A : DeskReply → State = λ x. after state (call.FinishClose key) x in
+    let T : DeskReply → Type 0 = λ x. R x × DeskStands desk (A x) in
+    subst T (sym is) (by_fault faults old new (item.Close key ∷ []) desk state (call.FinishClose key) f R A wrote payloads size journal clean up payloads_are size_is torn_is
+    proceeds refl closed refl (λ h. h) (λ h. h) (λ s w h. h) refl refl (λ s w. refl) rest)
+
+pub closing_done : {D : Type 0} (faults : D → ℕ) (old new : Journaled D) (desk : Contents) (state : State) (key : PubKey) (parts : Parts) (past : Past) (book : Book) → Proceeds state (call.FinishClose key) → Wrote faults old (item.Close key ∷ []) new (Ok tt)
+    → old.size ≡ state.size → old.size ≡ journal_size old.payloads → IsUp state → ItemsStand (items_in old.payloads ++ item.Close key ∷ []) state.keys (with_kept state.states key Closed)
+    → desk.payloads ≡ new.payloads → desk.size ≡ new.size → desk.torn ≡ new.torn → Rest desk (after state (call.FinishClose key) (reply.Closed book))
+    → kept_of state.keys key ≡ Some past → Stands parts past → book ≡ export_of parts
+    → Reply state (call.FinishClose key) (reply.Closed book) × DeskStands desk (after state (call.FinishClose key) (reply.Closed book))
+closing_done faults old new desk state key parts past book proceeds wrote size journal up closed payloads_are size_is torn_is rest at stands value =
+    let sizes : ℕ → Type 0 = λ n. HasRoomFor n (item.Close key ∷ []) in (
+      ((up, proceeds, subst sizes size wrote.0), some_is (kept_of state.keys key) past (λ p. IsExport p book) at (record { parts = parts; stands = stands; value = value })),
+      grown faults old new (item.Close key ∷ []) desk state (after state (call.FinishClose key) (reply.Closed book)) wrote size journal payloads_are size_is torn_is closed refl up rest,
+    )
+
+-- ---- the journal of a desk is its own, whose root is the desk's
+
+abbrev with_root : {D : Type 0} → Journaled D → List ℕ → Journaled D
+with_root journal root = record { disk = journal.disk; root = root; payloads = journal.payloads; size = journal.size; torn = journal.torn }
+
+rooted : {D : Type 0} (journal : Journaled D) (root : List ℕ) → journal.root ≡ root → journal ≡ with_root journal root
+rooted journal root is = ap (λ r. with_root journal r) is
+
+pub desk_moved : {D : Type 0} (moment : D → ℕ) (leaves : D → ℕ → List ℕ → Type 0) (faults : D → ℕ) (before : Seen D) (old new : Journaled D) (root : List ℕ) → old.root ≡ root → with_root old root ≡ journal_of before
+    → Moved moment leaves faults old new → Moved moment leaves faults (journal_of before) (with_root new root)
+desk_moved {D} moment leaves faults before old new root at same moved =
+    let O : Journaled D → Type 0 = λ j. Moved moment leaves faults j (with_root new root) in
+    let N : Journaled D → Type 0 = λ j. Moved moment leaves faults old j in
+    subst O (rooted old root at ∙ same) (subst N (rooted new root (moved.root ∙ at)) moved)
