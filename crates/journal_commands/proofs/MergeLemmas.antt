@@ -44,10 +44,10 @@ refused_ends vb vn d1 d2 b result bytes fault reads is closes =
 
 -- a reply names as many keys as the file
 counted : (file : File) (keys : ℕ) (b e : Contents) → Merges file (reply.Merged keys) b e → Merges file (reply.Merged (length file.books)) b e
-counted file keys b e m = record { machine = λ state stands. ((m.machine state stands).0.0, refl, (m.machine state stands).1); noted_is = m.noted_is }
+counted file keys b e m = record { machine = λ state stands. (((m.machine state stands).0.0, refl), (m.machine state stands).1); noted_is = m.noted_is }
 
 module _ (vb vn : View) (d1 d2 : ℕ) (b e : Contents) (result : Status) (bytes : List ℕ) (file : File) (reads : ReadsAll vb.left vn.left bytes) (is : file_of bytes ≡ Ok file) where
-  replies : (r : File → DeskReply) → Merges file (r file) b e → Replies vb.left vn.left b e r
+  abbrev replies : (r : File → DeskReply) → Merges file (r file) b e → Replies vb.left vn.left b e r
   replies r m = record { bytes = bytes; read = reads; file = file; is_file = is; merges = m }
 
   by_memory : (result ≡ status.OutOfMemory) × Keeps vb.held vn.held → DeskMergeEnds vb vn d1 d2 b e result

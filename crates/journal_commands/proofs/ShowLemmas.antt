@@ -26,7 +26,7 @@ pub listed_more : (keys : List (PubKey × Parts)) (listed : List (PubKey × KeyS
 listed_more keys listed one =
     flat_map-append (λ (o : PubKey × KeyState). kept_text o.0 o.1 (kept_of keys o.0)) listed (one ∷ []) ∙ ap (λ t. listed_text keys listed ++ t) (append-nil (kept_text one.0 one.1 (kept_of keys one.0)))
 
-names_text : List (PubKey × Parts) → List (PubKey × KeyState) → List PubKey → List ℕ
+abbrev names_text : List (PubKey × Parts) → List (PubKey × KeyState) → List PubKey → List ℕ
 names_text keys states names = flat_map (λ key. kept_text key (key_state states key) (kept_of keys key)) names
 
 listed_names : (keys : List (PubKey × Parts)) (states : List (PubKey × KeyState)) (names : List PubKey) → listed_text keys (map (λ key. (key, key_state states key)) names) ≡ names_text keys states names

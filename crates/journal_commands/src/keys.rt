@@ -96,27 +96,27 @@ fn list_keys<D: Disk>(desk: &mut Desk<D>) -> Option<KeyStates>
             desk.settle(grant, Outcome::Dropped);
             None
         }
-        DeskReply::Merged { .. }
-        | DeskReply::Active
+        DeskReply::Active
         | DeskReply::Already
         | DeskReply::Settled
         | DeskReply::CloseBegun
         | DeskReply::AlreadyClosing
-        | DeskReply::Closed(_)
-        | DeskReply::Exported(_)
-        | DeskReply::Pruned(_)
-        | DeskReply::HasFailed(_)
-        | DeskReply::GenesisDiffers { .. }
         | DeskReply::Unknown
         | DeskReply::NotActive
         | DeskReply::Closing
-        | DeskReply::NotClosing(_)
-        | DeskReply::Busy { .. }
-        | DeskReply::Refused(_)
-        | DeskReply::TooManyKeys { .. }
-        | DeskReply::Full { .. }
         | DeskReply::Disk
         | DeskReply::OutOfMemory => None,
+        DeskReply::Merged { keys: _ } => None,
+        DeskReply::Closed(_) => None,
+        DeskReply::Exported(_) => None,
+        DeskReply::Pruned(_) => None,
+        DeskReply::HasFailed(_) => None,
+        DeskReply::GenesisDiffers { kept: _, given: _ } => None,
+        DeskReply::NotClosing(_) => None,
+        DeskReply::Busy { grants: _ } => None,
+        DeskReply::Refused(_) => None,
+        DeskReply::TooManyKeys { have: _, new: _ } => None,
+        DeskReply::Full { size: _, wanted: _ } => None,
     }
 }
 

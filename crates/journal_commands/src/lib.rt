@@ -2,6 +2,8 @@
 #![tactic(auto)]
 
 mod closing;
+#[cfg(test)]
+mod command_tests;
 mod keys;
 mod merge;
 mod showing;

@@ -133,7 +133,7 @@ fn merge_file<D: Disk, O: Sink>(
 {
     let count = file.books.len() as u64;
     match desk.merge(file) {
-        DeskReply::Merged { .. } => close_merged(alloc, out, count),
+        DeskReply::Merged { keys: _ } => close_merged(alloc, out, count),
         DeskReply::GenesisDiffers { kept, given } => {
             let line = ClosingLine::GenesisDiffers { kept, given };
             close_line(alloc, out, Status::GenesisDiffers, &line)
@@ -156,18 +156,18 @@ fn merge_file<D: Disk, O: Sink>(
         | DeskReply::Settled
         | DeskReply::CloseBegun
         | DeskReply::AlreadyClosing
-        | DeskReply::Closed(_)
-        | DeskReply::Exported(_)
-        | DeskReply::Pruned(_)
-        | DeskReply::Keys(_)
-        | DeskReply::HasFailed(_)
         | DeskReply::Unknown
         | DeskReply::NotActive
         | DeskReply::Closing
-        | DeskReply::NotClosing(_)
-        | DeskReply::Busy { .. }
-        | DeskReply::Refused(_)
         | DeskReply::OutOfMemory => Status::OutOfMemory,
+        DeskReply::Closed(_) => Status::OutOfMemory,
+        DeskReply::Exported(_) => Status::OutOfMemory,
+        DeskReply::Pruned(_) => Status::OutOfMemory,
+        DeskReply::Keys(_) => Status::OutOfMemory,
+        DeskReply::HasFailed(_) => Status::OutOfMemory,
+        DeskReply::NotClosing(_) => Status::OutOfMemory,
+        DeskReply::Busy { grants: _ } => Status::OutOfMemory,
+        DeskReply::Refused(_) => Status::OutOfMemory,
     }
 }
 
