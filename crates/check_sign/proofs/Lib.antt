@@ -4,5 +4,6 @@ pub mod GrantLemmas
 pub mod MachineLemmas
 pub mod MarkLemmas
 pub mod OpenLemmas
+pub mod ProposalLemmas
 pub mod ReadLemmas
 pub mod StepLemmas

@@ -1,6 +1,7 @@
 -- From what a journal's file may read as to what it may open to.
 use Rattle.std.proofs.Common.{◌≡◌, ◌⊎◌, inl, inr, ⊎_elim, ℕ, List, [], ◌∷◌, ◌++◌, Option, Some, None, refl, sym, ◌∙◌, ap, subst, arith}
-use Rattle.std.specs.Prelude.{IsSomeAnd}
+use Rattle.std.specs.Prelude.{IsSome, IsSomeAnd, true, false}
+use Rattle.edge_kit.specs.Causes.{Rose}
 use Rattle.edge_kit.specs.Disks.{LeavesOnly}
 use Rattle.edge_kit.specs.declared.bytes.Root.{Root}
 use Rattle.edge_kit.proofs.Moments.{leaves_weaker, leaves_now}
@@ -21,6 +22,10 @@ pub may_open : {D : Type 0} (seen : Seen D) (state : State) → DeskStands seen.
 may_open seen state s file (inl read) = inl (record { payloads = seen.contents.payloads; read = ap begun read; stand = s.payloads })
 may_open seen state s file (inr read) = inr (torn_opens seen.contents.genesis file seen.contents.payloads seen.contents.torn state.torn s.torn read)
 
+not_both : {X : Type 0} (t : Option X) (A : Type 0) → t ≡ None → IsSome t → A
+not_both None A none some = let bad : false ≡ true = some in absurd cc
+not_both (Some x) A none some = let bad : Some x ≡ None = none in absurd cc
+
 module _ {D : Type 0} (moment : D → ℕ) (leaves : D → ℕ → List ℕ → Type 0) (faults : D → ℕ) where
   pub moments_open : (old new : Seen D) (state now : State) → Moved moment leaves faults (journal_of old) (journal_of new) → new.contents.genesis ≡ old.contents.genesis
       → DeskStands old.contents state → DeskStands new.contents now
@@ -40,6 +45,7 @@ module _ {D : Type 0} (moment : D → ℕ) (leaves : D → ℕ → List ℕ → 
     left = left;
     root = refl;
     later = omega arith;
+    fails = λ none some. not_both old.torn (Rose (faults old.disk) (faults old.disk)) none some;
   }
 
   -- the same journals, with the root as the desk knows it

@@ -1,13 +1,32 @@
--- The items of books as one batch.
-use Rattle.std.proofs.Common.{◌≡◌, ◌⊎◌, inl, inr, true, List, [], ◌∷◌, ◌++◌, refl, sym, subst}
+-- The items of books as one batch; what is handed out; and what a desk is opened to.
+use Rattle.std.proofs.Common.{◌≡◌, ◌⊎◌, inl, inr, ℕ, Bool, true, List, [], ◌∷◌, ◌++◌, Option, Some, None, refl, sym, ◌∙◌, ap, subst}
 use Rattle.std.specs.Prelude.{map, flat_map}
 use Rattle.std.specs.List.{AllByRecursion}
+use Rattle.std.specs.Map.{keys_of}
 use Rattle.edge_kit.specs.declared.bytes.PubKey.{PubKey}
+use Rattle.edge_kit.specs.declared.bytes.Root.{Root}
 use Rattle.slash_defs.specs.declared.book.Book.{Book}
+use Rattle.protect_record.specs.Parts.{Parts}
+use Rattle.protect_record.specs.Pasts.{Past}
+use Rattle.protect_record.specs.Standing.{Stands}
 use Rattle.record_codec.specs.Spelling.{IsBatch, is_record}
 use Rattle.record_codec.specs.declared.item.JournalItem.{JournalItem}
 use Rattle.record_codec.specs.declared.item.JournalItem.TheVariants as item
 use Rattle.record_replay.specs.Batches.{book_items, file_items}
+use Rattle.record_replay.specs.Items.{items_in}
+use Rattle.record_replay.specs.Replaying.{ItemsStand, lasting_state, lasting_states}
+use Rattle.record_replay.specs.declared.state.KeyState.{KeyState}
+use Rattle.record_replay.specs.declared.state.KeyState.TheVariants.{Known, Active, Closing, Closed}
+use Rattle.record_journal.specs.Frames.{reading, begun}
+use Rattle.record_journal.specs.Journals.{Journaled, MayRead, journal_size}
+use Rattle.record_journal.specs.Opened.{Read}
+use Rattle.record_join.specs.BooksPasts.{BooksStand}
+use Rattle.record_join.proofs.KeyLemmas.{each_keys}
+use Rattle.check_sign.specs.Contents.{Contents, Seen}
+use Rattle.check_sign.specs.States.{State, Lasting, DeskStands, PayloadsStand, TornStands, Opens, reopened, key_state}
+use Rattle.check_sign.specs.Machine.{key_states}
+use Rattle.check_sign.specs.Writing.{Moved, HoldsJournal, journal_of}
+use Rattle.check_sign.proofs.OpenLemmas.{still}
 
 -- each of the items is a record
 abbrev Records : List JournalItem → Type 0
@@ -41,3 +60,86 @@ book_batch items listed is = subst Batch (sym is) (as_batch (book_items listed) 
 
 pub file_batch : (items : List JournalItem) (books : List (PubKey × Book)) → items ≡ file_items books → (items ≡ []) ⊎ IsBatch items
 file_batch items books is = subst Batch (sym is) (as_batch (file_items books) (file_records books))
+
+-- ---- where nothing was written
+
+pub still_seen : {D : Type 0} (moment : D → ℕ) (leaves : D → ℕ → List ℕ → Type 0) (faults : D → ℕ) (j : Journaled D) (seen now : Seen D) → seen ≡ now → journal_of seen ≡ record j { root = seen.contents.genesis.0 }
+    → HoldsJournal moment leaves seen.contents.genesis j → Moved moment leaves faults (journal_of now) (journal_of now)
+still_seen {D} moment leaves faults j seen now same is holds =
+    let at_root : List ℕ → Type 0 = λ r. (c : List ℕ) → leaves j.disk (moment j.disk) c → MayRead (record j { root = r }) c in
+    let left : (c : List ℕ) → leaves j.disk (moment j.disk) c → MayRead (record j { root = seen.contents.genesis.0 }) c = subst at_root holds.root holds.left in
+    let at_journal : Journaled D → Type 0 = λ k. Moved moment leaves faults k k in
+    let at_now : Seen D → Type 0 = λ s. Moved moment leaves faults (journal_of s) (journal_of s) in
+    subst at_now same (subst at_journal (sym is) (still moment leaves faults (record j { root = seen.contents.genesis.0 }) left))
+
+-- ---- the keys with their states
+
+pub each_state : (states : List (PubKey × KeyState)) (books : List (PubKey × Parts)) → map {B = PubKey × KeyState} (λ (e : PubKey × Parts). (e.0, key_state states e.0)) books ≡ map {B = PubKey × KeyState} (λ key. (key, key_state states key)) (keys_of books)
+each_state states [] = refl
+each_state states (b ∷ books) = ap (λ l. (b.0, key_state states b.0) ∷ l) (each_state states books)
+
+pub states_listed : (desk : Contents) (state : State) → DeskStands desk state → map {B = PubKey × KeyState} (λ key. (key, key_state desk.states key)) (keys_of desk.keys) ≡ key_states state
+states_listed desk state s =
+    let by_keys : List PubKey → List (PubKey × KeyState) = λ keys. map {B = PubKey × KeyState} (λ key. (key, key_state desk.states key)) keys in
+    let by_states : List (PubKey × KeyState) → List (PubKey × KeyState) = λ states. map {B = PubKey × KeyState} (λ key. (key, key_state states key)) (keys_of state.keys) in
+    ap by_keys (each_keys Stands desk.keys state.keys s.keys) ∙ ap by_states s.states
+
+-- ---- what a desk is opened to
+
+lasts : (s : KeyState) → lasting_state (lasting_state s) ≡ lasting_state s
+lasts Known = refl
+lasts Active = refl
+lasts Closing = refl
+lasts Closed = refl
+
+last : (states : List (PubKey × KeyState)) → lasting_states (lasting_states states) ≡ lasting_states states
+last [] = refl
+last (s ∷ states) = ap (λ x. (s.0, x) ∷ lasting_states (lasting_states states)) (lasts s.1) ∙ ap (λ l. (s.0, lasting_state s.1) ∷ l) (last states)
+
+stand_on : (payloads : List (List ℕ)) (l : Lasting) → PayloadsStand payloads l → PayloadsStand payloads (record { keys = l.keys; states = lasting_states l.states; size = l.size })
+stand_on payloads l s = record {
+  items = record { named = s.items.named; each = s.items.each; states = s.items.states ∙ sym (last l.states) };
+  size = s.size;
+}
+
+-- a desk without grants stands for what lasts, reopened
+pub record IsFresh (desk : Contents) (root : Root) (watched : Bool) (now : ℕ) : Type 0 where
+  pub genesis : desk.genesis ≡ root
+  pub grants : desk.grants ≡ []
+  pub next : desk.next ≡ 0
+  pub latest : desk.latest ≡ now
+  pub watch : desk.watch ≡ watched
+  pub size : desk.size ≡ journal_size desk.payloads
+  pub torn : desk.torn ≡ None
+
+reopens : (desk : Contents) (genesis : Root) (watch : Bool) (now : ℕ) (l : Lasting) → IsFresh desk genesis watch now → BooksStand desk.keys l.keys → desk.states ≡ lasting_states l.states → PayloadsStand desk.payloads l
+    → DeskStands desk (reopened genesis l watch now)
+reopens desk genesis watch now l fresh keys states s = let at_torn : Option (List ℕ) → Type 0 = λ t. TornStands desk.payloads t None in record {
+  genesis = fresh.genesis;
+  keys = keys;
+  states = states;
+  grants = fresh.grants;
+  next = fresh.next;
+  latest = fresh.latest;
+  watch = fresh.watch;
+  size = fresh.size ∙ sym s.size;
+  payloads = stand_on desk.payloads l s;
+  torn = subst at_torn (sym fresh.torn) tt;
+}
+
+same_some : {A : Type 0} (a b : A) → Some a ≡ Some b → a ≡ b
+same_some a b e = cc
+
+pub opened_read : {D : Type 0} (shows : D → List ℕ → Type 0) (disk : D) (desk : Contents) (genesis : Root) (watch : Bool) (now : ℕ) (payloads : List (List ℕ)) → Read shows disk (λ bytes. begun (reading genesis.0 bytes) ≡ Some desk.payloads) → IsFresh desk genesis watch now
+    → payloads ≡ desk.payloads → ((pasts : List (PubKey × Past)) (states : List (PubKey × KeyState)) → ItemsStand (items_in payloads) pasts states → BooksStand desk.keys pasts × (desk.states ≡ lasting_states states))
+    → Read shows disk (λ bytes. (l : Lasting) → Opens genesis bytes l → DeskStands desk (reopened genesis l watch now))
+opened_read shows disk desk genesis watch now payloads r fresh same replayed = record {
+  bytes = r.bytes;
+  shown = r.shown;
+  holds = λ l o.
+      let P : List (List ℕ) → Type 0 = λ ps. PayloadsStand ps l in
+      let s : PayloadsStand desk.payloads l = subst P (same_some o.payloads desk.payloads (sym o.read ∙ r.holds)) o.stand in
+      let here : PayloadsStand payloads l = subst P (sym same) s in
+      let both = replayed l.keys l.states here.items in
+      reopens desk genesis watch now l fresh both.0 both.1 s;
+}

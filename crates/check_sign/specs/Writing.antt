@@ -1,5 +1,5 @@
 -- What the writing of a batch makes of the journal.
-use Rattle.std.specs.Prelude.{◌≡◌, ◌⊎◌, ℕ, ◌+◌, ◌≤◌, List, [], ◌∷◌, ◌++◌, Some, None, Result, Ok, Err}
+use Rattle.std.specs.Prelude.{◌≡◌, ◌⊎◌, ℕ, ◌+◌, ◌≤◌, List, [], ◌∷◌, ◌++◌, Some, None, IsSome, Result, Ok, Err}
 use Rattle.edge_kit.specs.Causes.{Rose}
 use Rattle.edge_kit.specs.Disks.{LeavesOnly}
 use Rattle.edge_kit.specs.declared.bytes.Root.{Root}
@@ -39,12 +39,14 @@ Wrote faults old items new (Err Disk) = IsWritten old.size items × IsRead items
 Wrote faults old items new (Err OutOfMemory) = new ≡ old
 Wrote faults old items new (Err (Full size wanted)) = IsOver old.size items size wanted × (new ≡ old)
 
--- a crash at any moment leaves what was there before or what is there now, and from now on the latter
+-- a crash at any moment leaves what was there before or what is there now, and from now on the latter; what was whole is torn
+-- only where the disk's count of faults rose
 pub record Moved {D : Type 0} (moment : D → ℕ) (leaves : D → ℕ → List ℕ → Type 0) (faults : D → ℕ) (old new : Journaled D) : Type 0 where
   pub moments : LeavesOnly moment leaves old.disk new.disk (λ c. MayRead old c ⊎ MayRead new c)
   pub left : (c : List ℕ) → leaves new.disk (moment new.disk) c → MayRead new c
   pub root : new.root ≡ old.root
   pub later : faults old.disk ≤ faults new.disk
+  pub fails : old.torn ≡ None → IsSome new.torn → Rose (faults old.disk) (faults new.disk)
 
 -- what is true of a desk's journal between calls
 pub record HoldsJournal {D : Type 0} (moment : D → ℕ) (leaves : D → ℕ → List ℕ → Type 0) (genesis : Root) (journal : Journaled D) : Type 0 where

@@ -1,6 +1,7 @@
 //! Room that is made before the desk changes, and spent without refusal.
 ghost use Rattle.std.specs.Prelude.{◌≡◌, ◌+◌, ◌<◌, ◌≤◌, ◌⊎◌, ◌↔◌, ◌++◌, ◌∷◌, [], ℕ, false, Some, IsSome, IsTrue, vec_len, vec_capacity, length, remove, IfSome, IfNone, Contains};
-ghost use Rattle.record_join.specs.Keys.{kept_of};
+ghost use Rattle.std.specs.BTreeMap.{is_at};
+ghost use Rattle.record_join.specs.Keys.{key_cmp, kept_of};
 ghost use Rattle.record_join.specs.BooksPasts.{key_limit};
 ghost use Rattle.check_sign.specs.Machine.{without, noted_merge};
 ghost use Rattle.check_sign.specs.States.{open_grants};
@@ -144,7 +145,14 @@ pub fn fits_one(books: &Books, key: &PubKey) -> bool
 pub fn count_of(grants: &[OpenGrant], key: &PubKey) -> usize
     ensures { result ≡ open_grants grants.now key.now }
 {
-    grants.iter().filter(|grant| grant.key == *key).count()
+    grants.iter().filter(|grant| is_of(grant, key)).count()
+}
+
+/// Whether the grant is of this key.
+fn is_of(grant: &OpenGrant, key: &PubKey) -> bool
+    ensures { result ≡ is_at (key_cmp key.now) grant.now.key }
+{
+    *key == grant.key
 }
 
 /// A grant to be opened.

@@ -1,3 +1,4 @@
+pub mod FareLemmas
 pub mod LineLemmas
 pub mod OnceLemmas
 pub mod ActLemmas

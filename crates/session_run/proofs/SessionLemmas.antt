@@ -1,5 +1,6 @@
 -- The exits of a session's loop.
-use Rattle.std.proofs.Common.{◌≡◌, ℕ, ◌+◌, ◌<◌, ◌≤◌, List, [], ◌∷◌, ◌++◌, length, length-append, take, map, Option, refl, sym, ◌∙◌, ap, subst, arith, inl, inr}
+use Rattle.std.proofs.Common.{◌≡◌, ℕ, ◌+◌, ◌<◌, ◌≤◌, List, [], ◌∷◌, ◌++◌, length, length-append, take, map, Option, None, refl, sym, ◌∙◌, ap, subst, arith, inl, inr}
+use Rattle.std.specs.Prelude.{IsSome}
 use Rattle.std.specs.Io.KnownBytes.{Appends, Keeps, IsAtEnd}
 use Rattle.std.proofs.lemmas.List.{append-nil}
 use Rattle.std.proofs.lemmas.Grind.{flat_map-append}
@@ -13,7 +14,7 @@ use Rattle.session_format.specs.Requests.{request_of}
 use Rattle.session_run.specs.Acts.{Pair, Unanswered}
 use Rattle.session_run.specs.Turns.{Turn, line_of, moment_after, written, text_of}
 use Rattle.session_run.specs.Closings.{Closes}
-use Rattle.session_run.specs.Runs.{View, Ran, HasServed, SoFar, Session, Stops, Breaks, LeavesOff, CutShort, Ends, StopsAs, StoppedShort, PassesLimit, read_fault_text, too_long_text, IsClosing, last_lines}
+use Rattle.session_run.specs.Runs.{View, Ran, HasServed, SoFar, Session, Stops, Breaks, LeavesOff, CutShort, Ends, StopsAs, StoppedShort, PassesLimit, read_fault_text, too_long_text, disk_fault_text, IsClosing, ReadsFirst, last_lines}
 use Rattle.session_run.specs.declared.next.LineFault.{LineFault}
 use Rattle.session_run.specs.declared.next.LineFault.TheVariants as fault
 use Rattle.session_run.specs.declared.next.Limit.TheVariants as limit
@@ -212,6 +213,57 @@ closed_as {domains} {before} {now} st result text h2 failed (inl c) later whole 
 closed_as {domains} {before} {now} st result text h2 failed (inr c) later whole part =
     let P : Status → Type 0 = λ x. Ends domains 0 before now x in
     subst P (sym c.0) (rose_back before.writes_failed failed now.writes_failed later c.1, part c.2.0 c.2.1)
+
+-- the disk failed at a line, and the output was closed
+abbrev FailedAt : Domains → Option (List ℕ) → Option (List ℕ) → Pair → Pair → Option (List ℕ) → Option (List ℕ) → ℕ → ℕ → ℕ → ℕ → Status → Type 0
+FailedAt domains l1 l3 a c h1 h4 rf1 rf2 wf1 wf2 result =
+    Ends domains 0 (record { left = l1; held = h1; pair = a; reads_failed = rf1; writes_failed = wf1 }) (record { left = l3; held = h4; pair = c; reads_failed = rf2; writes_failed = wf2 }) result
+
+failed_at : {domains : Domains} {l1 l2 l3 : Option (List ℕ)} {a b c : Pair} {h1 h2 h3 : Option (List ℕ)} {old : Pending} {latest : ℕ} (rf1 rf2 wf1 wfm wf2 : ℕ) (t : Turn) (h4 : Option (List ℕ)) (result : Status)
+    → (s : SoFar domains 0 l1 l2 a b h1 h2 old.bytes old.total latest) → ReadsFirst l1 l3 (s.turns ++ t ∷ []) → HasServed domains latest (t ∷ []) b c h2 h3 → b.desk.torn ≡ None → IsSome c.desk.torn → wf1 ≤ wfm
+    → Closes status.DiskFault disk_fault_text h3 h4 wfm wf2 result → FailedAt domains l1 l3 a c h1 h4 rf1 rf2 wf1 wf2 result
+failed_at {domains} {l1} {l2} {l3} {a} {b} {c} {h1} {h2} {h3} {old} {latest} rf1 rf2 wf1 wfm wf2 t h4 result s first served up failed wl closes =
+    let P : ℕ → Type 0 = λ n. HasServed domains n (t ∷ []) b c h2 h3 in
+    let last = subst P s.latest_is served in
+    let all = served_then s.served last in
+    let A : List ℕ → Type 0 = λ bs. Appends h1 h4 bs in
+    closed_as status.DiskFault result disk_fault_text h3 wfm closes wl
+    (λ closed. record {
+      front = s.turns;
+      last = t;
+      mid = b;
+      held = h2;
+      held_last = h3;
+      first = first;
+      served = s.served;
+      served_last = last;
+      up = up;
+      failed = failed;
+      laws = laws_of all.ran;
+      closed = closed;
+    })
+    (λ n part. record {
+      turns = s.turns ++ t ∷ [];
+      first = first;
+      ran = all.ran;
+      laws = laws_of all.ran;
+      closing = disk_fault_text;
+      is_closing = inr (inr (inl refl));
+      count = length (written (s.turns ++ t ∷ [])) + n;
+      written_part = subst A (sym (take-append-add (written (s.turns ++ t ∷ [])) disk_fault_text n)) (Appends-trans h1 h3 h4 _ _ all.answered part);
+    })
+
+pub failed_line : {domains : Domains} {l1 l2 l3 : Option (List ℕ)} {a b c : Pair} {h1 h2 h3 : Option (List ℕ)} {old new : Pending} {latest : ℕ} (rf1 rf2 wf1 wfm wf2 : ℕ) (t : Turn) (line : _) (h4 : Option (List ℕ)) (result : Status)
+    → SoFar domains 0 l1 l2 a b h1 h2 old.bytes old.total latest → GivesLine l2 l3 old new (next.Line line) → t.line ≡ line.items → HasServed domains latest (t ∷ []) b c h2 h3 → b.desk.torn ≡ None → IsSome c.desk.torn → wf1 ≤ wfm
+    → Closes status.DiskFault disk_fault_text h3 h4 wfm wf2 result → FailedAt domains l1 l3 a c h1 h4 rf1 rf2 wf1 wf2 result
+failed_line {old = old} {new = new} rf1 rf2 wf1 wfm wf2 t line h4 result s gives is served up failed wl closes =
+    failed_at {old = old} rf1 rf2 wf1 wfm wf2 t h4 result s (first_of (read_line {new = new} t line.items new.bytes gives.more s.has_read gives.taken gives.line.0 gives.line.1 refl gives.total gives.within is)) served up failed wl closes
+
+pub failed_last : {domains : Domains} {l1 l2 l3 : Option (List ℕ)} {a b c : Pair} {h1 h2 h3 : Option (List ℕ)} {old new : Pending} {latest : ℕ} (rf1 rf2 wf1 wfm wf2 : ℕ) (t : Turn) (line : _) (h4 : Option (List ℕ)) (result : Status)
+    → SoFar domains 0 l1 l2 a b h1 h2 old.bytes old.total latest → GivesLine l2 l3 old new (next.Last line) → IsAtEnd l3 → t.line ≡ line.items → line.items ∷ [] ≡ last_lines line.items → HasServed domains latest (t ∷ []) b c h2 h3 → b.desk.torn ≡ None → IsSome c.desk.torn
+    → wf1 ≤ wfm → Closes status.DiskFault disk_fault_text h3 h4 wfm wf2 result → FailedAt domains l1 l3 a c h1 h4 rf1 rf2 wf1 wf2 result
+failed_last {old = old} {new = new} rf1 rf2 wf1 wfm wf2 t line h4 result s gives end is some served up failed wl closes =
+    failed_at {old = old} rf1 rf2 wf1 wfm wf2 t h4 result s (first_whole (read_last (t ∷ []) line.items gives.more new.total s.has_read gives.taken gives.line.0 gives.line.1 gives.total gives.within end (ap (λ l. l ∷ []) is ∙ some))) served up failed wl closes
 
 -- reading stopped, by its fault
 pub ends_stop : {domains : Domains} {l1 l2 l3 : Option (List ℕ)} {a b : Pair} {h1 h2 : Option (List ℕ)} {old new : Pending} {latest : ℕ} (h3 : Option (List ℕ)) (f : LineFault) (result : Status) (rf1 rfm rf2 wf1 wfm wf2 : ℕ)

@@ -115,12 +115,12 @@ fn call_desk<D: Disk, S: Signer>(
         | DeskReply::Already
         | DeskReply::Settled
         | DeskReply::CloseBegun
-        | DeskReply::AlreadyClosing
-        | DeskReply::Closed(_)
-        | DeskReply::Keys(_)
-        | DeskReply::HasFailed(_)
-        | DeskReply::NotClosing(_)
-        | DeskReply::Busy { .. } => Answer::Active.line(alloc),
+        | DeskReply::AlreadyClosing => Answer::Active.line(alloc),
+        DeskReply::Closed(_) => Answer::Active.line(alloc),
+        DeskReply::Keys(_) => Answer::Active.line(alloc),
+        DeskReply::HasFailed(_) => Answer::Active.line(alloc),
+        DeskReply::NotClosing(_) => Answer::Active.line(alloc),
+        DeskReply::Busy { .. } => Answer::Active.line(alloc),
         DeskReply::Exported(file) => Answer::Exported(file).line(alloc),
         DeskReply::Pruned(_) => Answer::Pruned.line(alloc),
         DeskReply::GenesisDiffers { kept, given } => {

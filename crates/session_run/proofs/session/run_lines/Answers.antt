@@ -1,6 +1,7 @@
 use Rattle.std.proofs.Common.{Err, ◌∙◌, ap, arith}
 use Rattle.session_run.specs.Runs.{last_lines}
 use Rattle.session_run.proofs.SessionLemmas.{so_far_none, so_far_line, session_done, breaks_line, breaks_last, leaves_line, leaves_last, leaves_begin, rose_back, ends_stop, counted}
+use Rattle.session_run.proofs.FareLemmas.{fares_none, fares_on}
 use Rattle.session_run.proofs.session.run_lines.Goals as goal
 
 pub returns-in_default : goal.returns-in_default
@@ -14,6 +15,8 @@ lines-init g c = record {
   moment = omega arith;
   reads = omega arith;
   writes = omega arith;
+  up = c.requires;
+  fares = fares_none g.D.Disk.faults c.args.desk.now;
 }
 
 pub returns-in-Err-Memory : goal.returns-in-Err-Memory
@@ -65,4 +68,6 @@ lines-preserved g c =
       moment = c.in-Ok-serve_line.ensures.limit;
       reads = omega (arith, c.lines.invariant.reads, c.in-Ok-Line.ensures.later);
       writes = omega (arith, c.lines.invariant.writes, c.in-Ok-serve_line.ensures.later);
+      up = c.in-Ok-serve_line.ensures.up;
+      fares = fares_on g.D.Disk.faults _ _ _ c.lines.invariant.fares c.in-Ok-serve_line.ensures.fares;
     }

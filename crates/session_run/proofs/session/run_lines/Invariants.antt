@@ -1,6 +1,7 @@
-use Rattle.std.proofs.Common.{◌+◌, ◌≤◌, ◌<◌, length}
+use Rattle.std.proofs.Common.{◌≡◌, ◌+◌, ◌≤◌, ◌<◌, None, length}
 use Rattle.check_sign.specs.Machine.{moment_limit}
 use Rattle.session_run.specs.Lines.{input_limit}
+use Rattle.session_run.specs.Acts.{DeskFares}
 use Rattle.session_run.specs.Runs.{SoFar}
 use Rattle.session_run.proofs.session.run_lines.Given as goal
 
@@ -14,4 +15,6 @@ invariant-lines g l = record {
   moment : l.latest ≤ moment_limit;
   reads : g.I.Source.faults l.fn.input ≤ g.I.Source.faults l.input;
   writes : g.O.Sink.faults l.fn.out ≤ g.O.Sink.faults l.out;
+  up : l.desk.contents.torn ≡ None;
+  fares : DeskFares g.D.Disk.faults l.fn.desk l.desk;
 }
