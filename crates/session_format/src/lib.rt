@@ -1,4 +1,4 @@
-//! The lines of a session: the request that a line is, and the line of an answer.
+//! The lines of a session: the request that a line is, the line of an answer, and the one that closes an output.
 #![tactic(auto)]
 
 mod answer;
