@@ -17,7 +17,6 @@ use Rattle.check_sign.specs.Machine.{key_states}
 use Rattle.check_sign.specs.declared.event.DeskEvent.{DeskEvent}
 use Rattle.session_run.specs.declared.status.Status.{Status}
 use Rattle.session_run.specs.declared.status.Status.TheVariants as status
-use Rattle.journal_commands.specs.Unopened.{NotOpened, HadDesk}
 use Rattle.journal_commands.specs.Showing.{DeskShowEnds, ShowEnds, StandsStill, kept_text, listed_text, show_text}
 use Rattle.journal_commands.proofs.ClosingLemmas.{disk_unopened, write_unopened, read_unopened}
 
