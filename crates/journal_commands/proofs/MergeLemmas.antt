@@ -1,6 +1,5 @@
 -- How a merge ends, by what was met.
-use Rattle.std.specs.Prelude.{⊤}
-use Rattle.std.proofs.Common.{◌≡◌, ℕ, List, Option, None, Some, Ok, Err, length, refl, sym, subst, inl, inr}
+use Rattle.std.proofs.Common.{◌≡◌, ℕ, List, None, Ok, Err, length, refl, sym, subst, inl, inr}
 use Rattle.std.specs.Io.KnownBytes.{Appends, Keeps}
 use Rattle.edge_kit.specs.Causes.{Rose}
 use Rattle.edge_kit.specs.declared.bytes.Root.{Root}
@@ -8,7 +7,6 @@ use Rattle.slash_defs.specs.declared.book.File.{File}
 use Rattle.interchange_io.specs.Reading.{file_of, file_limit}
 use Rattle.interchange_io.specs.declared.fault.ReadFault.{ReadFault}
 use Rattle.check_sign.specs.Contents.{Contents}
-use Rattle.check_sign.specs.Machine.{Reply}
 use Rattle.check_sign.specs.declared.call.DeskReply.{DeskReply}
 use Rattle.check_sign.specs.declared.call.DeskReply.TheVariants as reply
 use Rattle.check_sign.specs.declared.event.DeskEvent.{DeskEvent}
@@ -18,11 +16,11 @@ use Rattle.session_format.specs.declared.closing.FileRefusal.TheVariants as refu
 use Rattle.session_run.specs.declared.next.Limit.TheVariants as limit
 use Rattle.session_run.specs.declared.status.Status.{Status}
 use Rattle.session_run.specs.declared.status.Status.TheVariants as status
-use Rattle.journal_commands.specs.Unopened.{ClosesBy, NotOpened, HadDesk}
+use Rattle.journal_commands.specs.Unopened.{ClosesBy}
 use Rattle.journal_commands.specs.Whole.{WholeStops}
 use Rattle.journal_commands.specs.declared.whole.WholeFault.{WholeFault}
 use Rattle.journal_commands.specs.declared.whole.WholeFault.TheVariants as whole_fault
-use Rattle.journal_commands.specs.Merging.{View, ReadsAll, Merges, Replies, DeskMergeEnds, MergeEnds, FileCloses, FaultCloses, ReplyCloses, HasMerged, merged_text, read_fault_text}
+use Rattle.journal_commands.specs.Merging.{View, ReadsAll, Merges, Replies, DeskMergeEnds, MergeEnds, FileCloses, FaultCloses, ReplyCloses, merged_text, read_fault_text}
 use Rattle.journal_commands.proofs.ClosingLemmas.{closed_by, closed_as, disk_unopened, write_unopened, read_unopened}
 
 -- the input was not read to its end

@@ -1,7 +1,11 @@
 -- The lines of a desk's keys, and what each fault tells.
-use Rattle.std.proofs.Common.{◌≡◌, ℕ, List, [], ◌∷◌, ◌++◌, map, Option, refl, sym, ◌∙◌, ap, subst, inl, inr}
+use Rattle.std.proofs.Common.{◌≡◌, ℕ, List, [], ◌∷◌, ◌++◌, map, Option, refl, sym, ◌∙◌, ap, subst, inl, inr, Some, cond, append_assoc}
 use Rattle.std.specs.Prelude.{flat_map}
 use Rattle.std.specs.Map.{keys_of}
+use Rattle.std.specs.Option.{option_or}
+use Rattle.std.specs.Ordering.{eq_by_cmp}
+use Rattle.std.specs.List.{IsDistinct}
+use Rattle.std.specs.List.Sorted.{IsStrictlySortedBy}
 use Rattle.std.specs.Io.KnownBytes.{Appends}
 use Rattle.std.proofs.lemmas.List.{append-nil}
 use Rattle.std.proofs.lemmas.Grind.{flat_map-append}
@@ -9,7 +13,11 @@ use Rattle.edge_kit.specs.Causes.{Rose}
 use Rattle.edge_kit.specs.declared.bytes.PubKey.{PubKey}
 use Rattle.edge_kit.specs.declared.bytes.Root.{Root}
 use Rattle.protect_record.specs.Parts.{Parts}
-use Rattle.record_join.specs.Keys.{kept_of, EachKey}
+use Rattle.record_join.specs.Keys.{key_cmp, kept_of, EachKey}
+use Rattle.record_join.proofs.FileLemmas.{distinct_ordered}
+use Rattle.record_join.proofs.OrderLemmas.{at_itself, kept_append, once_before}
+use Rattle.record_replay.specs.Items.{items_in}
+use Rattle.record_replay.proofs.NamedLemmas.{named_sorted}
 use Rattle.record_replay.specs.declared.state.KeyState.{KeyState}
 use Rattle.check_sign.specs.Contents.{Contents}
 use Rattle.check_sign.specs.States.{State, DeskStands, key_state}
@@ -17,8 +25,7 @@ use Rattle.check_sign.specs.Machine.{key_states}
 use Rattle.check_sign.specs.declared.event.DeskEvent.{DeskEvent}
 use Rattle.session_run.specs.declared.status.Status.{Status}
 use Rattle.session_run.specs.declared.status.Status.TheVariants as status
-use Rattle.journal_commands.specs.Unopened.{NotOpened, HadDesk}
-use Rattle.journal_commands.specs.Showing.{DeskShowEnds, ShowEnds, StandsStill, kept_text, listed_text, show_text}
+use Rattle.journal_commands.specs.Showing.{DeskShowEnds, ShowEnds, StandsStill, kept_text, key_text, listed_text, show_text}
 use Rattle.journal_commands.proofs.ClosingLemmas.{disk_unopened, write_unopened, read_unopened}
 
 -- one more line
@@ -39,12 +46,38 @@ same_keys R [] (y ∷ ys) h = absurd h
 same_keys R (x ∷ xs) [] h = absurd h
 same_keys R (x ∷ xs) (y ∷ ys) h = ap (λ k. k ∷ keys_of xs) h.0 ∙ ap (λ ks. y.0 ∷ ks) (same_keys R xs ys h.2)
 
+-- of a key that differs from those before and behind it, its own is kept
+kept_at : (front : List (PubKey × Parts)) (one : PubKey × Parts) (rest : List (PubKey × Parts)) → IsDistinct (eq_by_cmp key_cmp) (keys_of (front ++ one ∷ rest)) → kept_of (front ++ one ∷ rest) one.0 ≡ Some one.1
+kept_at front one rest distinct =
+    kept_append front (one ∷ rest) one.0
+    ∙ ap (λ o. option_or o (kept_of (one ∷ rest) one.0)) (once_before front one rest distinct)
+    ∙ ap (λ b. cond b (Some one.1) (kept_of rest one.0)) (at_itself one.0)
+
+abbrev entries_text : List (PubKey × KeyState) → List (PubKey × Parts) → List ℕ
+entries_text states entries = flat_map (λ kept. key_text kept.0 (key_state states kept.0) kept.1) entries
+
+names_entries : (states : List (PubKey × KeyState)) (front rest : List (PubKey × Parts)) → IsDistinct (eq_by_cmp key_cmp) (keys_of (front ++ rest)) → names_text (front ++ rest) states (keys_of rest) ≡ entries_text states rest
+names_entries states front [] distinct = refl
+names_entries states front (one ∷ rest) distinct =
+    let together = append_assoc front (one ∷ []) rest in
+    let D : List (PubKey × Parts) → Type 0 = λ ks. IsDistinct (eq_by_cmp key_cmp) (keys_of ks) in
+    let N : List (PubKey × Parts) → Type 0 = λ ks. names_text ks states (keys_of rest) ≡ entries_text states rest in
+    ap (λ o. kept_text one.0 (key_state states one.0) o ++ names_text (front ++ one ∷ rest) states (keys_of rest)) (kept_at front one rest distinct)
+    ∙ ap (λ t. key_text one.0 (key_state states one.0) one.1 ++ t) (subst N together (names_entries states (front ++ one ∷ []) rest (subst D (sym together) distinct)))
+
+-- the keys of a desk differ: they are those that its journal names
+distinct_keys : (e : Contents) (state : State) → DeskStands e state → IsDistinct (eq_by_cmp key_cmp) (keys_of e.keys)
+distinct_keys e state stands =
+    let S : List PubKey → Type 0 = λ ks. IsStrictlySortedBy key_cmp ks in
+    distinct_ordered e.keys (subst S (sym (same_keys _ e.keys state.keys stands.keys ∙ stands.payloads.items.named)) (named_sorted (items_in e.payloads)))
+
 -- the listed keys are those of the desk, in their states
 pub listed_shown : (e : Contents) (state : State) (listed : List (PubKey × KeyState)) → DeskStands e state → listed ≡ key_states state → listed_text e.keys listed ≡ show_text e
 listed_shown e state listed stands is =
     ap (listed_text e.keys) is ∙ listed_names e.keys state.states (keys_of state.keys)
     ∙ ap (λ states. names_text e.keys states (keys_of state.keys)) (sym stands.states)
     ∙ ap (λ names. names_text e.keys e.states names) (sym (same_keys _ e.keys state.keys stands.keys))
+    ∙ names_entries e.states [] e.keys (distinct_keys e state stands)
 
 pub all_shown : (b e : Contents) (listed : List (PubKey × KeyState)) (held_before held_now : Option (List ℕ)) → ((state : State) → DeskStands b state → listed ≡ key_states state) → StandsStill b e
     → Appends held_before held_now (listed_text e.keys listed) → (state : State) → DeskStands b state → Appends held_before held_now (show_text e)

@@ -1,5 +1,5 @@
 -- How a merge of the input into a journal ends.
-use Rattle.std.specs.Prelude.{◌≡◌, ◌⊎◌, ℕ, List, [], ◌++◌, Option, None, Ok, Err, length, codes, decimal}
+use Rattle.std.specs.Prelude.{◌≡◌, ◌⊎◌, ℕ, List, ◌++◌, Option, None, Ok, Err, length, codes, decimal}
 use Rattle.std.specs.Io.KnownBytes.{Consumes, Appends, Keeps, IsAtEnd}
 use Rattle.edge_kit.specs.Causes.{Rose}
 use Rattle.slash_defs.specs.declared.book.File.{File}

@@ -1,6 +1,5 @@
 -- What `show` writes of a key.
 use Rattle.std.specs.Prelude.{◌⊎◌, ℕ, List, [], ◌++◌, flat_map, length, Option, Some, None, option_map, ⊤, codes, decimal}
-use Rattle.std.specs.Map.{keys_of}
 use Rattle.std.specs.Io.KnownBytes.{Appends}
 use Rattle.hex.specs.Hex.{encode_lower}
 use Rattle.edge_kit.specs.Causes.{Rose}
@@ -71,7 +70,7 @@ listed_text keys listed = flat_map (λ one. kept_text one.0 one.1 (kept_of keys 
 
 -- the lines of the keys of a desk, in key order
 abbrev pub show_text : Contents → List ℕ
-show_text desk = flat_map (λ key. kept_text key (key_state desk.states key) (kept_of desk.keys key)) (keys_of desk.keys)
+show_text desk = flat_map (λ kept. key_text kept.0 (key_state desk.states kept.0) kept.1) desk.keys
 
 -- the desk stands for what it stood for
 abbrev pub StandsStill : Contents → Contents → Type 0

@@ -1,4 +1,4 @@
-use Rattle.std.proofs.Common.{List, ℕ, inl, inr, sym, subst}
+use Rattle.std.proofs.Common.{inr, sym, subst}
 use Rattle.check_sign.specs.Opening.{LeavesDesk}
 use Rattle.journal_commands.proofs.keys.show_into.Goals as goal
 

@@ -1,10 +1,9 @@
-use Rattle.std.proofs.Common.{List, ℕ, ◌++◌, ◌∷◌, [], ◌∙◌, take, ap, sym, subst, arith}
+use Rattle.std.proofs.Common.{List, ℕ, ◌∙◌, take, ap, sym, subst, arith}
 use Rattle.std.specs.Io.KnownBytes.{Appends}
-use Rattle.std.proofs.lemmas.List.{take_more, take_all}
+use Rattle.std.proofs.lemmas.List.{take_more}
 use Rattle.edge_kit.proofs.TellingLemmas.{Appends-nil, Appends-trans}
 use Rattle.journal_commands.specs.Showing.{listed_text}
 use Rattle.journal_commands.proofs.ShowLemmas.{listed_more}
-use Rattle.journal_commands.proofs.ClosingLemmas.{rose_back}
 use Rattle.journal_commands.proofs.keys.show_keys.Goals as goal
 
 pub keys-init : goal.keys-init
