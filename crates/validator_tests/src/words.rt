@@ -1,5 +1,5 @@
 //! Words of the command line, and what the program says of them.
-use crate::outside::{Ended, Faults, ready_signer, run};
+use crate::outside::{Ended, Faults, fresh_disks, ready_signer, run};
 use signer_link::MemSigner;
 use std::alloc::{AllocError, Global};
 use std::sync::Wait;
@@ -25,6 +25,7 @@ fn run_words<T: Threads + Wait + Sync>(
         rt,
         alloc,
         words,
+        fresh_disks(alloc)?,
         b"{\"op\":\"export\"}\n",
         ready_signer(alloc),
         faults,
