@@ -1,6 +1,6 @@
 -- What a desk that is up says of a key that signs, and of one that is being closed.
-use Rattle.std.proofs.Common.{◌≡◌, ◌≢◌, ◌⊎◌, inl, inr, ℕ, ◌+◌, ◌<◌, ◌≤◌, arith, Bool, true, false, cond, List, [], ◌∷◌, ◌++◌, Option, Some, None, refl, sym, ◌∙◌, ap, subst, append-nil, max, Result, Ok, Err, ⊎_elim, Contains}
-use Rattle.std.specs.Prelude.{◌↔◌, IsSome, IsSomeAnd, is_some, unwrap_or, count_by, if◌then◌else◌}
+use Rattle.std.proofs.Common.{◌≡◌, ◌≢◌, ◌⊎◌, inl, inr, ℕ, ◌+◌, ◌≤◌, arith, Bool, true, false, cond, List, [], ◌∷◌, ◌++◌, Option, Some, None, refl, sym, ◌∙◌, ap, subst, append-nil, max, Ok, Err, ⊎_elim, Contains}
+use Rattle.std.specs.Prelude.{◌↔◌, IsSomeAnd, is_some, unwrap_or, if◌then◌else◌}
 use Rattle.std.specs.BTreeMap.{is_at}
 use Rattle.std.proofs.lemmas.List.Sums.{sum_by-cons}
 use Rattle.std.proofs.lemmas.Map.{keys-set_value}
@@ -194,8 +194,8 @@ proposal_fault faults old new desk state key m now past f r at active passes wro
     let T : DeskReply → Type 0 = λ x. R x × DeskStands desk (A x) in
     let writes : proposal_items (kept_of state.keys key) key m ≡ proposal_items (Some past) key m = ap (λ o. proposal_items o key m) at in
     subst T (sym is) (by_fault faults old new (proposal_items (Some past) key m) desk state (call.Propose key m now) f R A wrote payloads size journal clean up payloads_are size_is torn_is
-        (active, some_is (kept_of state.keys key) past (λ p. Passes p m) at passes) writes (proposed (items_in old.payloads) state.keys state.states key m past payloads.items at own)
-        (ap (λ i. state.size + frame_size i) writes) (λ h. h) (λ h. h) (λ s w h. h) refl refl (λ s w. refl) rest)
+    (active, some_is (kept_of state.keys key) past (λ p. Passes p m) at passes) writes (proposed (items_in old.payloads) state.keys state.states key m past payloads.items at own)
+    (ap (λ i. state.size + frame_size i) writes) (λ h. h) (λ h. h) (λ s w h. h) refl refl (λ s w. refl) rest)
 
 pub proposal_granted : {D : Type 0} (faults : D → ℕ) (old new : Journaled D) (desk : Contents) (state : State) (key : PubKey) (m : Message) (now : ℕ) (past : Past) (grant : OpenGrant)
     → kept_of state.keys key ≡ Some past → kept_of state.states key ≡ Some Active → Passes past m → Wrote faults old (proposal_items (Some past) key m) new (Ok tt)
@@ -265,7 +265,7 @@ closing_fault faults old new desk state key f r proceeds wrote payloads size jou
     let A : DeskReply → State = λ x. after state (call.FinishClose key) x in
     let T : DeskReply → Type 0 = λ x. R x × DeskStands desk (A x) in
     subst T (sym is) (by_fault faults old new (item.Close key ∷ []) desk state (call.FinishClose key) f R A wrote payloads size journal clean up payloads_are size_is torn_is
-        proceeds refl closed refl (λ h. h) (λ h. h) (λ s w h. h) refl refl (λ s w. refl) rest)
+    proceeds refl closed refl (λ h. h) (λ h. h) (λ s w h. h) refl refl (λ s w. refl) rest)
 
 pub closing_done : {D : Type 0} (faults : D → ℕ) (old new : Journaled D) (desk : Contents) (state : State) (key : PubKey) (parts : Parts) (past : Past) (book : Book) → Proceeds state (call.FinishClose key) → Wrote faults old (item.Close key ∷ []) new (Ok tt)
     → old.size ≡ state.size → old.size ≡ journal_size old.payloads → IsUp state → ItemsStand (items_in old.payloads ++ item.Close key ∷ []) state.keys (with_kept state.states key Closed)

@@ -82,23 +82,20 @@ impl<D: Disk> Desk<D> {
 
     /// Spends a grant that is open at this desk: `Sent` wherever sending was begun, else `Dropped`. Takes no
     /// memory.
-    pub fn settle(&mut self, grant: Grant, outcome: Outcome) -> DeskReply
+    pub fn settle(&mut self, grant: Grant, outcome: Outcome)
         requires { Contains self.old.contents.grants grant }
-        ensures machine { (state : State) → DeskStands self.old.contents state → Reply state (DeskCall.Settle grant outcome) result × DeskStands self.new.contents (after state (DeskCall.Settle grant outcome) result) }
-        ensures events { self.new.contents.events ≡ self.old.contents.events ++ noted self.old.contents.latest (DeskCall.Settle grant outcome) result }
-        ensures is_open { IsOpenIn self.new.contents.grants result }
-        ensures granted { IsGrantFor (DeskCall.Settle grant outcome) result }
-        ensures rose { result ≡ DeskReply.Disk → self.old.contents.torn ≡ None → Rose (D.faults self.old.disk) (D.faults self.new.disk) }
+        ensures machine { (state : State) → DeskStands self.old.contents state → Reply state (DeskCall.Settle grant outcome) DeskReply.Settled × DeskStands self.new.contents (after state (DeskCall.Settle grant outcome) DeskReply.Settled) }
+        ensures events { self.new.contents.events ≡ self.old.contents.events ++ noted self.old.contents.latest (DeskCall.Settle grant outcome) DeskReply.Settled }
         // A crash at any moment of the call leaves a file that opens to what lasts of the state before or of the state after,
         // and from now on of the latter.
-        ensures any_moment { (state : State) → DeskStands self.old.contents state → LeavesOnly D.moment D.leaves self.old.disk self.new.disk (λ c. MayOpen self.old.contents.genesis state c ⊎ MayOpen self.old.contents.genesis (after state (DeskCall.Settle grant outcome) result) c) }
+        ensures any_moment { (state : State) → DeskStands self.old.contents state → LeavesOnly D.moment D.leaves self.old.disk self.new.disk (λ c. MayOpen self.old.contents.genesis state c ⊎ MayOpen self.old.contents.genesis (after state (DeskCall.Settle grant outcome) DeskReply.Settled) c) }
         ensures left { (state : State) → DeskStands self.new.contents state → (c : List ℕ) → D.leaves self.new.disk (D.moment self.new.disk) c → MayOpen self.new.contents.genesis state c }
         ensures later { D.faults self.old.disk ≤ D.faults self.new.disk }
         ensures fails { self.old.contents.torn ≡ None → IsSome self.new.contents.torn → Rose (D.faults self.old.disk) (D.faults self.new.disk) }
         ensures genesis { self.new.contents.genesis ≡ self.old.contents.genesis }
         ensures second { self.new.second ≡ self.old.second }
     {
-        self.call(DeskCall::Settle { grant, outcome })
+        self.settle_grant(grant, outcome);
     }
 
     /// Begins to close an active key: no more is granted for it. It is not kept on the disk. Refused by `Unknown`

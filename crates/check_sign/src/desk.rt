@@ -111,7 +111,10 @@ impl<D: Disk> Desk<D> {
             DeskCall::Merge { file } => self.merge_file(file),
             DeskCall::Activate { key, now } => self.activate_key(key, now),
             DeskCall::Propose { key, message, now } => self.propose_message(key, message, now),
-            DeskCall::Settle { grant, outcome } => self.settle_grant(grant, outcome),
+            DeskCall::Settle { grant, outcome } => {
+                self.settle_grant(grant, outcome);
+                DeskReply::Settled
+            }
             DeskCall::BeginClose { key } => self.begin_closing(key),
             DeskCall::FinishClose { key } => self.finish_closing(key),
             DeskCall::Export { keys } => self.export_keys(keys),
@@ -122,13 +125,10 @@ impl<D: Disk> Desk<D> {
     }
 
     /// Spends a grant that is open at this desk. Takes no memory.
-    pub(crate) fn settle_grant(&mut self, grant: Grant, outcome: Outcome) -> DeskReply
+    pub(crate) fn settle_grant(&mut self, grant: Grant, outcome: Outcome)
         requires { Contains self.old.contents.grants grant }
-        ensures machine { (state : State) → DeskStands self.old.contents state → Reply state (DeskCall.Settle grant outcome) result × DeskStands self.new.contents (after state (DeskCall.Settle grant outcome) result) }
-        ensures events { self.new.contents.events ≡ self.old.contents.events ++ noted self.old.contents.latest (DeskCall.Settle grant outcome) result }
-        ensures is_open { IsOpenIn self.new.contents.grants result }
-        ensures granted { IsGrantFor (DeskCall.Settle grant outcome) result }
-        ensures rose { result ≡ DeskReply.Disk → self.old.contents.torn ≡ None → Rose (D.faults self.old.disk) (D.faults self.new.disk) }
+        ensures machine { (state : State) → DeskStands self.old.contents state → Reply state (DeskCall.Settle grant outcome) DeskReply.Settled × DeskStands self.new.contents (after state (DeskCall.Settle grant outcome) DeskReply.Settled) }
+        ensures events { self.new.contents.events ≡ self.old.contents.events ++ noted self.old.contents.latest (DeskCall.Settle grant outcome) DeskReply.Settled }
         ensures moved { Moved D.moment D.leaves D.faults (journal_of self.old) (journal_of self.new) }
         ensures genesis { self.new.contents.genesis ≡ self.old.contents.genesis }
         ensures second { self.new.second ≡ self.old.second }
@@ -144,7 +144,6 @@ impl<D: Disk> Desk<D> {
             outcome,
         };
         note(&mut self.events, settled, self.latest);
-        DeskReply::Settled
     }
 
     /// What the desk did since it was opened, in order. Takes no memory.

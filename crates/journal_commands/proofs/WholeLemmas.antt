@@ -1,5 +1,5 @@
 -- An input that is read piece by piece.
-use Rattle.std.proofs.Common.{◌≡◌, ℕ, ◌≤◌, List, [], ◌++◌, length, length-append, Option, Some, None, sym, ap, subst, arith}
+use Rattle.std.proofs.Common.{◌≡◌, ℕ, ◌≤◌, List, [], length, length-append, Option, Some, None, sym, ap, subst, arith}
 use Rattle.std.specs.Io.KnownBytes.{Consumes}
 use Rattle.edge_kit.proofs.TellingLemmas.{Consumes-nil, Consumes-trans}
 use Rattle.journal_commands.specs.Whole.{ReadsMore, PassesLimit, WholeStops, MoreStops, WithinLimit}

@@ -1,5 +1,5 @@
 //! One line of what a journal has of a key.
-ghost use Rattle.std.specs.Prelude.{◌≡◌, ◌++◌, length, OnOk, IfOk, codes, decimal, string_bytes};
+ghost use Rattle.std.specs.Prelude.{◌≡◌, ◌++◌, length, OnOk, IfOk, decimal, string_bytes};
 ghost use Rattle.journal_commands.specs.Showing.{key_text, state_word, hex_text, floor_text, source_floor, target_floor, counts_text, floors_text};
 
 use edge_kit::PubKey;

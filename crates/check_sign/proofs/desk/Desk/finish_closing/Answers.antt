@@ -1,5 +1,5 @@
-use Rattle.std.proofs.Common.{◌≡◌, ◌≢◌, ◌+◌, ◌<◌, ◌≤◌, refl, sym, ap, ◌∙◌, subst, arith, rules}
-use Rattle.record_join.specs.Keys.{kept_of, with_kept}
+use Rattle.std.proofs.Common.{◌≡◌, ◌≢◌, ◌≤◌, refl, sym, ap, ◌∙◌, subst, arith, rules}
+use Rattle.record_join.specs.Keys.{with_kept}
 use Rattle.record_replay.specs.declared.state.KeyState.TheVariants.{Closing, Closed}
 use Rattle.check_sign.specs.Marking.{count_active}
 use Rattle.check_sign.specs.States.{key_state, open_grants}
@@ -50,19 +50,21 @@ returns-in_default-export-2-clause-machine g c = λ state stands.
 pub returns-then-not-make_room-clause-machine : goal.returns-then-not-make_room-clause-machine
 returns-then-not-make_room-clause-machine g c = λ state stands.
     let s = opened c.args.self.now _ state c.self.view_is stands in
-    let closing : c.state_of-state.result ≡ Closing = search rules in
-    ((is_up _ state c.failed.result s c.failed.ensures c.if-failed.false, may_close _ state c.args.key c.in-Some.record.now c.state_of-state.result c.count_of-grants.result _ s (search rules) c.state_of-state.ensures.value closing c.count_of-grants.ensures c.deref.ensures.value c.if-grants-gt0.false), record {
-      genesis = s.genesis;
-      keys = s.keys;
-      states = s.states;
-      grants = c.make_room.ensures.kept ∙ s.grants;
-      next = s.next;
-      latest = s.latest;
-      watch = s.watch;
-      size = s.size;
-      payloads = s.payloads;
-      torn = s.torn;
-    })
+    let closing : c.state_of-state.result ≡ Closing = search rules in (
+      (is_up _ state c.failed.result s c.failed.ensures c.if-failed.false, may_close _ state c.args.key c.in-Some.record.now c.state_of-state.result c.count_of-grants.result _ s (search rules) c.state_of-state.ensures.value closing c.count_of-grants.ensures c.deref.ensures.value c.if-grants-gt0.false),
+      record {
+        genesis = s.genesis;
+        keys = s.keys;
+        states = s.states;
+        grants = c.make_room.ensures.kept ∙ s.grants;
+        next = s.next;
+        latest = s.latest;
+        watch = s.watch;
+        size = s.size;
+        payloads = s.payloads;
+        torn = s.torn;
+      },
+    )
 
 pub returns-in-Err-clause-machine : goal.returns-in-Err-clause-machine
 returns-in-Err-clause-machine g c = λ state stands.

@@ -103,15 +103,15 @@ returns-clause-machine g c = λ state stands.
     let within = subst F c.as_slice.ensures (fits_file c.self.inside.books state.keys c.as_slice.result.now s.keys c.in-Ok.ensures.within) in (
       ((up, (same ∙ s.genesis, within), sized (file_items (canonical c.args.file).books) _ _ s.size c.in_default.ensures.wrote.0), c.len-keys.ensures),
       grown g.D.Disk.faults c.self.inside.journal c.write_file.new.journal (file_items (canonical c.args.file).books) _ state _
-      c.in_default.ensures.wrote s.size c.self.invariant.3.size refl refl refl
-      (c.replay_laws.ensures.merged (items_in c.self.inside.journal.payloads) state.keys state.states c.args.file s.payloads.items c.requires) refl up
-      (record {
-        genesis = s.genesis;
-        keys = subst K (c.as_slice-2.ensures) (c.merge_prepared.ensures c.self.inside.books c.in-Ok.fresh state.keys (subst R (c.as_slice.ensures ∙ sym c.as_slice-2.ensures) c.in-Ok.ensures.prepared) s.keys);
-        states = s.states;
-        grants = c.make_room-has_room.ensures.kept ∙ s.grants;
-        next = s.next;
-        latest = s.latest;
-        watch = s.watch;
-      }),
+          c.in_default.ensures.wrote s.size c.self.invariant.3.size refl refl refl
+          (c.replay_laws.ensures.merged (items_in c.self.inside.journal.payloads) state.keys state.states c.args.file s.payloads.items c.requires) refl up
+          (record {
+            genesis = s.genesis;
+            keys = subst K (c.as_slice-2.ensures) (c.merge_prepared.ensures c.self.inside.books c.in-Ok.fresh state.keys (subst R (c.as_slice.ensures ∙ sym c.as_slice-2.ensures) c.in-Ok.ensures.prepared) s.keys);
+            states = s.states;
+            grants = c.make_room-has_room.ensures.kept ∙ s.grants;
+            next = s.next;
+            latest = s.latest;
+            watch = s.watch;
+          }),
     )

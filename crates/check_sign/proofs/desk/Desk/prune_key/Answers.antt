@@ -118,15 +118,15 @@ returns-clause-machine g c = λ state stands.
     let L : List (PubKey × Book) → Type 0 = λ l. BooksStand c.merge_prepared.new.self (with_file state.keys l) in (
       ((up, is_some_of _ at.0 at.1, subst H (sym writes) (sized (book_items (c.args.key, book)) _ _ s.size c.in_default-write_book.ensures.wrote.0)), some_is _ at.0 (λ past. book ≡ pruning_of past) at.1 book_is),
       grown g.D.Disk.faults c.self.inside.journal c.write_book.new.journal (book_items (c.args.key, book)) _ state _
-      c.in_default-write_book.ensures.wrote s.size c.self.invariant.3.size refl refl refl
-      (subst I (sym keys_are) (c.replay_laws.ensures.gained (items_in c.self.inside.journal.payloads) state.keys state.states c.args.key book s.payloads.items)) (ap (λ i. state.size + frame_size i) writes) up
-      (record {
-        genesis = s.genesis;
-        keys = subst K (sym keys_are) (subst L c.from_ref-2.ensures.value (c.merge_prepared.ensures c.self.inside.books c.in-Ok-prepare.fresh state.keys (subst F (c.from_ref.ensures.value ∙ sym c.from_ref-2.ensures.value) c.in-Ok-prepare.ensures.prepared) s.keys));
-        states = s.states;
-        grants = c.make_room-has_room.ensures.kept ∙ s.grants;
-        next = s.next;
-        latest = s.latest;
-        watch = s.watch;
-      }),
+          c.in_default-write_book.ensures.wrote s.size c.self.invariant.3.size refl refl refl
+          (subst I (sym keys_are) (c.replay_laws.ensures.gained (items_in c.self.inside.journal.payloads) state.keys state.states c.args.key book s.payloads.items)) (ap (λ i. state.size + frame_size i) writes) up
+          (record {
+            genesis = s.genesis;
+            keys = subst K (sym keys_are) (subst L c.from_ref-2.ensures.value (c.merge_prepared.ensures c.self.inside.books c.in-Ok-prepare.fresh state.keys (subst F (c.from_ref.ensures.value ∙ sym c.from_ref-2.ensures.value) c.in-Ok-prepare.ensures.prepared) s.keys));
+            states = s.states;
+            grants = c.make_room-has_room.ensures.kept ∙ s.grants;
+            next = s.next;
+            latest = s.latest;
+            watch = s.watch;
+          }),
     )
