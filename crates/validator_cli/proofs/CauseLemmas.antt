@@ -1,141 +1,149 @@
 -- Each status comes only where its cause says.
-use Rattle.std.proofs.Common.{◌≡◌, ◌≢◌, ℕ, List, [], ◌∷◌, ◌++◌, Option, Result, Ok, Err, refl, sym, ◌∙◌, ap, subst, inl, inr, ◌⊎◌}
-use Rattle.std.specs.Prelude.{IfOk, codes}
+use Rattle.std.proofs.Common.{◌≡◌, ◌≢◌, ℕ, List, refl, sym, ◌∙◌, ap, subst, inl, inr, ◌⊎◌}
 use Rattle.edge_kit.specs.Causes.{Rose}
-use Rattle.edge_kit.specs.declared.bytes.Root.{Root}
-use Rattle.phase0_types.specs.declared.fork.Fork.{Fork}
 use Rattle.sign_roots.specs.declared.domains.Domains.{Domains}
-use Rattle.signer_link.specs.declared.signer.SignCall.{SignCall}
-use Rattle.signer_link.specs.declared.signer.SignReply.{SignReply}
+use Rattle.record_journal.specs.declared.open.OpenFault.TheVariants as journal_fault
+use Rattle.check_sign.specs.declared.open.OpenFault.{OpenFault}
+use Rattle.check_sign.specs.declared.open.OpenFault.TheVariants as open_fault
 use Rattle.check_sign.specs.declared.event.DeskEvent.{DeskEvent}
 use Rattle.session_run.specs.Closings.{Closes}
-use Rattle.session_run.specs.Runs.{WithinLimits}
+use Rattle.session_run.specs.Runs.{Ends, View, WithinLimits}
+use Rattle.session_run.specs.declared.next.Limit.{Limit}
+use Rattle.session_run.specs.declared.next.Limit.TheVariants as limit
 use Rattle.session_run.specs.declared.status.Status.{Status}
 use Rattle.session_run.specs.declared.status.Status.TheVariants as status
-use Rattle.command_line.specs.Plans.{Asked, session, shown, nothing}
-use Rattle.validator_cli.specs.Endings.{Outside, EndsAs, RunEnds, SessionEnds, NoCommand, NotBegun, TextShown, Refuses, IsOwnLine}
+use Rattle.command_line.specs.Plans.{Asked, session, merge, show, shown, nothing}
+use Rattle.validator_cli.specs.Endings.{Outside, EndsAs, RunEnds, Opened, NotOpened, IsComplete}
+use Rattle.validator_cli.specs.Unopened.{TellsFault, IsUnwritten}
 
--- two statuses that differ
-usage_done : status.Usage ≡ status.Done → ⊥
-usage_done h = cc
+-- the cause of a status, by what was asked for, what the objects tell, and the disk's count of faults
+abbrev Caused : Asked → Outside → Outside → ℕ → ℕ → Status → Type 0
+Caused a before now d1 d2 status.Done = a ≢ nothing
+Caused a before now d1 d2 status.Usage = a ≡ nothing
+Caused a before now d1 d2 status.ReadFault = (a ≢ nothing) × Rose before.reads_failed now.reads_failed
+Caused a before now d1 d2 status.WriteFault = Rose before.writes_failed now.writes_failed
+Caused a before now d1 d2 status.DiskFault = (a ≢ nothing) × Rose d1 d2
+Caused a before now d1 d2 status.Damaged = a ≢ nothing
+Caused a before now d1 d2 status.GenesisDiffers = a ≢ nothing
+Caused a before now d1 d2 status.OutOfMemory = Unit {0}
+Caused a before now d1 d2 (status.InputTooLong l) = (a ≢ nothing) × (WithinLimits before.left → l ≡ limit.Keys)
+Caused a before now d1 d2 status.FileRefused = ⊥
 
-done_usage : status.Done ≡ status.Usage → ⊥
-done_usage h = cc
+-- what asks for something
+session_some : (a : Asked) (genesis : _) (journal : _) (fork : _) → a ≡ session genesis journal fork → a ≢ nothing
+session_some a genesis journal fork e n = let bad : session genesis journal fork ≡ nothing = sym e ∙ n in cc
 
-write_usage : status.WriteFault ≡ status.Usage → ⊥
-write_usage h = cc
+shown_some : shown ≢ nothing
+shown_some n = cc
 
-usage_read : status.Usage ≡ status.ReadFault → ⊥
-usage_read h = cc
+-- an output that was closed
+closed : (a : Asked) (before now : Outside) (d1 d2 : ℕ) (st s : Status) (text : List ℕ) → Caused a before now d1 d2 st → Closes st text before.held now.held before.writes_failed now.writes_failed s → Caused a before now d1 d2 s
+closed a before now d1 d2 st s text c (inl x) = let P : Status → Type 0 = λ y. Caused a before now d1 d2 y in subst P (sym x.0) c
+closed a before now d1 d2 st s text c (inr x) = let P : Status → Type 0 = λ y. Caused a before now d1 d2 y in subst P (sym x.0) x.1
 
-write_read : status.WriteFault ≡ status.ReadFault → ⊥
-write_read h = cc
+unwritten : (a : Asked) (before now : Outside) (d1 d2 : ℕ) (s : Status) → s ≡ status.OutOfMemory → Caused a before now d1 d2 s
+unwritten a before now d1 d2 s e = let P : Status → Type 0 = λ y. Caused a before now d1 d2 y in subst P (sym e) tt
 
-done_read : status.Done ≡ status.ReadFault → ⊥
-done_read h = cc
+closed_or_not : (a : Asked) (before now : Outside) (d1 d2 : ℕ) (st s : Status) (text : List ℕ) → Caused a before now d1 d2 st
+    → Closes st text before.held now.held before.writes_failed now.writes_failed s ⊎ IsUnwritten before.held now.held before.writes_failed now.writes_failed s → Caused a before now d1 d2 s
+closed_or_not a before now d1 d2 st s text c (inl x) = closed a before now d1 d2 st s text c x
+closed_or_not a before now d1 d2 st s text c (inr x) = unwritten a before now d1 d2 s x.0
 
-usage_write : status.Usage ≡ status.WriteFault → ⊥
-usage_write h = cc
+-- no desk was opened
+unopened : (a : Asked) (before now : Outside) (d1 d2 : ℕ) (f : OpenFault) (s : Status) → a ≢ nothing → (f ≡ open_fault.Journal journal_fault.Disk → Rose d1 d2)
+    → TellsFault f before.held now.held before.writes_failed now.writes_failed s → Caused a before now d1 d2 s
+unopened a before now d1 d2 (open_fault.Journal journal_fault.Disk) s some cause t = closed_or_not a before now d1 d2 status.DiskFault s _ (some, cause refl) t
+unopened a before now d1 d2 (open_fault.Journal journal_fault.OutOfMemory) s some cause t = unwritten a before now d1 d2 s t.0
+unopened a before now d1 d2 (open_fault.Journal (journal_fault.Damaged offset byte)) s some cause t = closed_or_not a before now d1 d2 status.Damaged s _ some t
+unopened a before now d1 d2 (open_fault.Journal (journal_fault.Genesis kept given)) s some cause t = closed_or_not a before now d1 d2 status.GenesisDiffers s _ some t
+unopened a before now d1 d2 (open_fault.TooManyKeys have new) s some cause t = closed_or_not a before now d1 d2 (status.InputTooLong limit.Keys) s _ (some, λ w. refl) t
 
-done_write : status.Done ≡ status.WriteFault → ⊥
-done_write h = cc
+-- a count that rose, told otherwise
+rose_at : (a b c d : ℕ) → a ≡ c → b ≡ d → Rose a b → Rose c d
+rose_at a b c d p q h = let P : ℕ → Type 0 = λ x. Rose x b in let Q : ℕ → Type 0 = λ y. Rose c y in subst Q q (subst P p h)
 
-memory_usage : status.OutOfMemory ≡ status.Usage → ⊥
-memory_usage h = cc
+-- a desk was opened
+served : (a : Asked) (before now : Outside) (d1 d2 : ℕ) (domains : Domains) (m : ℕ) (v1 v2 : View) (s : Status) → a ≢ nothing
+    → v1.reads_failed ≡ before.reads_failed → v2.reads_failed ≡ now.reads_failed → v1.writes_failed ≡ before.writes_failed → v2.writes_failed ≡ now.writes_failed
+    → (s ≡ status.DiskFault → Rose d1 d2) → (WithinLimits before.left → (l : Limit) → s ≢ status.InputTooLong l) → Ends domains m v1 v2 s → Caused a before now d1 d2 s
+served a before now d1 d2 domains m v1 v2 status.Done some r1 r2 w1 w2 disk within ends = some
+served a before now d1 d2 domains m v1 v2 status.Usage some r1 r2 w1 w2 disk within ends = absurd ends
+served a before now d1 d2 domains m v1 v2 status.ReadFault some r1 r2 w1 w2 disk within ends = (some, rose_at _ _ _ _ r1 r2 ends.0)
+served a before now d1 d2 domains m v1 v2 status.WriteFault some r1 r2 w1 w2 disk within ends = rose_at _ _ _ _ w1 w2 ends.0
+served a before now d1 d2 domains m v1 v2 status.DiskFault some r1 r2 w1 w2 disk within ends = (some, disk refl)
+served a before now d1 d2 domains m v1 v2 status.Damaged some r1 r2 w1 w2 disk within ends = absurd ends
+served a before now d1 d2 domains m v1 v2 status.GenesisDiffers some r1 r2 w1 w2 disk within ends = absurd ends
+served a before now d1 d2 domains m v1 v2 status.OutOfMemory some r1 r2 w1 w2 disk within ends = tt
+served a before now d1 d2 domains m v1 v2 (status.InputTooLong l) some r1 r2 w1 w2 disk within ends = (some, λ w. absurd (within w l refl))
+served a before now d1 d2 domains m v1 v2 status.FileRefused some r1 r2 w1 w2 disk within ends = absurd ends
 
-memory_read : status.OutOfMemory ≡ status.ReadFault → ⊥
-memory_read h = cc
+-- a session
+session_caused : {D : Type 0} (shows : D → List ℕ → Type 0) (moment : D → ℕ) (leaves : D → ℕ → List ℕ → Type 0) (faults : D → ℕ) (domains : Domains) (a : Asked) (f1 f2 : D) (before now : Outside) (events : List DeskEvent) (s : Status)
+    → a ≢ nothing → Opened shows moment leaves faults domains f1 f2 before now events s ⊎ NotOpened shows moment leaves faults domains.genesis f1 f2 before now events s → Caused a before now (faults f1) (faults f2) s
+session_caused shows moment leaves faults domains a f1 f2 before now events s some (inl o) = served a before now (faults f1) (faults f2) _ _ _ _ s some refl refl refl refl o.serves.disk_fault o.serves.within o.serves.ends
+session_caused shows moment leaves faults domains a f1 f2 before now events s some (inr n) = unopened a before now (faults f1) (faults f2) n.fault s some n.cause n.tells
 
-memory_write : status.OutOfMemory ≡ status.WriteFault → ⊥
-memory_write h = cc
+caused_by : {D : Type 0} (shows : D → List ℕ → Type 0) (moment : D → ℕ) (leaves : D → ℕ → List ℕ → Type 0) (faults : D → ℕ) (a : Asked) (f1 f2 : D) (before now : Outside) (events : List DeskEvent) (s : Status)
+    → EndsAs shows moment leaves faults a f1 f2 before now events s → Caused a before now (faults f1) (faults f2) s
+caused_by shows moment leaves faults (session genesis journal fork) f1 f2 before now events s ends =
+    session_caused shows moment leaves faults (record { fork = fork; genesis = genesis }) (session genesis journal fork) f1 f2 before now events s (session_some _ genesis journal fork refl) ends
+caused_by shows moment leaves faults (merge genesis journal) f1 f2 before now events s ends = absurd ends
+caused_by shows moment leaves faults (show genesis journal) f1 f2 before now events s ends = absurd ends
+caused_by shows moment leaves faults shown f1 f2 before now events s ends = closed shown before now (faults f1) (faults f2) status.Done s ends.text shown_some ends.closes
+caused_by shows moment leaves faults nothing f1 f2 before now events s ends = closed nothing before now (faults f1) (faults f2) status.Usage s ends.text refl ends.closes
 
--- which statuses a closing may give
-closed : (text : List ℕ) (h1 h2 : Option (List ℕ)) (f1 f2 : ℕ) (st s x : Status) → Closes st text h1 h2 f1 f2 s → (st ≡ x → ⊥) → (status.WriteFault ≡ x → ⊥) → s ≡ x → ⊥
-closed text h1 h2 f1 f2 st s x (inl c) other failed e = other (sym c.0 ∙ e)
-closed text h1 h2 f1 f2 st s x (inr c) other failed e = failed (sym c.0 ∙ e)
+caused : {D : Type 0} (shows : D → List ℕ → Type 0) (moment : D → ℕ) (leaves : D → ℕ → List ℕ → Type 0) (faults : D → ℕ) (a : Asked) (f1 f2 : D) (before now : Outside) (events : List DeskEvent) (s : Status)
+    → RunEnds shows moment leaves faults a f1 f2 before now events s → Caused a before now (faults f1) (faults f2) s
+caused shows moment leaves faults a f1 f2 before now events s (inl ends) = caused_by shows moment leaves faults a f1 f2 before now events s ends
+caused shows moment leaves faults a f1 f2 before now events s (inr none) = unwritten a before now (faults f1) (faults f2) s none.is
 
-rose_if_write : (text : List ℕ) (h1 h2 : Option (List ℕ)) (f1 f2 : ℕ) (st s : Status) → Closes st text h1 h2 f1 f2 s → (st ≡ status.WriteFault → ⊥) → s ≡ status.WriteFault → Rose f1 f2
-rose_if_write text h1 h2 f1 f2 st s (inl c) other e = absurd (other (sym c.0 ∙ e))
-rose_if_write text h1 h2 f1 f2 st s (inr c) other e = c.1
+-- what a caused status tells
+none_by : (a : Asked) (before now : Outside) (d1 d2 : ℕ) (s : Status) → Caused a before now d1 d2 s → a ≡ nothing → (s ≡ status.Usage) ⊎ (s ≡ status.WriteFault) ⊎ (s ≡ status.OutOfMemory)
+none_by a before now d1 d2 status.Done c none = absurd (c none)
+none_by a before now d1 d2 status.Usage c none = inl refl
+none_by a before now d1 d2 status.ReadFault c none = absurd (c.0 none)
+none_by a before now d1 d2 status.WriteFault c none = inr (inl refl)
+none_by a before now d1 d2 status.DiskFault c none = absurd (c.0 none)
+none_by a before now d1 d2 status.Damaged c none = absurd (c none)
+none_by a before now d1 d2 status.GenesisDiffers c none = absurd (c none)
+none_by a before now d1 d2 status.OutOfMemory c none = inr (inr refl)
+none_by a before now d1 d2 (status.InputTooLong l) c none = absurd (c.0 none)
+none_by a before now d1 d2 status.FileRefused c none = absurd c
 
-usage_by : (a : Asked) (before now : Outside) (events : List DeskEvent) (s : Status) → EndsAs a before now events s → s ≡ status.Usage → a ≡ nothing
-usage_by (session genesis fork) before now events s ends e =
-    let P : Status → Type 0 = λ x. SessionEnds (record { fork = fork; genesis = genesis }) before now events x in
-    absurd (subst P e ends).ends
-usage_by shown before now events s ends e = absurd (closed _ _ _ _ _ status.Done s status.Usage ends.closes done_usage write_usage e)
-usage_by nothing before now events s ends e = refl
+complete_by : (a : Asked) (before now : Outside) (d1 d2 : ℕ) (s : Status) → Caused a before now d1 d2 s → a ≢ nothing → WithinLimits before.left
+    → ¬ (Rose before.reads_failed now.reads_failed) → ¬ (Rose before.writes_failed now.writes_failed) → ¬ (Rose d1 d2) → IsComplete s
+complete_by a before now d1 d2 status.Done c some within reads writes disk = inl refl
+complete_by a before now d1 d2 status.Usage c some within reads writes disk = absurd (some c)
+complete_by a before now d1 d2 status.ReadFault c some within reads writes disk = absurd (reads c.1)
+complete_by a before now d1 d2 status.WriteFault c some within reads writes disk = absurd (writes c)
+complete_by a before now d1 d2 status.DiskFault c some within reads writes disk = absurd (disk c.1)
+complete_by a before now d1 d2 status.Damaged c some within reads writes disk = inr (inr (inl refl))
+complete_by a before now d1 d2 status.GenesisDiffers c some within reads writes disk = inr (inr (inr (inl refl)))
+complete_by a before now d1 d2 status.OutOfMemory c some within reads writes disk = inr (inl refl)
+complete_by a before now d1 d2 (status.InputTooLong l) c some within reads writes disk = inr (inr (inr (inr (ap (λ x. status.InputTooLong x) (c.1 within)))))
+complete_by a before now d1 d2 status.FileRefused c some within reads writes disk = absurd c
 
-pub usage : (a : Asked) (before now : Outside) (events : List DeskEvent) (s : Status) → RunEnds a before now events s → s ≡ status.Usage → a ≡ nothing
-usage a before now events s (inl ends) e = usage_by a before now events s ends e
-usage a before now events s (inr none) e = absurd (memory_usage (sym none.is ∙ e))
+pub usage : {D : Type 0} (shows : D → List ℕ → Type 0) (moment : D → ℕ) (leaves : D → ℕ → List ℕ → Type 0) (faults : D → ℕ) (a : Asked) (f1 f2 : D) (before now : Outside) (events : List DeskEvent) (s : Status)
+    → RunEnds shows moment leaves faults a f1 f2 before now events s → s ≡ status.Usage → a ≡ nothing
+usage shows moment leaves faults a f1 f2 before now events s r e = let P : Status → Type 0 = λ y. Caused a before now (faults f1) (faults f2) y in subst P e (caused shows moment leaves faults a f1 f2 before now events s r)
 
-no_command_by : (a : Asked) (before now : Outside) (events : List DeskEvent) (s : Status) → EndsAs a before now events s → a ≡ nothing → (s ≡ status.Usage) ⊎ (s ≡ status.WriteFault) ⊎ (s ≡ status.OutOfMemory)
-no_command_by (session genesis fork) before now events s ends e = absurd (let bad : session genesis fork ≡ nothing = e in cc)
-no_command_by shown before now events s ends e = absurd (let bad : shown ≡ nothing = e in cc)
-no_command_by nothing before now events s ends e = elim ends.closes [ inl c ↦ inl c.0 | inr c ↦ inr (inl c.0) ]
+pub no_command : {D : Type 0} (shows : D → List ℕ → Type 0) (moment : D → ℕ) (leaves : D → ℕ → List ℕ → Type 0) (faults : D → ℕ) (a : Asked) (f1 f2 : D) (before now : Outside) (events : List DeskEvent) (s : Status)
+    → RunEnds shows moment leaves faults a f1 f2 before now events s → a ≡ nothing → (s ≡ status.Usage) ⊎ (s ≡ status.WriteFault) ⊎ (s ≡ status.OutOfMemory)
+no_command shows moment leaves faults a f1 f2 before now events s r e = none_by a before now (faults f1) (faults f2) s (caused shows moment leaves faults a f1 f2 before now events s r) e
 
-pub no_command : (a : Asked) (before now : Outside) (events : List DeskEvent) (s : Status) → RunEnds a before now events s → a ≡ nothing → (s ≡ status.Usage) ⊎ (s ≡ status.WriteFault) ⊎ (s ≡ status.OutOfMemory)
-no_command a before now events s (inl ends) e = no_command_by a before now events s ends e
-no_command a before now events s (inr none) e = inr (inr none.is)
+pub read_fault : {D : Type 0} (shows : D → List ℕ → Type 0) (moment : D → ℕ) (leaves : D → ℕ → List ℕ → Type 0) (faults : D → ℕ) (a : Asked) (f1 f2 : D) (before now : Outside) (events : List DeskEvent) (s : Status)
+    → RunEnds shows moment leaves faults a f1 f2 before now events s → s ≡ status.ReadFault → Rose before.reads_failed now.reads_failed
+read_fault shows moment leaves faults a f1 f2 before now events s r e = let P : Status → Type 0 = λ y. Caused a before now (faults f1) (faults f2) y in (subst P e (caused shows moment leaves faults a f1 f2 before now events s r)).1
 
-read_fault_by : (a : Asked) (before now : Outside) (events : List DeskEvent) (s : Status) → EndsAs a before now events s → s ≡ status.ReadFault → Rose before.reads_failed now.reads_failed
-read_fault_by (session genesis fork) before now events s ends e =
-    let P : Status → Type 0 = λ x. SessionEnds (record { fork = fork; genesis = genesis }) before now events x in
-    (subst P e ends).ends.0
-read_fault_by shown before now events s ends e = absurd (closed _ _ _ _ _ status.Done s status.ReadFault ends.closes done_read write_read e)
-read_fault_by nothing before now events s ends e = absurd (closed _ _ _ _ _ status.Usage s status.ReadFault ends.closes usage_read write_read e)
+pub write_fault : {D : Type 0} (shows : D → List ℕ → Type 0) (moment : D → ℕ) (leaves : D → ℕ → List ℕ → Type 0) (faults : D → ℕ) (a : Asked) (f1 f2 : D) (before now : Outside) (events : List DeskEvent) (s : Status)
+    → RunEnds shows moment leaves faults a f1 f2 before now events s → s ≡ status.WriteFault → Rose before.writes_failed now.writes_failed
+write_fault shows moment leaves faults a f1 f2 before now events s r e = let P : Status → Type 0 = λ y. Caused a before now (faults f1) (faults f2) y in subst P e (caused shows moment leaves faults a f1 f2 before now events s r)
 
-pub read_fault : (a : Asked) (before now : Outside) (events : List DeskEvent) (s : Status) → RunEnds a before now events s → s ≡ status.ReadFault → Rose before.reads_failed now.reads_failed
-read_fault a before now events s (inl ends) e = read_fault_by a before now events s ends e
-read_fault a before now events s (inr none) e = absurd (memory_read (sym none.is ∙ e))
+pub disk_fault : {D : Type 0} (shows : D → List ℕ → Type 0) (moment : D → ℕ) (leaves : D → ℕ → List ℕ → Type 0) (faults : D → ℕ) (a : Asked) (f1 f2 : D) (before now : Outside) (events : List DeskEvent) (s : Status)
+    → RunEnds shows moment leaves faults a f1 f2 before now events s → s ≡ status.DiskFault → Rose (faults f1) (faults f2)
+disk_fault shows moment leaves faults a f1 f2 before now events s r e = let P : Status → Type 0 = λ y. Caused a before now (faults f1) (faults f2) y in (subst P e (caused shows moment leaves faults a f1 f2 before now events s r)).1
 
-write_fault_by : (a : Asked) (before now : Outside) (events : List DeskEvent) (s : Status) → EndsAs a before now events s → s ≡ status.WriteFault → Rose before.writes_failed now.writes_failed
-write_fault_by (session genesis fork) before now events s ends e =
-    let P : Status → Type 0 = λ x. SessionEnds (record { fork = fork; genesis = genesis }) before now events x in
-    (subst P e ends).ends.0
-write_fault_by shown before now events s ends e = rose_if_write _ _ _ _ _ status.Done s ends.closes done_write e
-write_fault_by nothing before now events s ends e = rose_if_write _ _ _ _ _ status.Usage s ends.closes usage_write e
-
-pub write_fault : (a : Asked) (before now : Outside) (events : List DeskEvent) (s : Status) → RunEnds a before now events s → s ≡ status.WriteFault → Rose before.writes_failed now.writes_failed
-write_fault a before now events s (inl ends) e = write_fault_by a before now events s ends e
-write_fault a before now events s (inr none) e = absurd (memory_write (sym none.is ∙ e))
-
--- a session that is read within the limits
-complete_session : (domains : Domains) (before now : Outside) (events : List DeskEvent) (s : Status) → SessionEnds domains before now events s → WithinLimits before.left
-    → ¬ (Rose before.reads_failed now.reads_failed) → ¬ (Rose before.writes_failed now.writes_failed) → (s ≡ status.Done) ⊎ (s ≡ status.OutOfMemory)
-complete_session domains before now events status.Done ends within reads writes = inl refl
-complete_session domains before now events status.Usage ends within reads writes = absurd ends.ends
-complete_session domains before now events status.ReadFault ends within reads writes = absurd (reads ends.ends.0)
-complete_session domains before now events status.WriteFault ends within reads writes = absurd (writes ends.ends.0)
-complete_session domains before now events status.OutOfMemory ends within reads writes = inr refl
-complete_session domains before now events (status.InputTooLong l) ends within reads writes = absurd (ends.within within l refl)
-
-complete_by : (a : Asked) (before now : Outside) (events : List DeskEvent) (s : Status) → EndsAs a before now events s → a ≢ nothing → WithinLimits before.left
-    → ¬ (Rose before.reads_failed now.reads_failed) → ¬ (Rose before.writes_failed now.writes_failed) → (s ≡ status.Done) ⊎ (s ≡ status.OutOfMemory)
-complete_by (session genesis fork) before now events s ends some within reads writes = complete_session (record { fork = fork; genesis = genesis }) before now events s ends within reads writes
-complete_by shown before now events s ends some within reads writes = elim ends.closes [ inl c ↦ inl c.0 | inr c ↦ absurd (writes c.1) ]
-complete_by nothing before now events s ends some within reads writes = absurd (some refl)
-
-pub complete : (a : Asked) (before now : Outside) (events : List DeskEvent) (s : Status) → RunEnds a before now events s → a ≢ nothing → WithinLimits before.left
-    → ¬ (Rose before.reads_failed now.reads_failed) → ¬ (Rose before.writes_failed now.writes_failed) → (s ≡ status.Done) ⊎ (s ≡ status.OutOfMemory)
-complete a before now events s (inl ends) some within reads writes = complete_by a before now events s ends some within reads writes
-complete a before now events s (inr none) some within reads writes = inr none.is
-
--- words that are no command
-pub refused : (left : Option (List ℕ)) (h1 h2 : Option (List ℕ)) (told : Option (List (SignCall × SignReply))) (reads f1 f2 signs : ℕ) (s : Status) → Refuses h1 h2 f1 f2 s
-    → RunEnds nothing (record { left = left; held = h1; told = told; reads_failed = reads; writes_failed = f1; signs_failed = signs }) (record { left = left; held = h2; told = told; reads_failed = reads; writes_failed = f2; signs_failed = signs }) [] s
-refused left h1 h2 told reads f1 f2 signs s (inl c) = inl (record { untouched = record { unread = refl; no_read_failed = refl; unasked = refl; no_sign_failed = refl; none = refl }; text = c.0; is_own = c.1; closes = c.2 })
-refused left h1 h2 told reads f1 f2 signs s (inr c) = inr (record {
-  same = ap (λ (p : Option (List ℕ) × ℕ). record { left = left; held = p.0; told = told; reads_failed = reads; writes_failed = p.1; signs_failed = signs }) (λ i. (c.1 i, c.2 i));
-  none = refl;
-  is = c.0;
-})
-
--- at what the words ask for
-pub asks : (a b : Asked) (before now : Outside) (events : List DeskEvent) (s : Status) → b ≡ a → RunEnds b before now events s → RunEnds a before now events s
-asks a b before now events s e r = let P : Asked → Type 0 = λ x. RunEnds x before now events s in subst P e r
-
--- a line of the program's own
-pub own : {T E : Type 0} (bytes : T → List ℕ) (result : Result T E) (line : List ℕ) → IfOk result (λ text. bytes text ≡ codes "validator: " ++ (line ++ 10 ∷ [])) → IfOk result (λ text. IsOwnLine (bytes text))
-own bytes (Ok text) line h = record { line = line; is_line = h }
-own bytes (Err e) line h = tt
+pub complete : {D : Type 0} (shows : D → List ℕ → Type 0) (moment : D → ℕ) (leaves : D → ℕ → List ℕ → Type 0) (faults : D → ℕ) (a : Asked) (f1 f2 : D) (before now : Outside) (events : List DeskEvent) (s : Status)
+    → RunEnds shows moment leaves faults a f1 f2 before now events s → a ≢ nothing → WithinLimits before.left
+    → ¬ (Rose before.reads_failed now.reads_failed) → ¬ (Rose before.writes_failed now.writes_failed) → ¬ (Rose (faults f1) (faults f2)) → IsComplete s
+complete shows moment leaves faults a f1 f2 before now events s r some within reads writes disk = complete_by a before now (faults f1) (faults f2) s (caused shows moment leaves faults a f1 f2 before now events s r) some within reads writes disk

@@ -1,20 +1,27 @@
 -- What a run of the program does, by what its words ask for.
-use Rattle.std.specs.Prelude.{◌≡◌, ◌≢◌, ℕ, ◌++◌, ◌∷◌, ◌⊎◌, List, [], Option, codes}
+use Rattle.std.specs.Prelude.{◌≡◌, ◌≢◌, ℕ, ◌++◌, ◌∷◌, ◌⊎◌, List, [], Option, None, codes}
 use Rattle.edge_kit.specs.Causes.{Rose}
+use Rattle.edge_kit.specs.declared.bytes.Root.{Root}
 use Rattle.sign_roots.specs.declared.domains.Domains.{Domains}
 use Rattle.signer_link.specs.declared.signer.SignCall.{SignCall}
 use Rattle.signer_link.specs.declared.signer.SignReply.{SignReply}
+use Rattle.record_journal.specs.Frames.{Keeps}
+use Rattle.record_journal.specs.declared.open.OpenFault.TheVariants as journal_fault
 use Rattle.check_sign.specs.Contents.{Contents}
-use Rattle.check_sign.specs.States.{DeskStands, no_state}
+use Rattle.check_sign.specs.Opening.{IsOpened, LeavesDesk, OpenFaultIs}
 use Rattle.check_sign.specs.declared.event.DeskEvent.{DeskEvent}
+use Rattle.check_sign.specs.declared.open.OpenFault.{OpenFault}
+use Rattle.check_sign.specs.declared.open.OpenFault.TheVariants as open_fault
 use Rattle.session_run.specs.Closings.{Closes}
-use Rattle.session_run.specs.Runs.{Ends, WithinLimits}
+use Rattle.session_run.specs.Runs.{Ends, IsUpAt, WithinLimits}
 use Rattle.session_run.specs.declared.next.Limit.{Limit}
+use Rattle.session_run.specs.declared.next.Limit.TheVariants as limit
 use Rattle.session_run.specs.declared.status.Status.{Status}
 use Rattle.session_run.specs.declared.status.Status.TheVariants as status
-use Rattle.command_line.specs.Plans.{Asked, session, shown, nothing}
+use Rattle.command_line.specs.Plans.{Asked, session, merge, show, shown, nothing}
 use Rattle.command_line.specs.declared.planned.Plan.{Plan}
 use Rattle.command_line.specs.declared.planned.Plan.TheVariants as plan
+use Rattle.validator_cli.specs.Unopened.{TellsFault, IsUnwritten}
 
 -- what the objects of a program tell, and how often each failed
 pub record Outside : Type 0 where
@@ -25,19 +32,6 @@ pub record Outside : Type 0 where
   pub writes_failed : ℕ
   pub signs_failed : ℕ
 
--- a session over a desk that keeps no key at first; what it noted in the end are the events
-pub record SessionEnds (domains : Domains) (before now : Outside) (events : List DeskEvent) (ended : Status) : Type 0 where
-  pub desk_before : Contents
-  pub desk_now : Contents
-  pub empty : DeskStands desk_before (no_state domains.genesis)
-  pub none_noted : desk_before.events ≡ []
-  pub events_are : events ≡ desk_now.events
-  pub ends : Ends domains 0
-      (record { left = before.left; held = before.held; pair = record { desk = desk_before; told = before.told; faults = before.signs_failed }; reads_failed = before.reads_failed; writes_failed = before.writes_failed })
-      (record { left = now.left; held = now.held; pair = record { desk = desk_now; told = now.told; faults = now.signs_failed }; reads_failed = now.reads_failed; writes_failed = now.writes_failed })
-      ended
-  pub within : WithinLimits before.left → (l : Limit) → ended ≢ status.InputTooLong l
-
 -- nothing was read, asked or done
 pub record IsUntouched (before now : Outside) (events : List DeskEvent) : Type 0 where
   pub unread : now.left ≡ before.left
@@ -46,9 +40,47 @@ pub record IsUntouched (before now : Outside) (events : List DeskEvent) : Type 0
   pub no_sign_failed : now.signs_failed ≡ before.signs_failed
   pub none : events ≡ []
 
--- a text was asked for: nothing is read, asked or done, and the text is written
-pub record TextShown (before now : Outside) (events : List DeskEvent) (ended : Status) : Type 0 where
+-- what lines made of a desk over a disk, whose count of faults stood here before: what it noted are the events, and each image
+-- of the disk that is handed back opens to what the desk stands for
+pub record Serves {D : Type 0} (moment : D → ℕ) (leaves : D → ℕ → List ℕ → Type 0) (faults : D → ℕ) (domains : Domains) (faults_before : ℕ) (desk_before : Contents) (disk_now : D) (before now : Outside) (events : List DeskEvent) (ended : Status) : Type 0 where
+  pub desk_now : Contents
+  pub ends : Ends domains 0
+      (record { left = before.left; held = before.held; pair = record { desk = desk_before; told = before.told; faults = before.signs_failed }; reads_failed = before.reads_failed; writes_failed = before.writes_failed })
+      (record { left = now.left; held = now.held; pair = record { desk = desk_now; told = now.told; faults = now.signs_failed }; reads_failed = now.reads_failed; writes_failed = now.writes_failed })
+      ended
+  pub up : IsUpAt ended → desk_now.torn ≡ None
+  pub left : LeavesDesk moment leaves disk_now desk_now
+  pub disk_fault : ended ≡ status.DiskFault → Rose faults_before (faults disk_now)
+  pub genesis_is : desk_now.genesis ≡ desk_before.genesis
+  pub events_are : events ≡ desk_now.events
+  pub within : WithinLimits before.left → (l : Limit) → ended ≢ status.InputTooLong l
+
+-- a desk was opened over the disk, and served
+pub record Opened {D : Type 0} (shows : D → List ℕ → Type 0) (moment : D → ℕ) (leaves : D → ℕ → List ℕ → Type 0) (faults : D → ℕ) (domains : Domains) (disk_before disk_now : D) (before now : Outside) (events : List DeskEvent) (ended : Status) : Type 0 where
+  pub desk_before : Contents
+  pub opened : IsOpened shows disk_before domains.genesis desk_before
+  pub serves : Serves moment leaves faults domains (faults disk_before) desk_before disk_now before now events ended
+
+-- no desk was opened, and the output was closed by the line that says why: nothing was read, asked or done, and what the disk
+-- keeps is as before
+pub record NotOpened {D : Type 0} (shows : D → List ℕ → Type 0) (moment : D → ℕ) (leaves : D → ℕ → List ℕ → Type 0) (faults : D → ℕ) (genesis : Root) (disk_before disk_now : D) (before now : Outside) (events : List DeskEvent) (ended : Status) : Type 0 where
+  pub fault : OpenFault
+  pub is_fault : OpenFaultIs shows disk_before genesis fault
+  pub cause : fault ≡ open_fault.Journal journal_fault.Disk → Rose (faults disk_before) (faults disk_now)
   pub untouched : IsUntouched before now events
+  pub tells : TellsFault fault before.held now.held before.writes_failed now.writes_failed ended
+  pub kept : Keeps moment leaves genesis.0 disk_before disk_now
+
+-- a session over the desk of a disk
+abbrev pub SessionEnds : {D : Type 0} → (D → List ℕ → Type 0) → (D → ℕ) → (D → ℕ → List ℕ → Type 0) → (D → ℕ) → Domains → D → D → Outside → Outside → List DeskEvent → Status → Type 0
+SessionEnds shows moment leaves faults domains disk_before disk_now before now events ended =
+    Opened shows moment leaves faults domains disk_before disk_now before now events ended
+    ⊎ NotOpened shows moment leaves faults domains.genesis disk_before disk_now before now events ended
+
+-- a text was asked for: nothing is read, asked or done, the disk is the same, and the text is written
+pub record TextShown {D : Type 0} (disk_before disk_now : D) (before now : Outside) (events : List DeskEvent) (ended : Status) : Type 0 where
+  pub untouched : IsUntouched before now events
+  pub same_disk : disk_now ≡ disk_before
   pub text : List ℕ
   pub closes : Closes status.Done text before.held now.held before.writes_failed now.writes_failed ended
 
@@ -57,9 +89,10 @@ pub record IsOwnLine (text : List ℕ) : Type 0 where
   pub line : List ℕ
   pub is_line : text ≡ codes "validator: " ++ (line ++ 10 ∷ [])
 
--- no command: nothing is read, asked or done, and the output is closed by a line that says why
-pub record NoCommand (before now : Outside) (events : List DeskEvent) (ended : Status) : Type 0 where
+-- no command: nothing is read, asked or done, the disk is the same, and the output is closed by a line that says why
+pub record NoCommand {D : Type 0} (disk_before disk_now : D) (before now : Outside) (events : List DeskEvent) (ended : Status) : Type 0 where
   pub untouched : IsUntouched before now events
+  pub same_disk : disk_now ≡ disk_before
   pub text : List ℕ
   pub is_own : IsOwnLine text
   pub closes : Closes status.Usage text before.held now.held before.writes_failed now.writes_failed ended
@@ -68,24 +101,35 @@ pub record NoCommand (before now : Outside) (events : List DeskEvent) (ended : S
 abbrev pub Refuses : Option (List ℕ) → Option (List ℕ) → ℕ → ℕ → Status → Type 0
 Refuses held_before held_now failed_before failed_now result =
     ((text : List ℕ) × IsOwnLine text × Closes status.Usage text held_before held_now failed_before failed_now result)
-    ⊎ ((result ≡ status.OutOfMemory) × (held_now ≡ held_before) × (failed_now ≡ failed_before))
+    ⊎ IsUnwritten held_before held_now failed_before failed_now result
 
 -- memory ran out before anything was done
-pub record NotBegun (before now : Outside) (events : List DeskEvent) (ended : Status) : Type 0 where
+pub record NotBegun {D : Type 0} (disk_before disk_now : D) (before now : Outside) (events : List DeskEvent) (ended : Status) : Type 0 where
   pub same : now ≡ before
+  pub same_disk : disk_now ≡ disk_before
   pub none : events ≡ []
   pub is : ended ≡ status.OutOfMemory
 
-abbrev pub EndsAs : Asked → Outside → Outside → List DeskEvent → Status → Type 0
-EndsAs (session genesis fork) before now events s = SessionEnds (record { fork = fork; genesis = genesis }) before now events s
-EndsAs shown before now events s = TextShown before now events s
-EndsAs nothing before now events s = NoCommand before now events s
+-- what was asked for was done; no merge and no showing of a journal is done yet
+abbrev pub EndsAs : {D : Type 0} → (D → List ℕ → Type 0) → (D → ℕ) → (D → ℕ → List ℕ → Type 0) → (D → ℕ) → Asked → D → D → Outside → Outside → List DeskEvent → Status → Type 0
+EndsAs shows moment leaves faults (session genesis journal fork) disk_before disk_now before now events s = SessionEnds shows moment leaves faults (record { fork = fork; genesis = genesis }) disk_before disk_now before now events s
+EndsAs shows moment leaves faults (merge genesis journal) disk_before disk_now before now events s = ⊥
+EndsAs shows moment leaves faults (show genesis journal) disk_before disk_now before now events s = ⊥
+EndsAs shows moment leaves faults shown disk_before disk_now before now events s = TextShown disk_before disk_now before now events s
+EndsAs shows moment leaves faults nothing disk_before disk_now before now events s = NoCommand disk_before disk_now before now events s
 
 -- what was asked for was done, or memory ran out before
-abbrev pub RunEnds : Asked → Outside → Outside → List DeskEvent → Status → Type 0
-RunEnds asked before now events s = EndsAs asked before now events s ⊎ NotBegun before now events s
+abbrev pub RunEnds : {D : Type 0} → (D → List ℕ → Type 0) → (D → ℕ) → (D → ℕ → List ℕ → Type 0) → (D → ℕ) → Asked → D → D → Outside → Outside → List DeskEvent → Status → Type 0
+RunEnds shows moment leaves faults asked disk_before disk_now before now events s =
+    EndsAs shows moment leaves faults asked disk_before disk_now before now events s ⊎ NotBegun disk_before disk_now before now events s
+
+-- the run ended well, for want of memory, or since the journal could not be opened for what it holds
+abbrev pub IsComplete : Status → Type 0
+IsComplete s = (s ≡ status.Done) ⊎ (s ≡ status.OutOfMemory) ⊎ (s ≡ status.Damaged) ⊎ (s ≡ status.GenesisDiffers) ⊎ (s ≡ status.InputTooLong limit.Keys)
 
 -- the plan is a session's
 abbrev pub IsSession : Plan → Type 0
-IsSession (plan.Session genesis fork) = Unit {0}
+IsSession (plan.Session genesis journal fork) = Unit {0}
+IsSession (plan.Merge genesis journal) = ⊥
+IsSession (plan.Show genesis journal) = ⊥
 IsSession (plan.Shown text) = ⊥

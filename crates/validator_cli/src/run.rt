@@ -1,12 +1,13 @@
 //! The top call, and a session.
-ghost use Rattle.std.specs.Prelude.{◌≡◌, ◌≢◌, ◌⊎◌, [], map, string_bytes, Ok};
+ghost use Rattle.std.specs.Prelude.{◌≡◌, ◌≢◌, ◌⊎◌, [], None, map, string_bytes, Ok};
 ghost use Rattle.edge_kit.specs.Causes.{Rose};
 ghost use Rattle.session_run.specs.Runs.{WithinLimits};
 ghost use Rattle.command_line.specs.Plans.{asked_of, taken_as, nothing};
-ghost use Rattle.validator_cli.specs.Endings.{EndsAs, IsSession, Outside, Refuses, RunEnds};
+ghost use Rattle.validator_cli.specs.Endings.{EndsAs, IsComplete, IsSession, Outside, Refuses, RunEnds, Serves, SessionEnds};
 
 use crate::ending::Ending;
 use crate::node::Node;
+use crate::opening::close_unopened;
 use crate::usage::usage_line;
 use check_sign::{Desk, Events};
 use command_line::{Plan, Usage, plan};
@@ -41,7 +42,7 @@ pub fn run_validator<
     input: &mut I,
     out: &mut O,
 ) -> Ending<D, S, N, R>
-    ensures ending { RunEnds (asked_of (map string_bytes words.now))
+    ensures ending { RunEnds D.shows D.moment D.leaves D.faults (asked_of (map string_bytes words.now)) disks.first result.disks.first
         (record { left = I.left input.old; held = O.held out.old; told = S.told signer; reads_failed = I.faults input.old; writes_failed = O.faults out.old; signs_failed = S.faults signer })
         (record { left = I.left input.new; held = O.held out.new; told = S.told result.signer; reads_failed = I.faults input.new; writes_failed = O.faults out.new; signs_failed = S.faults result.signer })
         result.events result.status }
@@ -50,10 +51,11 @@ pub fn run_validator<
         → (result.status ≡ Status.Usage) ⊎ (result.status ≡ Status.WriteFault) ⊎ (result.status ≡ Status.OutOfMemory) }
     ensures read_fault { result.status ≡ Status.ReadFault → Rose (I.faults input.old) (I.faults input.new) }
     ensures write_fault { result.status ≡ Status.WriteFault → Rose (O.faults out.old) (O.faults out.new) }
+    ensures disk_fault { result.status ≡ Status.DiskFault → Rose (D.faults disks.first) (D.faults result.disks.first) }
     ensures complete { asked_of (map string_bytes words.now) ≢ nothing → WithinLimits (I.left input.old)
-        → ¬ (Rose (I.faults input.old) (I.faults input.new)) → ¬ (Rose (O.faults out.old) (O.faults out.new))
-        → (result.status ≡ Status.Done) ⊎ (result.status ≡ Status.OutOfMemory) }
-    ensures disks { result.disks ≡ disks }
+        → ¬ (Rose (I.faults input.old) (I.faults input.new)) → ¬ (Rose (O.faults out.old) (O.faults out.new)) → ¬ (Rose (D.faults disks.first) (D.faults result.disks.first))
+        → IsComplete result.status }
+    ensures second { result.disks.second ≡ disks.second }
     ensures nodes { result.nodes ≡ nodes }
     ensures door { result.door ≡ door }
     ensures lanes { result.lanes.items ≡ [] }
@@ -79,11 +81,11 @@ fn run_words<D: Disk, S: Signer, I: Source, O: Sink>(
     input: &mut I,
     out: &mut O,
 ) -> (Status, Disks<D>, S, Events)
-    ensures ending { RunEnds (asked_of (map string_bytes words.now))
+    ensures ending { RunEnds D.shows D.moment D.leaves D.faults (asked_of (map string_bytes words.now)) disks.first result.1.first
         (record { left = I.left input.old; held = O.held out.old; told = S.told signer; reads_failed = I.faults input.old; writes_failed = O.faults out.old; signs_failed = S.faults signer })
         (record { left = I.left input.new; held = O.held out.new; told = S.told result.2; reads_failed = I.faults input.new; writes_failed = O.faults out.new; signs_failed = S.faults result.2 })
         result.3 result.0 }
-    ensures disks { result.1 ≡ disks }
+    ensures second { result.1.second ≡ disks.second }
 {
     let Ok(planned) = plan(alloc, words) else {
         return (Status::OutOfMemory, disks, signer, Events::new(alloc));
@@ -97,7 +99,7 @@ fn run_words<D: Disk, S: Signer, I: Source, O: Sink>(
     }
 }
 
-/// Does what is planned.
+/// Does what is planned. No merge and no showing of a journal is done yet: they end for want of memory.
 fn run_plan<D: Disk, S: Signer, I: Source, O: Sink>(
     alloc: Global,
     plan: &Plan,
@@ -106,14 +108,17 @@ fn run_plan<D: Disk, S: Signer, I: Source, O: Sink>(
     input: &mut I,
     out: &mut O,
 ) -> (Status, Disks<D>, S, Events)
-    ensures ending { EndsAs (taken_as (Ok plan.now))
+    ensures ending { RunEnds D.shows D.moment D.leaves D.faults (taken_as (Ok plan.now)) disks.first result.1.first
         (record { left = I.left input.old; held = O.held out.old; told = S.told signer; reads_failed = I.faults input.old; writes_failed = O.faults out.old; signs_failed = S.faults signer })
         (record { left = I.left input.new; held = O.held out.new; told = S.told result.2; reads_failed = I.faults input.new; writes_failed = O.faults out.new; signs_failed = S.faults result.2 })
         result.3 result.0 }
-    ensures disks { result.1 ≡ disks }
+    ensures second { result.1.second ≡ disks.second }
 {
     match plan {
         Plan::Session { .. } => run_session(alloc, plan, disks, signer, input, out),
+        Plan::Merge { .. } | Plan::Show { .. } => {
+            (Status::OutOfMemory, disks, signer, Events::new(alloc))
+        }
         Plan::Shown(text) => {
             let status = close(out, Status::Done, text.as_str());
             (status, disks, signer, Events::new(alloc))
@@ -131,8 +136,9 @@ fn refuse<O: Sink>(alloc: Global, usage: &Usage, out: &mut O) -> Status
     }
 }
 
-/// A session: a request a line in, an answer a line out, over a desk that begins empty and ends with the
-/// run.
+/// A session: a request a line in, an answer a line out, over the desk of the journal on the first disk,
+/// which is begun where there is none. Where the desk is not opened the output is closed by the line that
+/// says why, and the status is that fault's. The second disk comes back untouched.
 pub fn run_session<D: Disk, S: Signer, I: Source, O: Sink>(
     alloc: Global,
     plan: &Plan,
@@ -142,18 +148,62 @@ pub fn run_session<D: Disk, S: Signer, I: Source, O: Sink>(
     out: &mut O,
 ) -> (Status, Disks<D>, S, Events)
     requires { IsSession plan.now }
-    ensures ending { EndsAs (taken_as (Ok plan.now))
+    ensures ending { EndsAs D.shows D.moment D.leaves D.faults (taken_as (Ok plan.now)) disks.first result.1.first
         (record { left = I.left input.old; held = O.held out.old; told = S.told signer; reads_failed = I.faults input.old; writes_failed = O.faults out.old; signs_failed = S.faults signer })
         (record { left = I.left input.new; held = O.held out.new; told = S.told result.2; reads_failed = I.faults input.new; writes_failed = O.faults out.new; signs_failed = S.faults result.2 })
         result.3 result.0 }
-    ensures disks { result.1 ≡ disks }
+    ensures second { result.1.second ≡ disks.second }
 {
-    let Plan::Session { genesis, fork } = plan else {
+    let Plan::Session { genesis, fork, .. } = plan else {
         return (Status::Usage, disks, signer, Events::new(alloc));
     };
     let domains = Domains::new(*fork, *genesis);
+    open_and_serve(alloc, &domains, disks, signer, input, out)
+}
+
+/// Opens the desk of the journal on the first disk, and serves the lines.
+fn open_and_serve<D: Disk, S: Signer, I: Source, O: Sink>(
+    alloc: Global,
+    domains: &Domains,
+    disks: Disks<D>,
+    signer: S,
+    input: &mut I,
+    out: &mut O,
+) -> (Status, Disks<D>, S, Events)
+    ensures ending { SessionEnds D.shows D.moment D.leaves D.faults domains.now disks.first result.1.first
+        (record { left = I.left input.old; held = O.held out.old; told = S.told signer; reads_failed = I.faults input.old; writes_failed = O.faults out.old; signs_failed = S.faults signer })
+        (record { left = I.left input.new; held = O.held out.new; told = S.told result.2; reads_failed = I.faults input.new; writes_failed = O.faults out.new; signs_failed = S.faults result.2 })
+        result.3 result.0 }
+    ensures second { result.1.second ≡ disks.second }
+{
+    match Desk::open(alloc, disks, domains.genesis, false, 0) {
+        Ok(desk) => serve_desk(alloc, domains, desk, signer, input, out),
+        Err((fault, disks)) => {
+            let status = close_unopened(alloc, fault, out);
+            (status, disks, signer, Events::new(alloc))
+        }
+    }
+}
+
+/// Serves the lines at a desk, and ends it.
+fn serve_desk<D: Disk, S: Signer, I: Source, O: Sink>(
+    alloc: Global,
+    domains: &Domains,
+    desk: Desk<D>,
+    signer: S,
+    input: &mut I,
+    out: &mut O,
+) -> (Status, Disks<D>, S, Events)
+    requires { desk.contents.torn ≡ None }
+    ensures serves { Serves D.moment D.leaves D.faults domains.now (D.faults desk.disk) desk.contents result.1.first
+        (record { left = I.left input.old; held = O.held out.old; told = S.told signer; reads_failed = I.faults input.old; writes_failed = O.faults out.old; signs_failed = S.faults signer })
+        (record { left = I.left input.new; held = O.held out.new; told = S.told result.2; reads_failed = I.faults input.new; writes_failed = O.faults out.new; signs_failed = S.faults result.2 })
+        result.3 result.0 }
+    ensures second { result.1.second ≡ desk.second }
+{
+    let mut desk = desk;
     let mut signer = signer;
-    let mut desk = Desk::new(alloc, *genesis);
-    let status = serve_lines(alloc, &domains, &mut desk, &mut signer, input, out);
-    (status, disks, signer, desk.end())
+    let status = serve_lines(alloc, domains, &mut desk, &mut signer, input, out);
+    let (disks, events) = desk.end();
+    (status, disks, signer, events)
 }

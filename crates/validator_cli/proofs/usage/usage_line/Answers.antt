@@ -1,6 +1,5 @@
-use Rattle.std.proofs.Common.{◌≡◌, ◌++◌, ◌∷◌, [], ℕ, List, Result, Ok, Err, codes, string_bytes}
-use Rattle.std.specs.Prelude.{IfOk}
-use Rattle.validator_cli.proofs.CauseLemmas.{own}
+use Rattle.std.proofs.Common.{string_bytes}
+use Rattle.validator_cli.proofs.EndingLemmas.{own}
 use Rattle.validator_cli.proofs.usage.usage_line.Goals as goal
 
 pub returns : goal.returns
