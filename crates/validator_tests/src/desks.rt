@@ -72,16 +72,6 @@ fn granted<T: Abort>(rt: &T, desk: &mut Desk<MemDisk>, message: Message) -> Gran
     }
 }
 
-/// Spends a grant.
-fn spend<T: Abort>(rt: &T, desk: &mut Desk<MemDisk>, grant: Grant)
-    requires { Contains desk.old.contents.grants grant }
-{
-    match desk.settle(grant, Outcome::Dropped) {
-        DeskReply::Settled => {}
-        _ => rt.panic("not settled"),
-    }
-}
-
 /// Begins to close the key, beside a grant that stays open.
 fn begin_close<T: Abort>(rt: &T, desk: &mut Desk<MemDisk>, _grant: &Grant)
     requires stands { StandsForOne desk.old.contents }
@@ -150,7 +140,7 @@ fn a_key_is_closed_once_no_grant_of_it_is_open(rt: HostRuntime) -> Result<(), Fa
     begin_close(&rt, &mut desk, &grant);
     assert_eq!(rt; busy(&rt, &mut desk, &grant), 1);
     refused_as_closing(&rt, &mut desk, &grant, vote(1, 2, RA));
-    spend(&rt, &mut desk, grant);
+    desk.settle(grant, Outcome::Dropped);
     let book = closed(&rt, &mut desk);
     let signed = VoteEntry {
         source: 0,
@@ -212,12 +202,12 @@ fn grants_another<T: Abort>(rt: &T, alloc: Global, image: &[u8]) -> Result<bool,
     let mut desk = opened(rt, alloc, disks);
     match desk.propose(KEY, vote(1, 2, RB), 0) {
         DeskReply::Granted(grant) => {
-            spend(rt, &mut desk, grant);
+            desk.settle(grant, Outcome::Dropped);
             Ok(true)
         }
         DeskReply::Refused(Verdict::DoubleVote(_)) => {
             let grant = granted(rt, &mut desk, vote(1, 2, RA));
-            spend(rt, &mut desk, grant);
+            desk.settle(grant, Outcome::Dropped);
             Ok(false)
         }
         _ => rt.panic("neither granted nor a double vote"),

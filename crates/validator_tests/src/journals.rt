@@ -51,7 +51,7 @@ fn a_file_that_was_merged_is_shown(rt: HostRuntime) -> Result<(), Fail> {
     let alloc = rt.alloc();
     let mut ended = run_words(&rt, alloc, &MERGE, fresh_disks(alloc)?, FILE)?;
     assert_eq!(rt; ended.status, Status::Done);
-    assert!(rt; ended.output.as_slice() == b"merged 1\n");
+    assert!(rt; is_text(alloc, ended.output.as_slice(), "merged 1\n")?);
     let line = "<K1> known blocks 1 votes 0 floor_slot 100 floor_source - floor_target -\n";
     for _ in 0..2 {
         let disks = disks_after(alloc, &ended)?;
