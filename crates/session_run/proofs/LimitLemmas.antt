@@ -70,3 +70,11 @@ passes_none domains moment before now result ends within limit.Input e =
     let P : Status → Type 0 = λ s. Ends domains moment before now s in
     let stops = subst P e ends in
     input_over before.left now.left stops.turns stops.pending stops.total within stops.has_read stops.cause
+passes_none domains moment before now result ends within limit.File e =
+    let P : Status → Type 0 = λ s. Ends domains moment before now s in
+    let stops = subst P e ends in
+    stops.cause
+passes_none domains moment before now result ends within limit.Keys e =
+    let P : Status → Type 0 = λ s. Ends domains moment before now s in
+    let stops = subst P e ends in
+    stops.cause

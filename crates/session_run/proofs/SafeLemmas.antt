@@ -1,14 +1,13 @@
 -- A run sends nothing that is slashable beside what was sent before.
-use Rattle.std.proofs.Common.{◌≡◌, ℕ, Bool, true, false, cond, ◌||◌, List, [], ◌∷◌, ◌++◌, get_or, Option, Some, None, Result, Ok, Err, refl, sym, ◌∙◌, ap, subst, arith, append_assoc}
-use Rattle.std.specs.Prelude.{All, is_some, IsSomeAnd}
+use Rattle.std.proofs.Common.{◌≡◌, ℕ, Bool, true, false, cond, List, [], ◌∷◌, ◌++◌, get_or, Option, Some, None, Result, Ok, Err, refl, sym, ◌∙◌, ap, subst, arith, append_assoc}
+use Rattle.std.specs.Prelude.{All, is_some, IfSome, IsSomeAnd, unwrap_or}
 use Rattle.std.specs.BTreeMap.{is_at}
-use Rattle.std.specs.Ordering.{match_ordering, is_eq}
+use Rattle.std.specs.Ordering.{match_ordering}
 use Rattle.std.specs.declared.cmp.Ordering.{Ordering}
 use Rattle.std.specs.declared.cmp.Ordering.TheVariants.{Less, Equal, Greater}
 use Rattle.std.proofs.lemmas.List.{append-nil}
 use Rattle.std.proofs.lemmas.List.Elements.{All-append, All-cons}
 use Rattle.std.proofs.lemmas.List.Quantifiers.{all_pairs_push}
-use Rattle.std.proofs.lemmas.Map.Lookups.{exact_bytes}
 use Rattle.edge_kit.specs.declared.bytes.PubKey.{PubKey}
 use Rattle.slash_defs.specs.declared.message.Message.{Message}
 use Rattle.slash_defs.specs.Lists.{SafeList, IsUnsafe}
@@ -17,12 +16,15 @@ use Rattle.protect_record.specs.Passing.{Passes, Covers}
 use Rattle.protect_record.specs.PastLaws.{Slashable-sym, covers-with_own, passes-with_own, passes-with_book}
 use Rattle.signer_link.specs.declared.signer.SignReply.{SignReply}
 use Rattle.signer_link.specs.declared.signer.SignReply.TheVariants as signing
-use Rattle.std.specs.BTreeSet.{insert_key}
 use Rattle.slash_defs.specs.declared.book.Book.{Book}
 use Rattle.record_join.specs.Keys.{key_cmp, kept_of, with_key, with_kept}
 use Rattle.record_join.specs.BooksPasts.{IsRefusal, put_past, known_past, with_file_book, with_file, own_grown, own_grown_from}
-use Rattle.check_sign.specs.States.{State, past_of, is_among, active_past}
-use Rattle.check_sign.specs.Machine.{after, Reply, grant_for, book_gained, ActiveAnd}
+use Rattle.record_join.proofs.OrderLemmas.{same_key, kept_here, kept_apart}
+use Rattle.record_replay.specs.Pruning.{pruning_of}
+use Rattle.record_replay.specs.declared.state.KeyState.{KeyState}
+use Rattle.record_replay.specs.declared.state.KeyState.TheVariants.{Known, Active, Closing, Closed}
+use Rattle.check_sign.specs.States.{State, past_of, key_state, is_active, IsActive, active_past}
+use Rattle.check_sign.specs.Machine.{after, Reply, grant_for, pruned_keys, ActiveAnd}
 use Rattle.check_sign.specs.declared.open_grant.OpenGrant.{OpenGrant}
 use Rattle.check_sign.specs.declared.call.DeskCall.{DeskCall}
 use Rattle.check_sign.specs.declared.call.DeskCall.TheVariants as call
@@ -51,14 +53,6 @@ Kept = List (PubKey × Past)
 
 abbrev KeepsIn : Kept → Kept → Type 0
 KeepsIn old new = (q : PubKey) (p : Past) → kept_of old q ≡ Some p → (p' : Past) × (kept_of new q ≡ Some p') × ((n : Message) → Passes p' n → Passes p n)
-
-equal_if : (o : Ordering) → is_eq o ≡ true → o ≡ Equal
-equal_if Less e = absurd (let bad : false ≡ true = e in cc)
-equal_if Equal e = refl
-equal_if Greater e = absurd (let bad : false ≡ true = e in cc)
-
-same_key : (a b : PubKey) → is_at (key_cmp a) b ≡ true → a ≡ b
-same_key a b e = ap (λ bytes. record { 0 = bytes }) (exact_bytes a.0 b.0 (equal_if (key_cmp a b) e))
 
 abbrev Found : Kept → PubKey → Past → Type 0
 Found kept q p = (p' : Past) × (kept_of kept q ≡ Some p') × ((n : Message) → Passes p' n → Passes p n)
@@ -127,11 +121,6 @@ grown_keeps kept key m None e = keeps_all kept
 grown_keeps kept key m (Some past) e =
     changed kept key (with_own past m) (λ z is n x. let P : Past → Type 0 = λ y. Passes y n in subst P (some_inj past z (sym e ∙ is)) (passes-with_own past m n x))
 
-gained_keeps : (kept : Kept) (key : PubKey) (book : Book) (o : Option Past) → kept_of kept key ≡ o → KeepsIn kept (book_gained kept key book o)
-gained_keeps kept key book None e = keeps_all kept
-gained_keeps kept key book (Some past) e =
-    changed kept key (with_book past book) (λ z is n x. let P : Past → Type 0 = λ y. Passes y n in subst P (some_inj past z (sym e ∙ is)) (passes-with_book past book n x))
-
 known_keeps : (kept : Kept) (key : PubKey) (b : Bool) → is_some (kept_of kept key) ≡ b → KeepsIn kept (cond b kept (with_key kept key no_past))
 known_keeps kept key true e = keeps_all kept
 known_keeps kept key false e = added kept key no_past (none_if (kept_of kept key) e) where
@@ -173,45 +162,82 @@ file_keeps kept [] = keeps_all kept
 file_keeps kept (b ∷ bs) =
     keeps_on kept (with_file_book kept b) (with_file kept (b ∷ bs)) (put kept b.0 (with_book (known_past (kept_of kept b.0)) b.1) (book_lessens (kept_of kept b.0) b.1)) (file_keeps (with_file_book kept b) bs)
 
+pruned_keeps : (kept : Kept) (key : PubKey) (o : Option Past) → KeepsIn kept (pruned_keys kept key o)
+pruned_keeps kept key None = keeps_all kept
+pruned_keeps kept key (Some past) = file_keeps kept ((key, pruning_of past) ∷ [])
+
 -- what a call leaves of the pasts
 keeps_call : (state : State) (c : DeskCall) (r : DeskReply) → KeepsIn state.keys (after state c r).keys
 keeps_call state (call.Merge file) (reply.Merged keys) = file_keeps state.keys file.books
 keeps_call state (call.Activate key now) reply.Active = known_keeps state.keys key (is_some (past_of state key)) refl
 keeps_call state (call.Propose key m now) (reply.Granted grant) = grown_keeps state.keys key m (past_of state key) refl
-keeps_call state (call.Prune key) (reply.Pruned book) = gained_keeps state.keys key book (past_of state key) refl
+keeps_call state (call.Prune key) (reply.Pruned book) = pruned_keeps state.keys key (past_of state key)
 keeps_call state (call.Settle grant o) reply.Settled = keeps_all state.keys
+keeps_call state (call.BeginClose key) reply.CloseBegun = keeps_all state.keys
+keeps_call state (call.FinishClose key) (reply.Closed book) = keeps_all state.keys
+keeps_call state c reply.Disk = keeps_all state.keys
 keeps_call state c r = keeps_all state.keys
 
 -- ---- what a call leaves of the active keys
 
-abbrev StaysActive : List PubKey → List PubKey → Type 0
-StaysActive old new = (q : PubKey) → is_among old q ≡ true → is_among new q ≡ true
+-- a session makes no call that closes a key
+abbrev IsSessionCall : DeskCall → Type 0
+IsSessionCall (call.Merge file) = Unit {0}
+IsSessionCall (call.Activate key now) = Unit {0}
+IsSessionCall (call.Propose key m now) = Unit {0}
+IsSessionCall (call.Settle grant o) = Unit {0}
+IsSessionCall (call.BeginClose key) = ⊥
+IsSessionCall (call.FinishClose key) = ⊥
+IsSessionCall (call.Export keys) = Unit {0}
+IsSessionCall (call.Prune key) = Unit {0}
+IsSessionCall call.Keys = Unit {0}
+IsSessionCall call.HasFailed = Unit {0}
 
-or_right : (a b : Bool) → b ≡ true → (a || b) ≡ true
-or_right true b e = refl
-or_right false b e = e
+session_call : (kept : List PubKey) (o : Op) (now : ℕ) → IfSome (call_of kept o now) IsSessionCall
+session_call kept (op.Merge file) now = tt
+session_call kept (op.BadFile fault) now = tt
+session_call kept (op.Activate key) now = tt
+session_call kept (op.Propose key m object) now = tt
+session_call kept (op.Export None) now = tt
+session_call kept (op.Export (Some keys)) now = tt
+session_call kept (op.Prune key) now = tt
 
-or_on : (a b c : Bool) → (b ≡ true → c ≡ true) → (a || b) ≡ true → (a || c) ≡ true
-or_on true b c f e = refl
-or_on false b c f e = f e
+abbrev Standings : Type 0
+Standings = List (PubKey × KeyState)
 
-inserted_at : (o : Ordering) (x : PubKey) (xs : List PubKey) (key q : PubKey) → (is_among xs q ≡ true → is_among (insert_key key_cmp xs key) q ≡ true) → is_among (x ∷ xs) q ≡ true
-    → is_among (match_ordering o (key ∷ x ∷ xs) (x ∷ xs) (x ∷ insert_key key_cmp xs key)) q ≡ true
-inserted_at Less x xs key q rest h = or_right (is_at (key_cmp q) key) (is_among (x ∷ xs) q) h
-inserted_at Equal x xs key q rest h = h
-inserted_at Greater x xs key q rest h = or_on (is_at (key_cmp q) x) (is_among xs q) (is_among (insert_key key_cmp xs key) q) rest h
+-- each active key is active still
+abbrev StaysActive : Standings → Standings → Type 0
+StaysActive old new = (q : PubKey) → is_active (key_state old q) ≡ true → is_active (key_state new q) ≡ true
 
-inserted : (xs : List PubKey) (key : PubKey) → StaysActive xs (insert_key key_cmp xs key)
-inserted [] key q h = absurd (let bad : false ≡ true = h in cc)
-inserted (x ∷ xs) key q h = inserted_at (key_cmp key x) x xs key q (inserted xs key q) h
+activated : (states : Standings) (key : PubKey) → StaysActive states (with_key states key Active)
+activated states key q h = at (is_at (key_cmp key) q) refl where
+  at : (b : Bool) → is_at (key_cmp key) q ≡ b → is_active (key_state (with_key states key Active) q) ≡ true
+  at true is =
+      let P : PubKey → Type 0 = λ k. kept_of (with_key states key Active) k ≡ Some Active in
+      ap (λ o. is_active (unwrap_or o Known)) (subst P (same_key key q is) (kept_here states key Active))
+  at false is = ap (λ o. is_active (unwrap_or o Known)) (kept_apart states key q Active is) ∙ h
 
-stays_active : (state : State) (c : DeskCall) (r : DeskReply) → StaysActive state.active (after state c r).active
-stays_active state (call.Activate key now) reply.Active = inserted state.active key
-stays_active state (call.Merge file) (reply.Merged keys) = λ q h. h
-stays_active state (call.Propose key m now) (reply.Granted grant) = λ q h. h
-stays_active state (call.Settle grant o) reply.Settled = λ q h. h
-stays_active state (call.Prune key) (reply.Pruned book) = λ q h. h
-stays_active state c r = λ q h. h
+stays_active : (state : State) (c : DeskCall) (r : DeskReply) → IsSessionCall c → StaysActive state.states (after state c r).states
+stays_active state (call.Activate key now) reply.Active session = activated state.states key
+stays_active state (call.Merge file) (reply.Merged keys) session = λ q h. h
+stays_active state (call.Propose key m now) (reply.Granted grant) session = λ q h. h
+stays_active state (call.Settle grant o) reply.Settled session = λ q h. h
+stays_active state (call.Prune key) (reply.Pruned book) session = λ q h. h
+stays_active state (call.BeginClose key) r session = absurd session
+stays_active state (call.FinishClose key) r session = absurd session
+stays_active state c reply.Disk session = λ q h. h
+stays_active state c r session = λ q h. h
+
+-- a key that may sign is one whose state is that it is active
+is_now_active : (state : State) (key : PubKey) → IsActive state key → is_active (key_state state.states key) ≡ true
+is_now_active state key h = ap (λ o. is_active (unwrap_or o Known)) h
+
+active_if : (o : Option KeyState) → is_active (unwrap_or o Known) ≡ true → o ≡ Some Active
+active_if None h = absurd (let bad : false ≡ true = h in cc)
+active_if (Some Known) h = absurd (let bad : false ≡ true = h in cc)
+active_if (Some Active) h = refl
+active_if (Some Closing) h = absurd (let bad : false ≡ true = h in cc)
+active_if (Some Closed) h = absurd (let bad : false ≡ true = h in cc)
 
 -- ---- both
 
@@ -219,9 +245,9 @@ active_some : (b : Bool) (o : Option Past) (p : Past) → cond b o None ≡ Some
 active_some true o p h = (refl, h)
 active_some false o p h = absurd (none_some p h)
 
-keeps_both : (old new : State) → KeepsIn old.keys new.keys → StaysActive old.active new.active → Keeps old new
+keeps_both : (old new : State) → KeepsIn old.keys new.keys → StaysActive old.states new.states → Keeps old new
 keeps_both old new pasts stays q p h =
-    let here = active_some (is_among old.active q) (past_of old q) p h in
+    let here = active_some (is_active (key_state old.states q)) (past_of old q) p h in
     let found = pasts q p here.1 in
     (found.0, rw (stays q here.0) found.1, found.2)
 
@@ -232,23 +258,23 @@ settled_keys : (state : State) (r : DeskReply) (o : Outcome) → (settled state 
 settled_keys state (reply.Granted grant) o = refl
 settled_keys state r o = refl
 
-settled_active : (state : State) (r : DeskReply) (o : Outcome) → (settled state r o).active ≡ state.active
-settled_active state (reply.Granted grant) o = refl
-settled_active state r o = refl
+settled_states : (state : State) (r : DeskReply) (o : Outcome) → (settled state r o).states ≡ state.states
+settled_states state (reply.Granted grant) o = refl
+settled_states state r o = refl
 
-keeps_step : (state : State) (c : DeskCall) (r : DeskReply) (o : Outcome) → Keeps state (state_after state c r o)
-keeps_step state c r o =
+keeps_step : (state : State) (c : DeskCall) (r : DeskReply) (o : Outcome) → IsSessionCall c → Keeps state (state_after state c r o)
+keeps_step state c r o session =
     let K : Kept → Type 0 = λ k. KeepsIn state.keys k in
-    let A : List PubKey → Type 0 = λ k. StaysActive state.active k in
-    keeps_both state (state_after state c r o) (subst K (sym (settled_keys (after state c r) r o)) (keeps_call state c r)) (subst A (sym (settled_active (after state c r) r o)) (stays_active state c r))
+    let A : Standings → Type 0 = λ k. StaysActive state.states k in
+    keeps_both state (state_after state c r o) (subst K (sym (settled_keys (after state c r) r o)) (keeps_call state c r)) (subst A (sym (settled_states (after state c r) r o)) (stays_active state c r session))
 
-keeps_by : (state : State) (c : Option DeskCall) (r : DeskReply) (o : Outcome) → Keeps state (state_by state c r o)
-keeps_by state None r o = keeps_none state
-keeps_by state (Some c) r o = keeps_step state c r o
+keeps_by : (state : State) (c : Option DeskCall) (r : DeskReply) (o : Outcome) → IfSome c IsSessionCall → Keeps state (state_by state c r o)
+keeps_by state None r o session = keeps_none state
+keeps_by state (Some c) r o session = keeps_step state c r o session
 
 keeps_turn : (place : Place) (q : Result Request Member) (r : DeskReply) (s : SignReply) → Keeps place.desk (place_of place q r s).desk
 keeps_turn place (Err m) r s = keeps_none place.desk
-keeps_turn place (Ok q) r s = keeps_by place.desk (call_at place q) r (outcome_of s)
+keeps_turn place (Ok q) r s = keeps_by place.desk (call_at place q) r (outcome_of s) (session_call _ q.op (moment_at place.moment q))
 
 -- ---- what was signed before
 
@@ -316,22 +342,27 @@ sent_step : (place : Place) (moment : ℕ) (key : PubKey) (m : Message) (now : �
 sent_step place moment key m now grant s ts before later granted is_grant safe covered carried_on =
     let new = After place (call.Propose key m now) (reply.Granted grant) s moment in
     let past = some_of (λ p. Passes p m) (past_of place.desk key) granted.1 in
-    let active = active_now (is_among place.desk.active key) (past_of place.desk key) past.0 granted.0 past.1 in
+    let may_sign = is_now_active place.desk key granted.0 in
+    let active = active_now (is_active (key_state place.desk.states key)) (past_of place.desk key) past.0 may_sign past.1 in
     let grew : own_grown place.desk.keys key m ≡ with_kept place.desk.keys key (with_own past.0 m) = ap (own_grown_from place.desk.keys key m) past.1 in
     let found : past_of new.desk key ≡ Some (with_own past.0 m) = ap (λ l. kept_of l key) grew ∙ found_changed place.desk.keys key (with_own past.0 m) past.0 past.1 in
-    let is_active : active_past new.desk key ≡ Some (with_own past.0 m) = active_now (is_among place.desk.active key) (past_of new.desk key) (with_own past.0 m) granted.0 found in
+    let stays : active_past new.desk key ≡ Some (with_own past.0 m) = active_now (is_active (key_state place.desk.states key)) (past_of new.desk key) (with_own past.0 m) may_sign found in
     let P : OpenGrant → Type 0 = λ g. Outcomes new ts (before ++ sent_for g.key g.message) in
-    subst P (sym is_grant) (pushed place new ts key m past.0 (with_own past.0 m) later before active past.2 is_active (covers-with_own past.0 m) safe covered carried_on)
+    subst P (sym is_grant) (pushed place new ts key m past.0 (with_own past.0 m) later before active past.2 stays (covers-with_own past.0 m) safe covered carried_on)
 
 by_call : (place : Place) (moment : ℕ) (c : DeskCall) (r : DeskReply) (s : SignReply) (ts : List Turn) (before : Before) (later : PubKey × Message → Type 0) → Reply place.desk c r
     → SafeList before → All (λ x. NowOrLater (active_past place.desk x.0) x.1 (later x)) before → All (CoveredOnceActive (After place c r s moment) ts) before
     → Outcomes (After place c r s moment) ts (before ++ sent_of r s)
-by_call place moment (call.Propose key m now) (reply.Granted grant) (signing.Signed signature) ts before later can safe covered on = sent_step place moment key m now grant (signing.Signed signature) ts before later can.0 can.1 safe covered on
+by_call place moment (call.Propose key m now) (reply.Granted grant) (signing.Signed signature) ts before later can safe covered on = sent_step place moment key m now grant (signing.Signed signature) ts before later can.0.1 can.1 safe covered on
 by_call place moment (call.Merge file) (reply.Granted grant) (signing.Signed signature) ts before later can safe covered on = absurd can
 by_call place moment (call.Activate key now) (reply.Granted grant) (signing.Signed signature) ts before later can safe covered on = absurd can
 by_call place moment (call.Settle grant o) (reply.Granted other) (signing.Signed signature) ts before later can safe covered on = absurd can
+by_call place moment (call.BeginClose key) (reply.Granted grant) (signing.Signed signature) ts before later can safe covered on = absurd can
+by_call place moment (call.FinishClose key) (reply.Granted grant) (signing.Signed signature) ts before later can safe covered on = absurd can
 by_call place moment (call.Export keys) (reply.Granted grant) (signing.Signed signature) ts before later can safe covered on = absurd can
 by_call place moment (call.Prune key) (reply.Granted grant) (signing.Signed signature) ts before later can safe covered on = absurd can
+by_call place moment call.Keys (reply.Granted grant) (signing.Signed signature) ts before later can safe covered on = absurd can
+by_call place moment call.HasFailed (reply.Granted grant) (signing.Signed signature) ts before later can safe covered on = absurd can
 by_call place moment c r s ts before later can safe covered on = nothing_more (After place c r s moment) ts before safe on
 
 -- what an op sends, by the call that it makes
@@ -379,15 +410,22 @@ carried_out g signing.OutOfMemory h = h
 
 proposes : (state : State) (key : PubKey) (m : Message) (now : ℕ) (r : DeskReply) (s : SignReply) → Reply state (call.Propose key m now) r → IsAnswered r s → Proposes state key m r s
 proposes state key m now (reply.Granted g) s can answered past is passes = carried_out g s answered
+proposes state key m now (reply.Full size wanted) s can answered past is passes = tt
+proposes state key m now reply.Disk s can answered past is passes = tt
 proposes state key m now (reply.Refused v) s can answered past is passes =
-    let found = some_of (λ p. IsRefusal p m v) (past_of state key) can.1 in
-    let here = active_some (is_among state.active key) (past_of state key) past is in
+    let found = some_of (λ p. IsRefusal p m v) (past_of state key) can.1.1 in
+    let here = active_some (is_active (key_state state.states key)) (past_of state key) past is in
     let P : Past → Type 0 = λ p. Passes p m in
     absurd (found.2.forbids (subst P (some_inj past found.0 (sym here.1 ∙ found.1)) passes))
 proposes state key m now reply.Unknown s can answered past is passes =
-    let here = active_some (is_among state.active key) (past_of state key) past is in
-    absurd (none_some past (sym can ∙ here.1))
-proposes state key m now reply.NotActive s can answered past is passes = absurd (can.1 (active_some (is_among state.active key) (past_of state key) past is).0)
+    let here = active_some (is_active (key_state state.states key)) (past_of state key) past is in
+    absurd (none_some past (sym can.1 ∙ here.1))
+proposes state key m now reply.NotActive s can answered past is passes =
+    let here = active_some (is_active (key_state state.states key)) (past_of state key) past is in
+    absurd (can.2.0 (active_if (kept_of state.states key) here.0))
+proposes state key m now reply.Closing s can answered past is passes =
+    let here = active_some (is_active (key_state state.states key)) (past_of state key) past is in
+    absurd (let bad : Some Closing ≡ Some Active = sym can.2 ∙ active_if (kept_of state.states key) here.0 in cc)
 proposes state key m now reply.OutOfMemory s can answered past is passes = absurd answered
 proposes state key m now r s can answered past is passes = absurd can
 

@@ -268,24 +268,27 @@ failed_last {old = old} {new = new} rf1 rf2 wf1 wfm wf2 t line h4 result s gives
 -- reading stopped, by its fault
 pub ends_stop : {domains : Domains} {l1 l2 l3 : Option (List ℕ)} {a b : Pair} {h1 h2 : Option (List ℕ)} {old new : Pending} {latest : ℕ} (h3 : Option (List ℕ)) (f : LineFault) (result : Status) (rf1 rfm rf2 wf1 wfm wf2 : ℕ)
     → SoFar domains 0 l1 l2 a b h1 h2 old.bytes old.total latest → ReadsMore l2 l3 old new → rf1 ≤ rfm → wf1 ≤ wfm
-    → (f ≡ fault.Read → Rose rfm rf2 × IsShortLine new.bytes × (new.total < input_limit)) → (f ≡ fault.TooLong limit.Line → BeginsTooLong new.bytes) → (f ≡ fault.TooLong limit.Input → new.total ≡ input_limit)
+    → (f ≡ fault.TooLong limit.File → ⊥) → (f ≡ fault.TooLong limit.Keys → ⊥) → (f ≡ fault.Read → Rose rfm rf2 × IsShortLine new.bytes × (new.total < input_limit)) → (f ≡ fault.TooLong limit.Line → BeginsTooLong new.bytes) → (f ≡ fault.TooLong limit.Input → new.total ≡ input_limit)
     → StopsAs f h2 h3 wfm wf2 result
     → Ends domains 0 (record { left = l1; held = h1; pair = a; reads_failed = rf1; writes_failed = wf1 }) (record { left = l3; held = h3; pair = b; reads_failed = rf2; writes_failed = wf2 }) result
-ends_stop {domains} {l1} {l2} {l3} {a} {b} {h1} {h2} {old} {new} {latest} h3 fault.Memory result rf1 rfm rf2 wf1 wfm wf2 s more rl wl read line input st =
+ends_stop {domains} {l1} {l2} {l3} {a} {b} {h1} {h2} {old} {new} {latest} h3 fault.Memory result rf1 rfm rf2 wf1 wfm wf2 s more rl wl file keys read line input st =
     let P : Status → Type 0 = λ x. Ends domains 0 (record { left = l1; held = h1; pair = a; reads_failed = rf1; writes_failed = wf1 }) (record { left = l3; held = h3; pair = b; reads_failed = rf2; writes_failed = wf2 }) x in
     subst P (sym st.0) (leaves_reading {new = new} rf1 rf2 wf1 wf2 s more st.1)
-ends_stop h3 fault.Read result rf1 rfm rf2 wf1 wfm wf2 s more rl wl read line input st =
+ends_stop h3 fault.Read result rf1 rfm rf2 wf1 wfm wf2 s more rl wl file keys read line input st =
     closed_as status.ReadFault result read_fault_text _ wfm st wl
     (λ closed. (rose_back rf1 rfm rf2 rl (read refl).0, stops rf1 rf2 wf1 wf2 read_fault_text StoppedShort s more ((read refl).1, (read refl).2) closed))
     (λ n part. breaks_closing rf1 rf2 wf1 wf2 read_fault_text n s more (inr (inl refl)) part)
-ends_stop h3 (fault.TooLong limit.Line) result rf1 rfm rf2 wf1 wfm wf2 s more rl wl read line input st =
+ends_stop h3 (fault.TooLong limit.Line) result rf1 rfm rf2 wf1 wfm wf2 s more rl wl file keys read line input st =
     closed_as (status.InputTooLong limit.Line) result (too_long_text limit.Line) _ wfm st wl
     (λ closed. stops rf1 rf2 wf1 wf2 (too_long_text limit.Line) (PassesLimit limit.Line) s more (line refl) closed)
     (λ n part. breaks_closing rf1 rf2 wf1 wf2 (too_long_text limit.Line) n s more (inr (inr (inr (limit.Line, refl)))) part)
-ends_stop h3 (fault.TooLong limit.Input) result rf1 rfm rf2 wf1 wfm wf2 s more rl wl read line input st =
+ends_stop h3 (fault.TooLong limit.Input) result rf1 rfm rf2 wf1 wfm wf2 s more rl wl file keys read line input st =
     closed_as (status.InputTooLong limit.Input) result (too_long_text limit.Input) _ wfm st wl
     (λ closed. stops rf1 rf2 wf1 wf2 (too_long_text limit.Input) (PassesLimit limit.Input) s more (input refl) closed)
     (λ n part. breaks_closing rf1 rf2 wf1 wf2 (too_long_text limit.Input) n s more (inr (inr (inr (limit.Input, refl)))) part)
+
+ends_stop h3 (fault.TooLong limit.File) result rf1 rfm rf2 wf1 wfm wf2 s more rl wl file keys read line input st = absurd (file refl)
+ends_stop h3 (fault.TooLong limit.Keys) result rf1 rfm rf2 wf1 wfm wf2 s more rl wl file keys read line input st = absurd (keys refl)
 
 -- each line takes a byte at least
 pub counted : {l2 l3 : Option (List ℕ)} {old new : Pending} (n : ℕ) (line : _) → GivesLine l2 l3 old new (next.Line line) → n + length old.bytes ≤ old.total → n + 1 + length new.bytes ≤ new.total

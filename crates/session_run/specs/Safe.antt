@@ -1,4 +1,4 @@
--- What every run keeps: nothing slashable is sent, and a proposal that passes is granted.
+-- What every run keeps: nothing slashable is sent, and a proposal that passes is granted, where the journal has room and its disk works.
 use Rattle.std.specs.Prelude.{◌≡◌, ◌++◌, List, [], ◌∷◌, All, Option, Some, None, IfSome, Result, Ok, Err}
 use Rattle.edge_kit.specs.declared.bytes.PubKey.{PubKey}
 use Rattle.slash_defs.specs.declared.message.Message.{Message}
@@ -35,11 +35,14 @@ abbrev pub StaysSafe : Place → List Turn → Type 0
 StaysSafe place turns = (before : List (PubKey × Message)) → SafeList before → All (CoveredOnceActive place turns) before
     → SafeList (before ++ sent turns) × All (OnActive (place_after place turns).desk) (before ++ sent turns)
 
--- a proposal of an active key that its past lets pass is granted, and has its signature but where the signer lacks the key or failed
+-- a proposal of an active key that its past lets pass is granted, but where the journal is at a limit or the disk failed; and
+-- what is granted has its signature, but where the signer lacks the key or failed
 abbrev pub IsCarriedOut : DeskReply → SignReply → Type 0
 IsCarriedOut (reply.Granted grant) (signing.Signed signature) = Unit {0}
 IsCarriedOut (reply.Granted grant) signing.NoKey = Unit {0}
 IsCarriedOut (reply.Granted grant) signing.Fault = Unit {0}
+IsCarriedOut (reply.Full size wanted) s = Unit {0}
+IsCarriedOut reply.Disk s = Unit {0}
 IsCarriedOut r s = ⊥
 
 abbrev pub Proposes : State → PubKey → Message → DeskReply → SignReply → Type 0

@@ -65,6 +65,8 @@ impl Lines {
         ensures fault { result ≡ Err LineFault.Read → Rose (I.faults source.old) (I.faults source.new) × IsShortLine self.new.bytes × (self.new.total < input_limit) }
         ensures line_limit { result ≡ Err (LineFault.TooLong Limit.Line) → BeginsTooLong self.new.bytes }
         ensures input_limit { result ≡ Err (LineFault.TooLong Limit.Input) → self.new.total ≡ input_limit }
+        ensures no_file { result ≡ Err (LineFault.TooLong Limit.File) → ⊥ }
+        ensures no_keys { result ≡ Err (LineFault.TooLong Limit.Keys) → ⊥ }
         ensures later { I.faults source.old ≤ I.faults source.new }
     {
         'reads: for _ in 0..u64::MAX {

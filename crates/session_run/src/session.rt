@@ -1,5 +1,5 @@
 //! A session from its input to its output.
-ghost use Rattle.std.specs.Prelude.{◌≡◌, ◌≢◌, ◌⊎◌, ◌<◌, ◌≤◌, ◌++◌, ◌∷◌, [], ℕ, List, length, map, take, unwrap_or, OnErr, OnOk, IfOk, Err, string_bytes};
+ghost use Rattle.std.specs.Prelude.{◌≡◌, ◌≢◌, ◌⊎◌, ◌<◌, ◌≤◌, ◌++◌, ◌∷◌, [], ℕ, List, length, map, take, unwrap_or, OnErr, OnOk, IfOk, IsSome, None, Err, string_bytes};
 ghost use Rattle.std.specs.Io.KnownBytes.{Appends, Keeps};
 ghost use Rattle.edge_kit.specs.Causes.{Rose, HasCause};
 ghost use Rattle.signer_link.specs.declared.signer.SignReply.{SignReply};

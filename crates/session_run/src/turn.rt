@@ -111,16 +111,14 @@ fn call_desk<D: Disk, S: Signer>(
     match desk.call(call) {
         DeskReply::Granted(grant) => sign(alloc, request, desk, signer, grant),
         DeskReply::Merged { keys } => Answer::Merged { keys }.line(alloc),
-        DeskReply::Active
-        | DeskReply::Already
-        | DeskReply::Settled
-        | DeskReply::CloseBegun
-        | DeskReply::AlreadyClosing
-        | DeskReply::Closed(_)
-        | DeskReply::Keys(_)
-        | DeskReply::HasFailed(_)
-        | DeskReply::NotClosing(_)
-        | DeskReply::Busy { .. } => Answer::Active.line(alloc),
+        DeskReply::Active | DeskReply::Already | DeskReply::Settled => Answer::Active.line(alloc),
+        DeskReply::CloseBegun => Answer::Active.line(alloc),
+        DeskReply::AlreadyClosing => Answer::Active.line(alloc),
+        DeskReply::Closed(_book) => Answer::Active.line(alloc),
+        DeskReply::Keys(_listed) => Answer::Active.line(alloc),
+        DeskReply::HasFailed(_) => Answer::Active.line(alloc),
+        DeskReply::NotClosing(_) => Answer::Active.line(alloc),
+        DeskReply::Busy { grants: _ } => Answer::Active.line(alloc),
         DeskReply::Exported(file) => Answer::Exported(file).line(alloc),
         DeskReply::Pruned(_) => Answer::Pruned.line(alloc),
         DeskReply::GenesisDiffers { kept, given } => {

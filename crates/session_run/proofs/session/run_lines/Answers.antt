@@ -1,11 +1,11 @@
 use Rattle.std.proofs.Common.{Err, ◌∙◌, ap, arith}
 use Rattle.session_run.specs.Runs.{last_lines}
-use Rattle.session_run.proofs.SessionLemmas.{so_far_none, so_far_line, session_done, breaks_line, breaks_last, leaves_line, leaves_last, leaves_begin, rose_back, ends_stop, counted}
+use Rattle.session_run.proofs.SessionLemmas.{so_far_none, so_far_line, session_done, breaks_line, breaks_last, leaves_line, leaves_last, leaves_begin, rose_back, ends_stop, counted, failed_line, failed_last}
 use Rattle.session_run.proofs.FareLemmas.{fares_none, fares_on}
 use Rattle.session_run.proofs.session.run_lines.Goals as goal
 
-pub returns-in_default : goal.returns-in_default
-returns-in_default g c = leaves_begin _ _ _ _ _ _ _ _
+pub returns-in_default-clause-ends : goal.returns-in_default-clause-ends
+returns-in_default-clause-ends g c = leaves_begin _ _ _ _ _ _ _ _
 
 pub lines-init : goal.lines-init
 lines-init g c = record {
@@ -19,43 +19,43 @@ lines-init g c = record {
   fares = fares_none g.D.Disk.faults c.args.desk.now;
 }
 
-pub returns-in-Err-Memory : goal.returns-in-Err-Memory
-returns-in-Err-Memory g c =
+pub returns-in-Err-Memory-clause-ends : goal.returns-in-Err-Memory-clause-ends
+returns-in-Err-Memory-clause-ends g c =
     let gives = rw c.in-Ok-Line.field-0-is at c.in-Ok-Line.ensures.line in
     let left = rw c.as_slice.ensures.value at (c.in-Err-Memory.ensures.memory (ap Err c.in-Err-Memory.field-0-is)) in
     leaves_line _ _ _ _ c.in-Ok-Line.line c.lines.invariant.so_far gives left.1 left.0
 
-pub returns-in-Err-Write : goal.returns-in-Err-Write
-returns-in-Err-Write g c =
+pub returns-in-Err-Write-clause-ends : goal.returns-in-Err-Write-clause-ends
+returns-in-Err-Write-clause-ends g c =
     let gives = rw c.in-Ok-Line.field-0-is at c.in-Ok-Line.ensures.line in
     let cut = rw c.as_slice.ensures.value at (c.in-Err-Write.ensures.write (ap Err c.in-Err-Write.field-0-is)) in
     (rose_back _ _ _ c.lines.invariant.writes cut.0, breaks_line _ _ _ _ c.in-Ok-Line.line c.lines.invariant.so_far gives cut.1)
 
-pub returns-in-Ok-serve_last : goal.returns-in-Ok-serve_last
-returns-in-Ok-serve_last g c =
+pub returns-in-Ok-serve_last-clause-ends : goal.returns-in-Ok-serve_last-clause-ends
+returns-in-Ok-serve_last-clause-ends g c =
     let gives = rw c.in-Ok-Last.field-0-is at c.in-Ok-Last.ensures.line in
     let end = c.in-Ok-Last.ensures.end (rw c.in-Ok-Last.field-0-is tt) in
     let last = c.in-Ok-serve_last.ensures.ok in
     session_done _ _ _ _ last.0 c.in-Ok-Last.line c.lines.invariant.so_far gives end last.2 (last.1 ∙ ap last_lines c.as_slice-in-Ok-Last.ensures.value)
 
-pub returns-in-Err-Memory-serve_last : goal.returns-in-Err-Memory-serve_last
-returns-in-Err-Memory-serve_last g c =
+pub returns-in-Err-Memory-serve_last-clause-ends : goal.returns-in-Err-Memory-serve_last-clause-ends
+returns-in-Err-Memory-serve_last-clause-ends g c =
     let gives = rw c.in-Ok-Last.field-0-is at c.in-Ok-Last.ensures.line in
     let left = rw c.as_slice-in-Ok-Last.ensures.value at (c.in-Err-Memory-serve_last.ensures.memory (ap Err c.in-Err-Memory-serve_last.field-0-is)) in
     leaves_last _ _ _ _ c.in-Ok-Last.line c.lines.invariant.so_far gives left.1 left.0
 
-pub returns-in-Err-Write-serve_last : goal.returns-in-Err-Write-serve_last
-returns-in-Err-Write-serve_last g c =
+pub returns-in-Err-Write-serve_last-clause-ends : goal.returns-in-Err-Write-serve_last-clause-ends
+returns-in-Err-Write-serve_last-clause-ends g c =
     let gives = rw c.in-Ok-Last.field-0-is at c.in-Ok-Last.ensures.line in
     let end = c.in-Ok-Last.ensures.end (rw c.in-Ok-Last.field-0-is tt) in
     let cut = rw c.as_slice-in-Ok-Last.ensures.value at (c.in-Err-Write-serve_last.ensures.write (ap Err c.in-Err-Write-serve_last.field-0-is)) in
     (rose_back _ _ _ c.lines.invariant.writes cut.0, breaks_last _ _ _ _ c.in-Ok-Last.line c.lines.invariant.so_far gives end cut.2 cut.1)
 
-pub returns-in-Err : goal.returns-in-Err
-returns-in-Err g c =
+pub returns-in-Err-clause-ends : goal.returns-in-Err-clause-ends
+returns-in-Err-clause-ends g c =
     let e = c.in-Err.ensures in
     ends_stop _ c.in-Err.fault c.stop.result _ _ _ _ _ _ c.lines.invariant.so_far e.stays c.lines.invariant.reads c.lines.invariant.writes
-    (λ q. e.fault (ap Err q)) (λ q. e.line_limit (ap Err q)) (λ q. e.input_limit (ap Err q)) c.stop.ensures.stops
+    (λ q. e.no_file (ap Err q)) (λ q. e.no_keys (ap Err q)) (λ q. e.fault (ap Err q)) (λ q. e.line_limit (ap Err q)) (λ q. e.input_limit (ap Err q)) c.stop.ensures.stops
 
 pub lines-preserved : goal.lines-preserved
 lines-preserved g c =
@@ -71,3 +71,16 @@ lines-preserved g c =
       up = c.in-Ok-serve_line.ensures.up;
       fares = fares_on g.D.Disk.faults _ _ _ c.lines.invariant.fares c.in-Ok-serve_line.ensures.fares;
     }
+
+pub returns-in-Err-Disk-clause-ends : goal.returns-in-Err-Disk-clause-ends
+returns-in-Err-Disk-clause-ends g c =
+    let gives = rw c.in-Ok-Line.field-0-is at c.in-Ok-Line.ensures.line in
+    let cut = rw c.as_slice.ensures.value at (c.in-Err-Disk.ensures.disk_fault (ap Err c.in-Err-Disk.field-0-is)) in
+    failed_line _ _ _ _ _ cut.2 c.in-Ok-Line.line _ c.close.result c.lines.invariant.so_far gives cut.3 cut.4 c.lines.invariant.up cut.1 (omega (arith, c.lines.invariant.writes, c.in-Err-Disk.ensures.later)) c.close.ensures.closes
+
+pub returns-in-Err-Disk-serve_last-clause-ends : goal.returns-in-Err-Disk-serve_last-clause-ends
+returns-in-Err-Disk-serve_last-clause-ends g c =
+    let gives = rw c.in-Ok-Last.field-0-is at c.in-Ok-Last.ensures.line in
+    let end = c.in-Ok-Last.ensures.end (rw c.in-Ok-Last.field-0-is tt) in
+    let cut = rw c.as_slice-in-Ok-Last.ensures.value at (c.in-Err-Disk-serve_last.ensures.disk_fault (ap Err c.in-Err-Disk-serve_last.field-0-is)) in
+    failed_last _ _ _ _ _ cut.3 c.in-Ok-Last.line _ c.close-in-Err-Disk-serve_last.result c.lines.invariant.so_far gives end cut.4 cut.2 cut.5 c.lines.invariant.up cut.1 (omega (arith, c.lines.invariant.writes, c.in-Err-Disk-serve_last.ensures.later)) c.close-in-Err-Disk-serve_last.ensures.closes

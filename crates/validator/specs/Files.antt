@@ -1,0 +1,16 @@
+-- The files of the journal that is asked for.
+use Rattle.std.specs.Prelude.{ℕ, List, ◌++◌, Option, None, Some, codes}
+use Rattle.command_line.specs.Plans.{Asked, session, merge, show, shown, nothing}
+
+-- the files of a journal's path
+abbrev pub files_at : List ℕ → List ℕ × List ℕ
+files_at path = (path ++ codes ".a", path ++ codes ".b")
+
+-- the files of the journal that is asked for, if one is
+abbrev pub files_of : Asked → Option (List ℕ × List ℕ)
+files_of (session genesis None fork) = None
+files_of (session genesis (Some path) fork) = Some (files_at path)
+files_of (merge genesis path) = Some (files_at path)
+files_of (show genesis path) = Some (files_at path)
+files_of shown = None
+files_of nothing = None
