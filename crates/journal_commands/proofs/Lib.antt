@@ -1,2 +1,5 @@
 pub mod PieceLemmas
 pub mod WholeLemmas
+pub mod ClosingLemmas
+pub mod MergeLemmas
+pub mod ShowLemmas

@@ -1,2 +1,4 @@
-pub mod Showing
 pub mod Whole
+pub mod Unopened
+pub mod Merging
+pub mod Showing

@@ -1,11 +1,22 @@
 -- What `show` writes of a key.
-use Rattle.std.specs.Prelude.{ℕ, List, ◌++◌, length, Option, Some, None, option_map, codes, decimal}
+use Rattle.std.specs.Prelude.{◌⊎◌, ℕ, List, [], ◌++◌, flat_map, length, Option, Some, None, option_map, ⊤, codes, decimal}
+use Rattle.std.specs.Map.{keys_of}
+use Rattle.std.specs.Io.KnownBytes.{Appends}
 use Rattle.hex.specs.Hex.{encode_lower}
+use Rattle.edge_kit.specs.Causes.{Rose}
 use Rattle.edge_kit.specs.declared.bytes.PubKey.{PubKey}
+use Rattle.edge_kit.specs.declared.bytes.Root.{Root}
 use Rattle.protect_record.specs.Parts.{Parts}
 use Rattle.protect_record.specs.declared.floors.Floors.{Floors}
 use Rattle.record_replay.specs.declared.state.KeyState.{KeyState}
 use Rattle.record_replay.specs.declared.state.KeyState.TheVariants as state
+use Rattle.record_join.specs.Keys.{kept_of}
+use Rattle.check_sign.specs.Contents.{Contents}
+use Rattle.check_sign.specs.States.{State, DeskStands, key_state}
+use Rattle.check_sign.specs.declared.event.DeskEvent.{DeskEvent}
+use Rattle.session_run.specs.declared.status.Status.{Status}
+use Rattle.session_run.specs.declared.status.Status.TheVariants as status
+use Rattle.journal_commands.specs.Unopened.{NotOpened, HadDesk}
 
 -- the word of a state
 abbrev pub state_word : KeyState → List ℕ
@@ -48,3 +59,39 @@ floors_text floors =
 abbrev pub key_text : PubKey → KeyState → Parts → List ℕ
 key_text key state parts =
     hex_text key.0 ++ (codes " " ++ (state_word state ++ (counts_text parts ++ (floors_text parts.floors ++ codes "\n"))))
+
+-- the line of what is kept of a key, nothing where nothing is
+abbrev pub kept_text : PubKey → KeyState → Option Parts → List ℕ
+kept_text key state None = []
+kept_text key state (Some parts) = key_text key state parts
+
+-- the lines of these keys in these states
+abbrev pub listed_text : List (PubKey × Parts) → List (PubKey × KeyState) → List ℕ
+listed_text keys listed = flat_map (λ one. kept_text one.0 one.1 (kept_of keys one.0)) listed
+
+-- the lines of the keys of a desk, in key order
+abbrev pub show_text : Contents → List ℕ
+show_text desk = flat_map (λ key. kept_text key (key_state desk.states key) (kept_of desk.keys key)) (keys_of desk.keys)
+
+-- the desk stands for what it stood for
+abbrev pub StandsStill : Contents → Contents → Type 0
+StandsStill before now = (state : State) → DeskStands before state → DeskStands now state
+
+-- How the showing of a desk ends, status by status: its lines were written, or the output failed; of memory nothing is said.
+abbrev pub DeskShowEnds : Option (List ℕ) → Option (List ℕ) → ℕ → ℕ → Contents → Contents → Status → Type 0
+DeskShowEnds held_before held_now failed_before failed_now before now status.Done = (state : State) → DeskStands before state → Appends held_before held_now (show_text now)
+DeskShowEnds held_before held_now failed_before failed_now before now status.Usage = ⊥
+DeskShowEnds held_before held_now failed_before failed_now before now status.ReadFault = ⊥
+DeskShowEnds held_before held_now failed_before failed_now before now status.WriteFault = Rose failed_before failed_now
+DeskShowEnds held_before held_now failed_before failed_now before now status.DiskFault = ⊥
+DeskShowEnds held_before held_now failed_before failed_now before now status.Damaged = ⊥
+DeskShowEnds held_before held_now failed_before failed_now before now status.GenesisDiffers = ⊥
+DeskShowEnds held_before held_now failed_before failed_now before now status.OutOfMemory = ⊤
+DeskShowEnds held_before held_now failed_before failed_now before now (status.InputTooLong l) = ⊥
+DeskShowEnds held_before held_now failed_before failed_now before now status.FileRefused = ⊥
+
+-- how a showing ends: no desk was opened, or one was
+abbrev pub ShowEnds : {D : Type 0} → (D → List ℕ → Type 0) → (D → ℕ) → (D → ℕ → List ℕ → Type 0) → (D → ℕ) → Root → D → D → Option (List ℕ) → Option (List ℕ) → ℕ → ℕ → List DeskEvent → Status → Type 0
+ShowEnds shows moment leaves faults genesis first last held_before held_now failed_before failed_now events result =
+    NotOpened shows moment leaves faults genesis first last held_before held_now failed_before failed_now events result
+    ⊎ HadDesk shows moment leaves genesis first last events (λ before now. StandsStill before now × DeskShowEnds held_before held_now failed_before failed_now before now result)

@@ -1,10 +1,18 @@
-//! Commands on a journal: what is written of each key, and an input that is read whole.
+//! Commands on a journal: a file that is merged into it, and what is written of each of its keys.
 #![tactic(auto)]
 
+mod closing;
+#[cfg(test)]
+mod command_tests;
+mod keys;
+mod merge;
 mod showing;
 #[cfg(test)]
 mod tests;
 mod whole;
 
+pub use closing::open_fault_line;
+pub use keys::run_show;
+pub use merge::run_merge;
 pub use showing::key_line;
 pub use whole::{WholeFault, read_whole};

@@ -1,0 +1,119 @@
+-- How a merge ends, by what was met.
+use Rattle.std.specs.Prelude.{⊤}
+use Rattle.std.proofs.Common.{◌≡◌, ℕ, List, Option, None, Some, Ok, Err, length, refl, sym, subst, inl, inr}
+use Rattle.std.specs.Io.KnownBytes.{Appends, Keeps}
+use Rattle.edge_kit.specs.Causes.{Rose}
+use Rattle.edge_kit.specs.declared.bytes.Root.{Root}
+use Rattle.slash_defs.specs.declared.book.File.{File}
+use Rattle.interchange_io.specs.Reading.{file_of, file_limit}
+use Rattle.interchange_io.specs.declared.fault.ReadFault.{ReadFault}
+use Rattle.check_sign.specs.Contents.{Contents}
+use Rattle.check_sign.specs.Machine.{Reply}
+use Rattle.check_sign.specs.declared.call.DeskReply.{DeskReply}
+use Rattle.check_sign.specs.declared.call.DeskReply.TheVariants as reply
+use Rattle.check_sign.specs.declared.event.DeskEvent.{DeskEvent}
+use Rattle.session_format.specs.Closing.{closing_text}
+use Rattle.session_format.specs.declared.closing.ClosingLine.TheVariants as closing
+use Rattle.session_format.specs.declared.closing.FileRefusal.TheVariants as refusal
+use Rattle.session_run.specs.declared.next.Limit.TheVariants as limit
+use Rattle.session_run.specs.declared.status.Status.{Status}
+use Rattle.session_run.specs.declared.status.Status.TheVariants as status
+use Rattle.journal_commands.specs.Unopened.{ClosesBy, NotOpened, HadDesk}
+use Rattle.journal_commands.specs.Whole.{WholeStops}
+use Rattle.journal_commands.specs.declared.whole.WholeFault.{WholeFault}
+use Rattle.journal_commands.specs.declared.whole.WholeFault.TheVariants as whole_fault
+use Rattle.journal_commands.specs.Merging.{View, ReadsAll, Merges, Replies, DeskMergeEnds, MergeEnds, FileCloses, FaultCloses, ReplyCloses, HasMerged, merged_text, read_fault_text}
+use Rattle.journal_commands.proofs.ClosingLemmas.{closed_by, closed_as, disk_unopened, write_unopened, read_unopened}
+
+-- the input was not read to its end
+pub unread_ends : (f : WholeFault) (vb vn : View) (d1 d2 : ℕ) (b : Contents) (result : Status) → WholeStops f file_limit vb.left vn.left vb.reads_failed vn.reads_failed
+    → FaultCloses f vb.held vn.held vb.writes_failed vn.writes_failed result → DeskMergeEnds vb vn d1 d2 b b result
+unread_ends whole_fault.Read vb vn d1 d2 b result stops closes =
+    closed_as (DeskMergeEnds vb vn d1 d2 b b) status.ReadFault result read_fault_text vb.held vn.held vb.writes_failed vn.writes_failed closes (λ text. (stops, refl, text)) (λ r. r)
+unread_ends whole_fault.TooLong vb vn d1 d2 b result stops closes =
+    closed_by (DeskMergeEnds vb vn d1 d2 b b) (status.InputTooLong limit.File) result (closing_text (closing.TooLong file_limit)) vb.held vn.held vb.writes_failed vn.writes_failed closes
+    (λ text. (stops, refl, text)) (λ r. r) (λ k. k)
+unread_ends whole_fault.OutOfMemory vb vn d1 d2 b result stops closes = subst (DeskMergeEnds vb vn d1 d2 b b) (sym closes.0) closes.1
+
+-- the bytes are no file
+pub refused_ends : (vb vn : View) (d1 d2 : ℕ) (b : Contents) (result : Status) (bytes : List ℕ) (fault : ReadFault) → ReadsAll vb.left vn.left bytes → file_of bytes ≡ Err fault
+    → ClosesBy status.FileRefused (closing_text (closing.FileRefused (refusal.Read fault))) vb.held vn.held vb.writes_failed vn.writes_failed result → DeskMergeEnds vb vn d1 d2 b b result
+refused_ends vb vn d1 d2 b result bytes fault reads is closes =
+    closed_by (DeskMergeEnds vb vn d1 d2 b b) status.FileRefused result (closing_text (closing.FileRefused (refusal.Read fault))) vb.held vn.held vb.writes_failed vn.writes_failed closes
+    (λ text. (refusal.Read fault, ((bytes, reads, is), refl), text)) (λ r. r) (λ k. k)
+
+-- a reply names as many keys as the file
+counted : (file : File) (keys : ℕ) (b e : Contents) → Merges file (reply.Merged keys) b e → Merges file (reply.Merged (length file.books)) b e
+counted file keys b e m = record { machine = λ state stands. (((m.machine state stands).0.0, refl), (m.machine state stands).1); noted_is = m.noted_is }
+
+module _ (vb vn : View) (d1 d2 : ℕ) (b e : Contents) (result : Status) (bytes : List ℕ) (file : File) (reads : ReadsAll vb.left vn.left bytes) (is : file_of bytes ≡ Ok file) where
+  abbrev replies : (r : File → DeskReply) → Merges file (r file) b e → Replies vb.left vn.left b e r
+  replies r m = record { bytes = bytes; read = reads; file = file; is_file = is; merges = m }
+
+  by_memory : (result ≡ status.OutOfMemory) × Keeps vb.held vn.held → DeskMergeEnds vb vn d1 d2 b e result
+  by_memory c = subst (DeskMergeEnds vb vn d1 d2 b e) (sym c.0) c.1
+
+  by_text : (st : Status) (text : List ℕ) → ClosesBy st text vb.held vn.held vb.writes_failed vn.writes_failed result → (Appends vb.held vn.held text → DeskMergeEnds vb vn d1 d2 b e st) → DeskMergeEnds vb vn d1 d2 b e result
+  by_text st text c whole = closed_by (DeskMergeEnds vb vn d1 d2 b e) st result text vb.held vn.held vb.writes_failed vn.writes_failed c whole (λ r. r) (λ k. k)
+
+  by_reply : (r : DeskReply) → Merges file r b e → (r ≡ reply.Disk → Rose d1 d2) → ReplyCloses (length file.books) r vb.held vn.held vb.writes_failed vn.writes_failed result → DeskMergeEnds vb vn d1 d2 b e result
+  by_reply (reply.Merged keys) m rose c = by_text status.Done (merged_text (length file.books)) c (λ text. (replies (λ f. reply.Merged (length f.books)) (counted file keys b e m), text))
+  by_reply (reply.GenesisDiffers kept given) m rose c =
+      by_text status.GenesisDiffers (closing_text (closing.GenesisDiffers kept given)) c (λ text. (kept, given, replies (λ f. reply.GenesisDiffers kept given) m, text))
+  by_reply (reply.TooManyKeys have new) m rose c =
+      by_text status.FileRefused (closing_text (closing.FileRefused (refusal.TooManyKeys have new))) c (λ text. (refusal.TooManyKeys have new, replies (λ f. reply.TooManyKeys have new) m, text))
+  by_reply (reply.Full size wanted) m rose c =
+      by_text status.FileRefused (closing_text (closing.FileRefused (refusal.Full size wanted))) c (λ text. (refusal.Full size wanted, replies (λ f. reply.Full size wanted) m, text))
+  by_reply reply.Disk m rose c = by_text status.DiskFault (closing_text closing.DiskFault) c (λ text. (rose refl, replies (λ f. reply.Disk) m, text))
+  by_reply reply.Active m rose c = by_memory c
+  by_reply reply.Already m rose c = by_memory c
+  by_reply (reply.Granted grant) m rose c = by_memory c
+  by_reply reply.Settled m rose c = by_memory c
+  by_reply reply.CloseBegun m rose c = by_memory c
+  by_reply reply.AlreadyClosing m rose c = by_memory c
+  by_reply (reply.Closed book) m rose c = by_memory c
+  by_reply (reply.Exported f) m rose c = by_memory c
+  by_reply (reply.Pruned book) m rose c = by_memory c
+  by_reply (reply.Keys listed) m rose c = by_memory c
+  by_reply (reply.HasFailed failed) m rose c = by_memory c
+  by_reply reply.Unknown m rose c = by_memory c
+  by_reply reply.NotActive m rose c = by_memory c
+  by_reply reply.Closing m rose c = by_memory c
+  by_reply (reply.NotClosing s) m rose c = by_memory c
+  by_reply (reply.Busy grants) m rose c = by_memory c
+  by_reply (reply.Refused v) m rose c = by_memory c
+  by_reply reply.OutOfMemory m rose c = by_memory c
+
+  -- the desk replied to the file
+  pub file_ends : b.torn ≡ None → FileCloses file b e d1 d2 vb.held vn.held vb.writes_failed vn.writes_failed result → DeskMergeEnds vb vn d1 d2 b e result
+  file_ends up c = by_reply c.reply_is c.merges (λ q. c.rose q up) c.closed
+
+-- an earlier count of the disk's faults
+pub earlier : (vb vn : View) (d1 d2 d3 : ℕ) (b e : Contents) (result : Status) → (Rose d2 d3 → Rose d1 d3) → DeskMergeEnds vb vn d2 d3 b e result → DeskMergeEnds vb vn d1 d3 b e result
+earlier vb vn d1 d2 d3 b e status.Done f h = h
+earlier vb vn d1 d2 d3 b e status.Usage f h = h
+earlier vb vn d1 d2 d3 b e status.ReadFault f h = h
+earlier vb vn d1 d2 d3 b e status.WriteFault f h = h
+earlier vb vn d1 d2 d3 b e status.DiskFault f h = (f h.0, h.1, h.2)
+earlier vb vn d1 d2 d3 b e status.Damaged f h = h
+earlier vb vn d1 d2 d3 b e status.GenesisDiffers f h = h
+earlier vb vn d1 d2 d3 b e status.OutOfMemory f h = h
+earlier vb vn d1 d2 d3 b e (status.InputTooLong limit.Line) f h = h
+earlier vb vn d1 d2 d3 b e (status.InputTooLong limit.Input) f h = h
+earlier vb vn d1 d2 d3 b e (status.InputTooLong limit.File) f h = h
+earlier vb vn d1 d2 d3 b e (status.InputTooLong limit.Keys) f h = h
+earlier vb vn d1 d2 d3 b e status.FileRefused f h = h
+
+-- what each fault tells
+module _ {D : Type 0} (shows : D → List ℕ → Type 0) (moment : D → ℕ) (leaves : D → ℕ → List ℕ → Type 0) (faults : D → ℕ) (genesis : Root) (first last : D) (vb vn : View) (events : List DeskEvent) (result : Status) where
+  pub disk_rose : MergeEnds shows moment leaves faults genesis first last vb vn events result → result ≡ status.DiskFault → Rose (faults first) (faults last)
+  disk_rose (inl h) is = disk_unopened (Rose (faults first) (faults last)) h.0.fault vb.held vn.held vb.writes_failed vn.writes_failed result h.0.closed h.0.cause is
+  disk_rose (inr h) is = (subst (DeskMergeEnds vb vn (faults first) (faults last) h.desk_before h.desk_now) is h.ends.1).0
+
+  pub write_rose : MergeEnds shows moment leaves faults genesis first last vb vn events result → result ≡ status.WriteFault → Rose vb.writes_failed vn.writes_failed
+  write_rose (inl h) is = write_unopened h.0.fault vb.held vn.held vb.writes_failed vn.writes_failed result h.0.closed is
+  write_rose (inr h) is = subst (DeskMergeEnds vb vn (faults first) (faults last) h.desk_before h.desk_now) is h.ends.1
+
+  pub read_rose : MergeEnds shows moment leaves faults genesis first last vb vn events result → result ≡ status.ReadFault → Rose vb.reads_failed vn.reads_failed
+  read_rose (inl h) is = absurd (read_unopened h.0.fault vb.held vn.held vb.writes_failed vn.writes_failed result h.0.closed is)
+  read_rose (inr h) is = (subst (DeskMergeEnds vb vn (faults first) (faults last) h.desk_before h.desk_now) is h.ends.1).0

@@ -1,0 +1,21 @@
+use Rattle.std.proofs.Common.{List, ℕ, inl, inr, sym, subst}
+use Rattle.check_sign.specs.Opening.{LeavesDesk}
+use Rattle.journal_commands.proofs.keys.show_into.Goals as goal
+
+pub returns-clause-ends : goal.returns-clause-ends
+returns-clause-ends g c =
+    let L : g.row.D.Denot → Type 0 = λ d. LeavesDesk g.D.Disk.moment g.D.Disk.leaves d c.show_desk-status.new.desk.contents in
+    inr (record {
+      desk_before = c.in-Ok.desk.contents;
+      desk_now = c.show_desk-status.new.desk.contents;
+      opened = record {
+        read = c.in-Ok.ensures.read;
+        genesis_is = c.in-Ok.ensures.fresh.0;
+        none_open = c.in-Ok.ensures.fresh.1;
+        none_noted = c.in-Ok.ensures.fresh.4;
+        up = c.in-Ok.ensures.fresh.5;
+      };
+      ends = (c.show_desk-status.ensures.still, c.show_desk-status.ensures.ends);
+      left = subst L (sym c.end-disks.ensures.first) c.end-disks.ensures.left;
+      noted = c.end-disks.ensures.events;
+    })

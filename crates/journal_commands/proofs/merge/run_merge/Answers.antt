@@ -1,0 +1,11 @@
+use Rattle.journal_commands.proofs.MergeLemmas.{disk_rose, write_rose, read_rose}
+use Rattle.journal_commands.proofs.merge.run_merge.Goals as goal
+
+pub returns-clause-read_fault : goal.returns-clause-read_fault
+returns-clause-read_fault g c = λ is. read_rose _ _ _ _ _ _ _ _ _ _ _ c.merge_into.ensures.ends is
+
+pub returns-clause-write_fault : goal.returns-clause-write_fault
+returns-clause-write_fault g c = λ is. write_rose _ _ _ _ _ _ _ _ _ _ _ c.merge_into.ensures.ends is
+
+pub returns-clause-disk_fault : goal.returns-clause-disk_fault
+returns-clause-disk_fault g c = λ is. disk_rose _ _ _ _ _ _ _ _ _ _ _ c.merge_into.ensures.ends is

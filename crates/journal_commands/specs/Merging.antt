@@ -1,0 +1,131 @@
+-- How a merge of the input into a journal ends.
+use Rattle.std.specs.Prelude.{◌≡◌, ◌⊎◌, ℕ, List, [], ◌++◌, Option, None, Ok, Err, length, codes, decimal}
+use Rattle.std.specs.Io.KnownBytes.{Consumes, Appends, Keeps, IsAtEnd}
+use Rattle.edge_kit.specs.Causes.{Rose}
+use Rattle.slash_defs.specs.declared.book.File.{File}
+use Rattle.interchange_io.specs.Reading.{file_of, file_limit}
+use Rattle.check_sign.specs.Contents.{Contents}
+use Rattle.check_sign.specs.States.{State, DeskStands}
+use Rattle.check_sign.specs.Machine.{Reply, after, noted}
+use Rattle.check_sign.specs.declared.call.DeskCall.TheVariants as call
+use Rattle.check_sign.specs.declared.call.DeskReply.{DeskReply}
+use Rattle.check_sign.specs.declared.call.DeskReply.TheVariants as reply
+use Rattle.session_format.specs.Closing.{closing_text}
+use Rattle.session_format.specs.declared.closing.ClosingLine.TheVariants as closing
+use Rattle.session_format.specs.declared.closing.FileRefusal.{FileRefusal}
+use Rattle.session_format.specs.declared.closing.FileRefusal.TheVariants as refusal
+use Rattle.session_run.specs.Closings.{Closes}
+use Rattle.session_run.specs.declared.next.Limit.TheVariants as limit
+use Rattle.session_run.specs.declared.status.Status.{Status}
+use Rattle.session_run.specs.declared.status.Status.TheVariants as status
+use Rattle.check_sign.specs.declared.event.DeskEvent.{DeskEvent}
+use Rattle.edge_kit.specs.declared.bytes.Root.{Root}
+use Rattle.journal_commands.specs.Unopened.{ClosesBy, NotOpened, HadDesk}
+use Rattle.journal_commands.specs.Whole.{PassesLimit}
+use Rattle.journal_commands.specs.declared.whole.WholeFault.{WholeFault}
+use Rattle.journal_commands.specs.declared.whole.WholeFault.TheVariants as whole_fault
+
+-- what the input and the output tell, and how often each of them failed
+pub record View : Type 0 where
+  pub left : Option (List ℕ)
+  pub held : Option (List ℕ)
+  pub reads_failed : ℕ
+  pub writes_failed : ℕ
+
+-- the line of an input that failed
+abbrev pub read_fault_text : List ℕ
+read_fault_text = codes "validator: read fault\n"
+
+-- the line of a file of so many keys that is merged
+abbrev pub merged_text : ℕ → List ℕ
+merged_text keys = codes "merged " ++ (decimal keys ++ codes "\n")
+
+-- the input was read to its end, and is these bytes
+pub record ReadsAll (left_before left_now : Option (List ℕ)) (bytes : List ℕ) : Type 0 where
+  pub taken : Consumes left_before left_now bytes
+  pub at_end : IsAtEnd left_now
+
+-- whichever state a desk stood for, it may give this reply to the merge of the file, stands for the state after it, and has noted just that
+pub record Merges (file : File) (r : DeskReply) (before now : Contents) : Type 0 where
+  pub machine : (state : State) → DeskStands before state → Reply state (call.Merge file) r × DeskStands now (after state (call.Merge file) r)
+  pub noted_is : now.events ≡ before.events ++ noted before.latest (call.Merge file) r
+
+-- the input is a file, and the desk gave this reply to its merge
+pub record Replies (left_before left_now : Option (List ℕ)) (before now : Contents) (r : File → DeskReply) : Type 0 where
+  pub bytes : List ℕ
+  pub read : ReadsAll left_before left_now bytes
+  pub file : File
+  pub is_file : file_of bytes ≡ Ok file
+  pub merges : Merges file (r file) before now
+
+-- the input is no file, and the desk was not called; or the desk refused it
+abbrev pub RefusesFile : Option (List ℕ) → Option (List ℕ) → Contents → Contents → FileRefusal → Type 0
+RefusesFile left_before left_now before now (refusal.Read fault) = ((bytes : List ℕ) × ReadsAll left_before left_now bytes × (file_of bytes ≡ Err fault)) × (now ≡ before)
+RefusesFile left_before left_now before now (refusal.TooManyKeys have new) = Replies left_before left_now before now (λ file. reply.TooManyKeys have new)
+RefusesFile left_before left_now before now (refusal.Full size wanted) = Replies left_before left_now before now (λ file. reply.Full size wanted)
+
+-- the file was merged, and its line written
+abbrev pub IsMerged : View → View → Contents → Contents → Type 0
+IsMerged view_before view_now before now =
+    (r : Replies view_before.left view_now.left before now (λ file. reply.Merged (length file.books))) × Appends view_before.held view_now.held (merged_text (length r.file.books))
+
+-- the file was refused, and its line written
+abbrev pub IsRefused : View → View → Contents → Contents → Type 0
+IsRefused view_before view_now before now =
+    (r : FileRefusal) × RefusesFile view_before.left view_now.left before now r × Appends view_before.held view_now.held (closing_text (closing.FileRefused r))
+
+-- How a merge into a desk ends, status by status, each with its cause; the disk's count of faults is the last two numbers.
+abbrev pub DeskMergeEnds : View → View → ℕ → ℕ → Contents → Contents → Status → Type 0
+DeskMergeEnds view_before view_now disk_before disk_now before now status.Done = IsMerged view_before view_now before now
+DeskMergeEnds view_before view_now disk_before disk_now before now status.Usage = ⊥
+DeskMergeEnds view_before view_now disk_before disk_now before now status.ReadFault =
+    Rose view_before.reads_failed view_now.reads_failed × (now ≡ before) × Appends view_before.held view_now.held read_fault_text
+DeskMergeEnds view_before view_now disk_before disk_now before now status.WriteFault = Rose view_before.writes_failed view_now.writes_failed
+DeskMergeEnds view_before view_now disk_before disk_now before now status.DiskFault =
+    Rose disk_before disk_now × Replies view_before.left view_now.left before now (λ file. reply.Disk) × Appends view_before.held view_now.held (closing_text closing.DiskFault)
+DeskMergeEnds view_before view_now disk_before disk_now before now status.Damaged = ⊥
+DeskMergeEnds view_before view_now disk_before disk_now before now status.GenesisDiffers =
+    (kept : _) × (given : _) × Replies view_before.left view_now.left before now (λ file. reply.GenesisDiffers kept given) × Appends view_before.held view_now.held (closing_text (closing.GenesisDiffers kept given))
+DeskMergeEnds view_before view_now disk_before disk_now before now status.OutOfMemory = Keeps view_before.held view_now.held
+DeskMergeEnds view_before view_now disk_before disk_now before now (status.InputTooLong limit.Line) = ⊥
+DeskMergeEnds view_before view_now disk_before disk_now before now (status.InputTooLong limit.Input) = ⊥
+DeskMergeEnds view_before view_now disk_before disk_now before now (status.InputTooLong limit.File) =
+    PassesLimit file_limit view_before.left view_now.left × (now ≡ before) × Appends view_before.held view_now.held (closing_text (closing.TooLong file_limit))
+DeskMergeEnds view_before view_now disk_before disk_now before now (status.InputTooLong limit.Keys) = ⊥
+DeskMergeEnds view_before view_now disk_before disk_now before now status.FileRefused = IsRefused view_before view_now before now
+
+-- the desk at the end is the one that was opened, or it gave a reply to the merge of a file
+abbrev pub HasMerged : Contents → Contents → Type 0
+HasMerged before now = (now ≡ before) ⊎ ((file : File) × (r : DeskReply) × Merges file r before now)
+
+-- how a merge ends: no desk was opened and nothing was read, or one was
+abbrev pub MergeEnds : {D : Type 0} → (D → List ℕ → Type 0) → (D → ℕ) → (D → ℕ → List ℕ → Type 0) → (D → ℕ) → Root → D → D → View → View → List DeskEvent → Status → Type 0
+MergeEnds shows moment leaves faults genesis first last view_before view_now events result =
+    (NotOpened shows moment leaves faults genesis first last view_before.held view_now.held view_before.writes_failed view_now.writes_failed events result × (view_now.left ≡ view_before.left))
+    ⊎ HadDesk shows moment leaves genesis first last events (λ before now. HasMerged before now × DeskMergeEnds view_before view_now (faults first) (faults last) before now result)
+
+-- by what reply the output gets which text, and the program which status; a reply that no merge gets counts as want of memory
+abbrev pub ReplyCloses : ℕ → DeskReply → Option (List ℕ) → Option (List ℕ) → ℕ → ℕ → Status → Type 0
+ReplyCloses count (reply.Merged keys) held_before held_now failed_before failed_now result = ClosesBy status.Done (merged_text count) held_before held_now failed_before failed_now result
+ReplyCloses count (reply.GenesisDiffers kept given) held_before held_now failed_before failed_now result =
+    ClosesBy status.GenesisDiffers (closing_text (closing.GenesisDiffers kept given)) held_before held_now failed_before failed_now result
+ReplyCloses count (reply.TooManyKeys have new) held_before held_now failed_before failed_now result =
+    ClosesBy status.FileRefused (closing_text (closing.FileRefused (refusal.TooManyKeys have new))) held_before held_now failed_before failed_now result
+ReplyCloses count (reply.Full size wanted) held_before held_now failed_before failed_now result =
+    ClosesBy status.FileRefused (closing_text (closing.FileRefused (refusal.Full size wanted))) held_before held_now failed_before failed_now result
+ReplyCloses count reply.Disk held_before held_now failed_before failed_now result = ClosesBy status.DiskFault (closing_text closing.DiskFault) held_before held_now failed_before failed_now result
+ReplyCloses count r held_before held_now failed_before failed_now result = (result ≡ status.OutOfMemory) × Keeps held_before held_now
+
+-- by what fault of the input the output gets which text, and the program which status
+abbrev pub FaultCloses : WholeFault → Option (List ℕ) → Option (List ℕ) → ℕ → ℕ → Status → Type 0
+FaultCloses whole_fault.Read held_before held_now failed_before failed_now result = Closes status.ReadFault read_fault_text held_before held_now failed_before failed_now result
+FaultCloses whole_fault.TooLong held_before held_now failed_before failed_now result =
+    ClosesBy (status.InputTooLong limit.File) (closing_text (closing.TooLong file_limit)) held_before held_now failed_before failed_now result
+FaultCloses whole_fault.OutOfMemory held_before held_now failed_before failed_now result = (result ≡ status.OutOfMemory) × Keeps held_before held_now
+
+-- a desk gave a reply to the merge of a file, by which the output was closed; of a disk only its fault in this call is told
+pub record FileCloses (file : File) (before now : Contents) (disk_before disk_now : ℕ) (held_before held_now : Option (List ℕ)) (failed_before failed_now : ℕ) (result : Status) : Type 0 where
+  pub reply_is : DeskReply
+  pub merges : Merges file reply_is before now
+  pub rose : reply_is ≡ reply.Disk → before.torn ≡ None → Rose disk_before disk_now
+  pub closed : ReplyCloses (length file.books) reply_is held_before held_now failed_before failed_now result

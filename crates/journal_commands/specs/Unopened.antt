@@ -1,0 +1,66 @@
+-- What a journal that is not opened makes of an output, and what was there of a desk where it is.
+use Rattle.std.specs.Prelude.{◌≡◌, ◌⊎◌, ℕ, ◌≤◌, List, [], Option, Some, None}
+use Rattle.std.specs.Io.KnownBytes.{Keeps}
+use Rattle.edge_kit.specs.Causes.{Rose}
+use Rattle.edge_kit.specs.declared.bytes.Root.{Root}
+use Rattle.record_join.specs.BooksPasts.{key_limit}
+use Rattle.record_journal.specs.Frames.{Keeps as KeepsJournal}
+use Rattle.record_journal.specs.declared.open.OpenFault.TheVariants as journal_fault
+use Rattle.check_sign.specs.Contents.{Contents}
+use Rattle.check_sign.specs.Opening.{OpenFaultIs, IsOpened, LeavesDesk}
+use Rattle.check_sign.specs.declared.event.DeskEvent.{DeskEvent}
+use Rattle.check_sign.specs.declared.open.OpenFault.{OpenFault}
+use Rattle.check_sign.specs.declared.open.OpenFault.TheVariants as open_fault
+use Rattle.session_format.specs.Closing.{closing_text}
+use Rattle.session_format.specs.declared.closing.ClosingLine.{ClosingLine}
+use Rattle.session_format.specs.declared.closing.ClosingLine.TheVariants as closing
+use Rattle.session_run.specs.Closings.{Closes}
+use Rattle.session_run.specs.declared.next.Limit.TheVariants as limit
+use Rattle.session_run.specs.declared.status.Status.{Status}
+use Rattle.session_run.specs.declared.status.Status.TheVariants as status
+
+-- the status of a journal that is not opened
+abbrev pub open_status : OpenFault → Status
+open_status (open_fault.Journal journal_fault.Disk) = status.DiskFault
+open_status (open_fault.Journal journal_fault.OutOfMemory) = status.OutOfMemory
+open_status (open_fault.Journal (journal_fault.Damaged offset byte)) = status.Damaged
+open_status (open_fault.Journal (journal_fault.Genesis kept given)) = status.GenesisDiffers
+open_status (open_fault.TooManyKeys have new) = status.InputTooLong limit.Keys
+
+-- its line; none where memory ran out
+abbrev pub open_line : OpenFault → Option ClosingLine
+open_line (open_fault.Journal journal_fault.Disk) = Some closing.DiskFault
+open_line (open_fault.Journal journal_fault.OutOfMemory) = None
+open_line (open_fault.Journal (journal_fault.Damaged offset byte)) = Some (closing.Damaged offset byte)
+open_line (open_fault.Journal (journal_fault.Genesis kept given)) = Some (closing.GenesisDiffers kept given)
+open_line (open_fault.TooManyKeys have new) = Some (closing.TooLong key_limit)
+
+-- the text closed the output, or memory ran out and nothing was written
+abbrev pub ClosesBy : Status → List ℕ → Option (List ℕ) → Option (List ℕ) → ℕ → ℕ → Status → Type 0
+ClosesBy st text held_before held_now failed_before failed_now result =
+    Closes st text held_before held_now failed_before failed_now result ⊎ ((result ≡ status.OutOfMemory) × Keeps held_before held_now)
+
+-- the line closed the output, where there is one; else nothing was written
+abbrev pub ClosesMaybe : Status → Option ClosingLine → Option (List ℕ) → Option (List ℕ) → ℕ → ℕ → Status → Type 0
+ClosesMaybe st None held_before held_now failed_before failed_now result = (result ≡ st) × Keeps held_before held_now
+ClosesMaybe st (Some line) held_before held_now failed_before failed_now result = ClosesBy st (closing_text line) held_before held_now failed_before failed_now result
+
+-- No desk was opened, by this fault: the output has its line, each image of the disk opens as before, and nothing is noted.
+pub record NotOpened {D : Type 0} (shows : D → List ℕ → Type 0) (moment : D → ℕ) (leaves : D → ℕ → List ℕ → Type 0) (faults : D → ℕ) (genesis : Root) (first last : D)
+    (held_before held_now : Option (List ℕ)) (failed_before failed_now : ℕ) (events : List DeskEvent) (result : Status) : Type 0 where
+  pub fault : OpenFault
+  pub is_fault : OpenFaultIs shows first genesis fault
+  pub cause : fault ≡ open_fault.Journal journal_fault.Disk → Rose (faults first) (faults last)
+  pub closed : ClosesMaybe (open_status fault) (open_line fault) held_before held_now failed_before failed_now result
+  pub kept : KeepsJournal moment leaves genesis.0 first last
+  pub unnoted : events ≡ []
+
+-- A desk was opened, and ended: each image of the disk opens to what it stood for at the end, and what it noted is handed out.
+pub record HadDesk {D : Type 0} (shows : D → List ℕ → Type 0) (moment : D → ℕ) (leaves : D → ℕ → List ℕ → Type 0) (genesis : Root) (first last : D)
+    (events : List DeskEvent) (Ends : Contents → Contents → Type 0) : Type 0 where
+  pub desk_before : Contents
+  pub desk_now : Contents
+  pub opened : IsOpened shows first genesis desk_before
+  pub ends : Ends desk_before desk_now
+  pub left : LeavesDesk moment leaves last desk_now
+  pub noted : events ≡ desk_now.events
