@@ -2,7 +2,7 @@
 ghost use Rattle.std.specs.Prelude.{Contains, IfOk};
 ghost use Rattle.validator_tests.specs.Standing.{StandsForOne};
 
-use crate::outside::{disks_of, fresh_disks};
+use crate::outside::disks_of;
 use check_sign::{Desk, DeskReply, Grant, KeyState, Outcome};
 use edge_kit::{Crash, Disks, MemDisk, PubKey, Root};
 use protect_record::Verdict;
@@ -99,12 +99,7 @@ fn busy<T: Abort>(rt: &T, desk: &mut Desk<MemDisk>, _grant: &Grant) -> u64
 }
 
 /// Proposes a message of a key that is being closed, beside a grant that stays open.
-fn refused_as_closing<T: Abort>(
-    rt: &T,
-    desk: &mut Desk<MemDisk>,
-    _grant: &Grant,
-    message: Message,
-)
+fn refused_as_closing<T: Abort>(rt: &T, desk: &mut Desk<MemDisk>, _grant: &Grant, message: Message)
     requires stands { StandsForOne desk.old.contents }
     requires is_open { Contains desk.old.contents.grants _grant.now }
     ensures is_open { Contains desk.new.contents.grants _grant.now }

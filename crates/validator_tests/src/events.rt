@@ -57,12 +57,7 @@ fn event_words(alloc: Global, event: &Event) -> Result<String, AllocError> {
 }
 
 /// What was done to a key, and how many blocks and votes a book has.
-fn book_words(
-    alloc: Global,
-    done: &str,
-    key: &PubKey,
-    book: &Book,
-) -> Result<String, AllocError> {
+fn book_words(alloc: Global, done: &str, key: &PubKey, book: &Book) -> Result<String, AllocError> {
     let key = hex::encode(alloc, &key.0)?;
     format!(in alloc;
         "{} 0x{} {} {}",

@@ -2,6 +2,7 @@
 use crate::marks::filled;
 use crate::outside::{Ended, disks_after, disks_of, fresh_disks, no_faults, ready_signer, run};
 use crate::sessions::{WORDS, is_text};
+use crate::words::ZEROS;
 use edge_kit::{Disks, MemDisk};
 use signer_link::MemSigner;
 use std::alloc::{AllocError, Global};
@@ -9,8 +10,6 @@ use std::sync::Wait;
 use std::test::Fail;
 use std::thread::Threads;
 use validator_cli::Status;
-
-const ZEROS: &str = "0x0000000000000000000000000000000000000000000000000000000000000000";
 
 /// Merges the file on the input. The disks are handed in, and the path names nothing here.
 const MERGE: [&str; 6] = ["validator", "merge", "--genesis", ZEROS, "--journal", "j"];

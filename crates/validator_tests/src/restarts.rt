@@ -89,7 +89,12 @@ fn a_session_goes_on_over_its_disks(rt: HostRuntime) -> Result<(), Fail> {
     let asked_later = filled(alloc, ASKED_LATER)?;
     let first = run_over(&rt, alloc, fresh_disks(alloc)?, signed.as_str())?;
     assert_eq!(rt; first.status, Status::Done);
-    let second = run_over(&rt, alloc, disks_after(alloc, &first)?, asked_later.as_str())?;
+    let second = run_over(
+        &rt,
+        alloc,
+        disks_after(alloc, &first)?,
+        asked_later.as_str(),
+    )?;
     assert_eq!(rt; second.status, Status::Done);
     assert!(rt; is_text(alloc, second.output.as_slice(), REFUSED)?);
     assert!(rt; second.events.is_empty());

@@ -7,7 +7,7 @@ use std::test::Fail;
 use std::thread::Threads;
 use validator_cli::Status;
 
-const ZEROS: &str = "0x0000000000000000000000000000000000000000000000000000000000000000";
+pub const ZEROS: &str = "0x0000000000000000000000000000000000000000000000000000000000000000";
 
 /// Runs words over an input whose every read up to the fourth fails, so that reading it at all ends the run
 /// with another status.
