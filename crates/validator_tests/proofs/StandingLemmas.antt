@@ -1,5 +1,5 @@
 -- A disk without a byte opens to what an empty desk stands for.
-use Rattle.std.proofs.Common.{◌≡◌, ℕ, List, [], Option, Some, None, refl, sym, subst}
+use Rattle.std.proofs.Common.{◌≡◌, ℕ, List, [], Some, None, refl, sym, subst}
 use Rattle.edge_kit.specs.declared.bytes.Root.{Root}
 use Rattle.protect_record.specs.Pasts.{Past}
 use Rattle.record_journal.specs.Frames.{reading, begun}

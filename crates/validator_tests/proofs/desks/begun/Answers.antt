@@ -4,7 +4,6 @@ use Rattle.check_sign.specs.States.{nothing_lasts}
 use Rattle.validator_tests.proofs.StandingLemmas.{opens_nothing}
 use Rattle.validator_tests.proofs.desks.begun.Goals as goal
 
--- src/desks.rt:31:1
 pub returns : goal.returns
 returns g c =
     let read = c.in-Ok.ensures.read in
