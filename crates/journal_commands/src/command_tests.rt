@@ -5,9 +5,11 @@ use session_run::Status;
 use std::alloc::Global;
 use std::test::Fail;
 
-const FILE: &str = "{\"metadata\":{\"interchange_format_version\":\"5\",\"genesis_validators_root\":\"0x0707070707070707070707070707070707070707070707070707070707070707\"},\"data\":[{\"pubkey\":\"0x0a0a0a0a0a0a0a0a0a0a0a0a0a0a0a0a0a0a0a0a0a0a0a0a0a0a0a0a0a0a0a0a0a0a0a0a0a0a0a0a0a0a0a0a0a0a0a0a\",\"signed_blocks\":[{\"slot\":\"9\"}],\"signed_attestations\":[]}]}";
+const FILE: &str =
+    "{\"metadata\":{\"interchange_format_version\":\"5\",\"genesis_validators_root\":\"0x0707070707070707070707070707070707070707070707070707070707070707\"},\"data\":[{\"pubkey\":\"0x0a0a0a0a0a0a0a0a0a0a0a0a0a0a0a0a0a0a0a0a0a0a0a0a0a0a0a0a0a0a0a0a0a0a0a0a0a0a0a0a0a0a0a0a0a0a0a0a\",\"signed_blocks\":[{\"slot\":\"9\"}],\"signed_attestations\":[]}]}";
 
-const LINE: &str = "0x0a0a0a0a0a0a0a0a0a0a0a0a0a0a0a0a0a0a0a0a0a0a0a0a0a0a0a0a0a0a0a0a0a0a0a0a0a0a0a0a0a0a0a0a0a0a0a0a known blocks 1 votes 0 floor_slot 9 floor_source - floor_target -\n";
+const LINE: &str =
+    "0x0a0a0a0a0a0a0a0a0a0a0a0a0a0a0a0a0a0a0a0a0a0a0a0a0a0a0a0a0a0a0a0a0a0a0a0a0a0a0a0a0a0a0a0a0a0a0a0a known blocks 1 votes 0 floor_slot 9 floor_source - floor_target -\n";
 
 /// Two empty disks.
 fn new_disks(alloc: Global) -> Result<Disks<MemDisk>, Fail> {

@@ -286,7 +286,6 @@ ends_stop h3 (fault.TooLong limit.Input) result rf1 rfm rf2 wf1 wfm wf2 s more r
     closed_as (status.InputTooLong limit.Input) result (too_long_text limit.Input) _ wfm st wl
     (λ closed. stops rf1 rf2 wf1 wf2 (too_long_text limit.Input) (PassesLimit limit.Input) s more (input refl) closed)
     (λ n part. breaks_closing rf1 rf2 wf1 wf2 (too_long_text limit.Input) n s more (inr (inr (inr (limit.Input, refl)))) part)
-
 ends_stop h3 (fault.TooLong limit.File) result rf1 rfm rf2 wf1 wfm wf2 s more rl wl file keys read line input st = absurd (file refl)
 ends_stop h3 (fault.TooLong limit.Keys) result rf1 rfm rf2 wf1 wfm wf2 s more rl wl file keys read line input st = absurd (keys refl)
 

@@ -15,7 +15,7 @@ lines-init g c = record {
   moment = omega arith;
   reads = omega arith;
   writes = omega arith;
-  up = c.requires;
+  up = c.requires.up;
   fares = fares_none g.D.Disk.faults c.args.desk.now;
 }
 
@@ -76,11 +76,11 @@ pub returns-in-Err-Disk-clause-ends : goal.returns-in-Err-Disk-clause-ends
 returns-in-Err-Disk-clause-ends g c =
     let gives = rw c.in-Ok-Line.field-0-is at c.in-Ok-Line.ensures.line in
     let cut = rw c.as_slice.ensures.value at (c.in-Err-Disk.ensures.disk_fault (ap Err c.in-Err-Disk.field-0-is)) in
-    failed_line _ _ _ _ _ cut.2 c.in-Ok-Line.line _ c.close.result c.lines.invariant.so_far gives cut.3 cut.4 c.lines.invariant.up cut.1 (omega (arith, c.lines.invariant.writes, c.in-Err-Disk.ensures.later)) c.close.ensures.closes
+    failed_line _ _ _ _ _ cut.2.0 c.in-Ok-Line.line _ c.close.result c.lines.invariant.so_far gives cut.2.1 cut.2.2 c.lines.invariant.up cut.1 (omega (arith, c.lines.invariant.writes, c.in-Err-Disk.ensures.later)) c.close.ensures.closes
 
 pub returns-in-Err-Disk-serve_last-clause-ends : goal.returns-in-Err-Disk-serve_last-clause-ends
 returns-in-Err-Disk-serve_last-clause-ends g c =
     let gives = rw c.in-Ok-Last.field-0-is at c.in-Ok-Last.ensures.line in
     let end = c.in-Ok-Last.ensures.end (rw c.in-Ok-Last.field-0-is tt) in
     let cut = rw c.as_slice-in-Ok-Last.ensures.value at (c.in-Err-Disk-serve_last.ensures.disk_fault (ap Err c.in-Err-Disk-serve_last.field-0-is)) in
-    failed_last _ _ _ _ _ cut.3 c.in-Ok-Last.line _ c.close-in-Err-Disk-serve_last.result c.lines.invariant.so_far gives end cut.4 cut.2 cut.5 c.lines.invariant.up cut.1 (omega (arith, c.lines.invariant.writes, c.in-Err-Disk-serve_last.ensures.later)) c.close-in-Err-Disk-serve_last.ensures.closes
+    failed_last _ _ _ _ _ cut.3.0 c.in-Ok-Last.line _ c.close-in-Err-Disk-serve_last.result c.lines.invariant.so_far gives end cut.3.1 cut.2 cut.3.2 c.lines.invariant.up cut.1 (omega (arith, c.lines.invariant.writes, c.in-Err-Disk-serve_last.ensures.later)) c.close-in-Err-Disk-serve_last.ensures.closes
