@@ -2,7 +2,7 @@
 use Rattle.std.proofs.Common.{◌≡◌, ℕ, List, [], Some, None, refl, sym, subst}
 use Rattle.edge_kit.specs.declared.bytes.Root.{Root}
 use Rattle.protect_record.specs.Pasts.{Past}
-use Rattle.record_journal.specs.Frames.{reading, begun}
+use Rattle.record_journal.specs.Frames.{reading}
 use Rattle.check_sign.specs.States.{Opens, nothing_lasts}
 
 none_kept : (A : Type 0) (past : Past) → None ≡ Some past → A
