@@ -1,10 +1,12 @@
 //! The events of a run, in words.
 use check_sign::{DeskEvent, Event, Outcome};
-use slash_defs::Message;
+use edge_kit::PubKey;
+use slash_defs::{Book, Message};
 use std::alloc::{AllocError, Global};
 
 /// The events, one on each line, with their moment first. Keys and roots are in hex; of a merged file stands
-/// how many keys it lists, of a pruning how many blocks and votes the record gained.
+/// how many keys it lists, of a pruning how many blocks and votes the record gained, and of a closing how
+/// many were handed over.
 pub fn words_of(alloc: Global, events: &[DeskEvent]) -> Result<String, AllocError> {
     let mut text = String::new(alloc);
     for event in events {
@@ -45,16 +47,25 @@ fn event_words(alloc: Global, event: &Event) -> Result<String, AllocError> {
             grant,
             outcome: Outcome::Dropped,
         } => format!(in alloc; "dropped {}", *grant),
-        Event::Pruned { key, book } => {
+        Event::CloseBegun { key } => {
             let key = hex::encode(alloc, &key.0)?;
-            format!(in alloc;
-                "pruned 0x{} {} {}",
-                key.as_str(),
-                book.blocks.len(),
-                book.votes.len()
-            )
+            format!(in alloc; "close begun 0x{}", key.as_str())
         }
+        Event::Closed { key, book } => book_words(alloc, "closed", key, book),
+        Event::Pruned { key, book } => book_words(alloc, "pruned", key, book),
     }
+}
+
+/// What was done to a key, and how many blocks and votes a book has.
+fn book_words(alloc: Global, done: &str, key: &PubKey, book: &Book) -> Result<String, AllocError> {
+    let key = hex::encode(alloc, &key.0)?;
+    format!(in alloc;
+        "{} 0x{} {} {}",
+        done,
+        key.as_str(),
+        book.blocks.len(),
+        book.votes.len()
+    )
 }
 
 /// A message in words.

@@ -1,7 +1,7 @@
 //! Sessions over an input, an output and a signer that fail.
 use crate::events::words_of;
 use crate::marks::filled;
-use crate::outside::{Ended, Faults, no_faults, ready_signer, run};
+use crate::outside::{Ended, Faults, fresh_disks, no_faults, ready_signer, run};
 use crate::sessions::WORDS;
 use edge_kit::PubKey;
 use signer_link::MemSigner;
@@ -70,7 +70,15 @@ fn run_input<T: Threads + Wait + Sync>(
     faults: Faults,
 ) -> Result<Ended<MemSigner>, AllocError> {
     let input = filled(alloc, INPUT)?;
-    run(rt, alloc, &WORDS, input.as_bytes(), signer, faults)
+    run(
+        rt,
+        alloc,
+        &WORDS,
+        fresh_disks(alloc)?,
+        input.as_bytes(),
+        signer,
+        faults,
+    )
 }
 
 /// The faults of a row.
@@ -161,6 +169,7 @@ fn run_letters<T: Threads + Wait + Sync>(
         rt,
         alloc,
         &WORDS,
+        fresh_disks(alloc)?,
         letters.as_slice(),
         ready_signer(alloc),
         no_faults(alloc),

@@ -4,11 +4,15 @@
 #[cfg(test)]
 mod adapters;
 #[cfg(test)]
+mod desks;
+#[cfg(test)]
 mod events;
 #[cfg(test)]
 mod faults;
 #[cfg(test)]
 mod files;
+#[cfg(test)]
+mod journals;
 #[cfg(test)]
 mod many_keys;
 #[cfg(test)]
@@ -17,6 +21,8 @@ mod marks;
 mod objects;
 #[cfg(test)]
 mod outside;
+#[cfg(test)]
+mod restarts;
 #[cfg(test)]
 mod sessions;
 #[cfg(test)]

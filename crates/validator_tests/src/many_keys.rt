@@ -1,6 +1,6 @@
 //! A session that keeps as many keys as are allowed.
 use crate::marks::filled;
-use crate::outside::{no_faults, ready_signer, run};
+use crate::outside::{fresh_disks, no_faults, ready_signer, run};
 use crate::sessions::WORDS;
 use std::alloc::{AllocError, Global};
 use std::test::Fail;
@@ -42,6 +42,7 @@ fn a_merge_that_passes_65536_keys_is_refused(rt: HostRuntime) -> Result<(), Fail
         &rt,
         alloc,
         &WORDS,
+        fresh_disks(alloc)?,
         input.as_bytes(),
         ready_signer(alloc),
         no_faults(alloc),

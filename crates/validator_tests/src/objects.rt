@@ -1,7 +1,7 @@
 //! Sessions whose requests give the object in place of the signing root.
 use crate::events::words_of;
 use crate::marks::filled;
-use crate::outside::{Ended, KeepingSigner, no_faults, run};
+use crate::outside::{Ended, KeepingSigner, fresh_disks, no_faults, run};
 use edge_kit::Root;
 use phase0_types::{AttestationData, BeaconBlockHeader, Checkpoint, Fork};
 use signer_link::{SignObject, SignRequest};
@@ -51,6 +51,7 @@ fn run_line<T: Threads + Wait + Sync>(
         rt,
         alloc,
         &FORKED,
+        fresh_disks(alloc)?,
         input.as_bytes(),
         signer,
         no_faults(alloc),

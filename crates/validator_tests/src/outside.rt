@@ -66,20 +66,46 @@ pub fn ready_signer(alloc: Global) -> MemSigner {
     MemSigner::new(alloc, lacking, Vec::new(alloc))
 }
 
+/// The disks of a run, the first of these bytes, its calls of these numbers failing; the second is empty.
+pub fn disks_of(
+    alloc: Global,
+    bytes: Vec<u8>,
+    failing: Vec<u64>,
+) -> Result<Disks<MemDisk>, AllocError> {
+    let empty = Vec::new(alloc);
+    Ok(Disks {
+        first: MemDisk::new(alloc, bytes, failing, None)?,
+        second: MemDisk::new(alloc, empty, Vec::new(alloc), None)?,
+    })
+}
+
+/// Empty disks that never fail.
+pub fn fresh_disks(alloc: Global) -> Result<Disks<MemDisk>, AllocError> {
+    disks_of(alloc, Vec::new(alloc), Vec::new(alloc))
+}
+
+/// Disks that never fail, over what a run left.
+pub fn disks_after<S>(alloc: Global, ended: &Ended<S>) -> Result<Disks<MemDisk>, AllocError> {
+    let bytes = ended.disks.first.bytes().to_vec(alloc)?;
+    disks_of(alloc, bytes, Vec::new(alloc))
+}
+
 /// What a run leaves.
 #[derive(Drop)]
 pub struct Ended<S> {
     pub status: Status,
     pub output: Vec<u8>,
+    pub disks: Disks<MemDisk>,
     pub signer: S,
     pub events: Events,
 }
 
-/// Runs the program's words over an input.
+/// Runs the program's words over disks and an input.
 pub fn run<T: Threads + Wait + Sync, S: Signer + Drop>(
     rt: &T,
     alloc: Global,
     words: &[&str],
+    disks: Disks<MemDisk>,
     input: &[u8],
     signer: S,
     faults: Faults,
@@ -100,10 +126,7 @@ pub fn run<T: Threads + Wait + Sync, S: Signer + Drop>(
         rt,
         alloc,
         texts.as_slice(),
-        Disks {
-            first: MemDisk::new(alloc, Vec::new(alloc), Vec::new(alloc), None)?,
-            second: MemDisk::new(alloc, Vec::new(alloc), Vec::new(alloc), None)?,
-        },
+        disks,
         signer,
         nodes,
         Unused,
@@ -114,6 +137,7 @@ pub fn run<T: Threads + Wait + Sync, S: Signer + Drop>(
     Ok(Ended {
         status: ending.status,
         output: sink.into_bytes(),
+        disks: ending.disks,
         signer: ending.signer,
         events: ending.events,
     })

@@ -2,7 +2,7 @@
 use crate::events::words_of;
 use crate::files::FILES;
 use crate::marks::filled;
-use crate::outside::{no_faults, ready_signer, run};
+use crate::outside::{fresh_disks, no_faults, ready_signer, run};
 use crate::signing::SIGNING;
 use std::alloc::{AllocError, Global};
 use std::process::Abort;
@@ -49,6 +49,7 @@ fn play<T: Threads + Wait + Sync>(
         rt,
         alloc,
         &WORDS,
+        fresh_disks(alloc)?,
         input.as_bytes(),
         ready_signer(alloc),
         no_faults(alloc),
@@ -62,7 +63,7 @@ fn play<T: Threads + Wait + Sync>(
 }
 
 /// Whether bytes are a text with marks.
-fn is_text(alloc: Global, bytes: &[u8], marked: &str) -> Result<bool, AllocError> {
+pub fn is_text(alloc: Global, bytes: &[u8], marked: &str) -> Result<bool, AllocError> {
     let text = filled(alloc, marked)?;
     Ok(bytes == text.as_bytes())
 }

@@ -1,5 +1,5 @@
 //! Words of the command line, and what the program says of them.
-use crate::outside::{Ended, Faults, ready_signer, run};
+use crate::outside::{Ended, Faults, fresh_disks, ready_signer, run};
 use signer_link::MemSigner;
 use std::alloc::{AllocError, Global};
 use std::sync::Wait;
@@ -7,7 +7,7 @@ use std::test::Fail;
 use std::thread::Threads;
 use validator_cli::Status;
 
-const ZEROS: &str = "0x0000000000000000000000000000000000000000000000000000000000000000";
+pub const ZEROS: &str = "0x0000000000000000000000000000000000000000000000000000000000000000";
 
 /// Runs words over an input whose every read up to the fourth fails, so that reading it at all ends the run
 /// with another status.
@@ -25,6 +25,7 @@ fn run_words<T: Threads + Wait + Sync>(
         rt,
         alloc,
         words,
+        fresh_disks(alloc)?,
         b"{\"op\":\"export\"}\n",
         ready_signer(alloc),
         faults,

@@ -1,0 +1,7 @@
+-- What the tests at the desk rely on.
+use Rattle.check_sign.specs.Contents.{Contents}
+use Rattle.check_sign.specs.States.{State, DeskStands}
+
+-- the desk stands for a state of the machine
+abbrev pub StandsForOne : Contents → Type 0
+StandsForOne desk = (state : State) × DeskStands desk state
