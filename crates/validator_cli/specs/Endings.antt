@@ -21,6 +21,8 @@ use Rattle.session_run.specs.declared.status.Status.TheVariants as status
 use Rattle.command_line.specs.Plans.{Asked, session, merge, show, shown, nothing}
 use Rattle.command_line.specs.declared.planned.Plan.{Plan}
 use Rattle.command_line.specs.declared.planned.Plan.TheVariants as plan
+use Rattle.journal_commands.specs.Merging.{MergeEnds, View as MergeView}
+use Rattle.journal_commands.specs.Showing.{ShowEnds}
 use Rattle.validator_cli.specs.Unopened.{TellsFault, IsUnwritten}
 
 -- what the objects of a program tell, and how often each failed
@@ -77,6 +79,24 @@ SessionEnds shows moment leaves faults domains disk_before disk_now before now e
     Opened shows moment leaves faults domains disk_before disk_now before now events ended
     ⊎ NotOpened shows moment leaves faults domains.genesis disk_before disk_now before now events ended
 
+-- what a merge has of the objects
+abbrev pub merge_view : Outside → MergeView
+merge_view o = record { left = o.left; held = o.held; reads_failed = o.reads_failed; writes_failed = o.writes_failed }
+
+-- the input was merged into the journal of the disk, or the merge ended otherwise; the signer was not asked
+pub record Merges {D : Type 0} (shows : D → List ℕ → Type 0) (moment : D → ℕ) (leaves : D → ℕ → List ℕ → Type 0) (faults : D → ℕ) (genesis : Root) (disk_before disk_now : D) (before now : Outside) (events : List DeskEvent) (ended : Status) : Type 0 where
+  pub ends : MergeEnds shows moment leaves faults genesis disk_before disk_now (merge_view before) (merge_view now) events ended
+  pub unasked : now.told ≡ before.told
+  pub no_sign_failed : now.signs_failed ≡ before.signs_failed
+
+-- the journal of the disk was shown, or its showing ended otherwise; nothing was read, and the signer was not asked
+pub record Shows {D : Type 0} (shows : D → List ℕ → Type 0) (moment : D → ℕ) (leaves : D → ℕ → List ℕ → Type 0) (faults : D → ℕ) (genesis : Root) (disk_before disk_now : D) (before now : Outside) (events : List DeskEvent) (ended : Status) : Type 0 where
+  pub ends : ShowEnds shows moment leaves faults genesis disk_before disk_now before.held now.held before.writes_failed now.writes_failed events ended
+  pub unread : now.left ≡ before.left
+  pub no_read_failed : now.reads_failed ≡ before.reads_failed
+  pub unasked : now.told ≡ before.told
+  pub no_sign_failed : now.signs_failed ≡ before.signs_failed
+
 -- a text was asked for: nothing is read, asked or done, the disk is the same, and the text is written
 pub record TextShown {D : Type 0} (disk_before disk_now : D) (before now : Outside) (events : List DeskEvent) (ended : Status) : Type 0 where
   pub untouched : IsUntouched before now events
@@ -110,11 +130,11 @@ pub record NotBegun {D : Type 0} (disk_before disk_now : D) (before now : Outsid
   pub none : events ≡ []
   pub is : ended ≡ status.OutOfMemory
 
--- what was asked for was done; no merge and no showing of a journal is done yet
+-- what was asked for was done, or ended as it may
 abbrev pub EndsAs : {D : Type 0} → (D → List ℕ → Type 0) → (D → ℕ) → (D → ℕ → List ℕ → Type 0) → (D → ℕ) → Asked → D → D → Outside → Outside → List DeskEvent → Status → Type 0
 EndsAs shows moment leaves faults (session genesis journal fork) disk_before disk_now before now events s = SessionEnds shows moment leaves faults (record { fork = fork; genesis = genesis }) disk_before disk_now before now events s
-EndsAs shows moment leaves faults (merge genesis journal) disk_before disk_now before now events s = ⊥
-EndsAs shows moment leaves faults (show genesis journal) disk_before disk_now before now events s = ⊥
+EndsAs shows moment leaves faults (merge genesis journal) disk_before disk_now before now events s = Merges shows moment leaves faults genesis disk_before disk_now before now events s
+EndsAs shows moment leaves faults (show genesis journal) disk_before disk_now before now events s = Shows shows moment leaves faults genesis disk_before disk_now before now events s
 EndsAs shows moment leaves faults shown disk_before disk_now before now events s = TextShown disk_before disk_now before now events s
 EndsAs shows moment leaves faults nothing disk_before disk_now before now events s = NoCommand disk_before disk_now before now events s
 
@@ -123,9 +143,21 @@ abbrev pub RunEnds : {D : Type 0} → (D → List ℕ → Type 0) → (D → ℕ
 RunEnds shows moment leaves faults asked disk_before disk_now before now events s =
     EndsAs shows moment leaves faults asked disk_before disk_now before now events s ⊎ NotBegun disk_before disk_now before now events s
 
--- the run ended well, for want of memory, or since the journal could not be opened for what it holds
-abbrev pub IsComplete : Status → Type 0
-IsComplete s = (s ≡ status.Done) ⊎ (s ≡ status.OutOfMemory) ⊎ (s ≡ status.Damaged) ⊎ (s ≡ status.GenesisDiffers) ⊎ (s ≡ status.InputTooLong limit.Keys)
+-- the run ended well, or for want of memory
+abbrev pub IsDone : Status → Type 0
+IsDone s = (s ≡ status.Done) ⊎ (s ≡ status.OutOfMemory)
+
+-- the run ended by what the journal holds
+abbrev pub IsOfJournal : Status → Type 0
+IsOfJournal s = (s ≡ status.Damaged) ⊎ (s ≡ status.GenesisDiffers) ⊎ (s ≡ status.InputTooLong limit.Keys)
+
+-- the run ended well, for want of memory, or by what the journal or the file that is merged holds
+abbrev pub IsComplete : Asked → Status → Type 0
+IsComplete (session genesis journal fork) s = IsDone s ⊎ IsOfJournal s
+IsComplete (merge genesis journal) s = IsDone s ⊎ IsOfJournal s ⊎ (s ≡ status.InputTooLong limit.File) ⊎ (s ≡ status.FileRefused)
+IsComplete (show genesis journal) s = IsDone s ⊎ IsOfJournal s
+IsComplete shown s = IsDone s
+IsComplete nothing s = ⊥
 
 -- the plan is a session's
 abbrev pub IsSession : Plan → Type 0

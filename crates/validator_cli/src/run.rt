@@ -12,6 +12,7 @@ use crate::usage::usage_line;
 use check_sign::{Desk, Events};
 use command_line::{Plan, Usage, plan};
 use edge_kit::{Clock, Disk, Disks, Door, Sink, Source};
+use journal_commands::{run_merge, run_show};
 use session_run::{Status, close, serve_lines};
 use sign_roots::Domains;
 use signer_link::Signer;
@@ -54,7 +55,7 @@ pub fn run_validator<
     ensures disk_fault { result.status ≡ Status.DiskFault → Rose (D.faults disks.first) (D.faults result.disks.first) }
     ensures complete { asked_of (map string_bytes words.now) ≢ nothing → WithinLimits (I.left input.old)
         → ¬ (Rose (I.faults input.old) (I.faults input.new)) → ¬ (Rose (O.faults out.old) (O.faults out.new)) → ¬ (Rose (D.faults disks.first) (D.faults result.disks.first))
-        → IsComplete result.status }
+        → IsComplete (asked_of (map string_bytes words.now)) result.status }
     ensures second { result.disks.second ≡ disks.second }
     ensures nodes { result.nodes ≡ nodes }
     ensures door { result.door ≡ door }
@@ -99,7 +100,7 @@ fn run_words<D: Disk, S: Signer, I: Source, O: Sink>(
     }
 }
 
-/// Does what is planned. No merge and no showing of a journal is done yet: they end for want of memory.
+/// Does what is planned.
 fn run_plan<D: Disk, S: Signer, I: Source, O: Sink>(
     alloc: Global,
     plan: &Plan,
@@ -108,7 +109,7 @@ fn run_plan<D: Disk, S: Signer, I: Source, O: Sink>(
     input: &mut I,
     out: &mut O,
 ) -> (Status, Disks<D>, S, Events)
-    ensures ending { RunEnds D.shows D.moment D.leaves D.faults (taken_as (Ok plan.now)) disks.first result.1.first
+    ensures ending { EndsAs D.shows D.moment D.leaves D.faults (taken_as (Ok plan.now)) disks.first result.1.first
         (record { left = I.left input.old; held = O.held out.old; told = S.told signer; reads_failed = I.faults input.old; writes_failed = O.faults out.old; signs_failed = S.faults signer })
         (record { left = I.left input.new; held = O.held out.new; told = S.told result.2; reads_failed = I.faults input.new; writes_failed = O.faults out.new; signs_failed = S.faults result.2 })
         result.3 result.0 }
@@ -116,8 +117,13 @@ fn run_plan<D: Disk, S: Signer, I: Source, O: Sink>(
 {
     match plan {
         Plan::Session { .. } => run_session(alloc, plan, disks, signer, input, out),
-        Plan::Merge { .. } | Plan::Show { .. } => {
-            (Status::OutOfMemory, disks, signer, Events::new(alloc))
+        Plan::Merge { genesis, .. } => {
+            let (status, disks, events) = run_merge(alloc, *genesis, disks, input, out);
+            (status, disks, signer, events)
+        }
+        Plan::Show { genesis, .. } => {
+            let (status, disks, events) = run_show(alloc, *genesis, disks, out);
+            (status, disks, signer, events)
         }
         Plan::Shown(text) => {
             let status = close(out, Status::Done, text.as_str());
