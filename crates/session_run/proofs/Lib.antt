@@ -3,6 +3,7 @@ pub mod LineLemmas
 pub mod OnceLemmas
 pub mod ActLemmas
 pub mod SafeLemmas
+pub mod DurableLemmas
 pub mod RunLemmas
 pub mod ReadLemmas
 pub mod SessionLemmas

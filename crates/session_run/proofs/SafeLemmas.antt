@@ -48,10 +48,10 @@ none_some b h = cc
 abbrev pub Keeps : State → State → Type 0
 Keeps old new = (q : PubKey) (p : Past) → active_past old q ≡ Some p → (p' : Past) × (active_past new q ≡ Some p') × ((n : Message) → Passes p' n → Passes p n)
 
-abbrev Kept : Type 0
+abbrev pub Kept : Type 0
 Kept = List (PubKey × Past)
 
-abbrev KeepsIn : Kept → Kept → Type 0
+abbrev pub KeepsIn : Kept → Kept → Type 0
 KeepsIn old new = (q : PubKey) (p : Past) → kept_of old q ≡ Some p → (p' : Past) × (kept_of new q ≡ Some p') × ((n : Message) → Passes p' n → Passes p n)
 
 abbrev Found : Kept → PubKey → Past → Type 0
@@ -101,11 +101,11 @@ found_at true e es key x p s h rest = rw s refl
 found_at false e es key x p s h rest = rw s (rest h)
 
 -- what was put at a key is found there
-found_changed : (kept : Kept) (key : PubKey) (x p : Past) → kept_of kept key ≡ Some p → kept_of (with_kept kept key x) key ≡ Some x
+pub found_changed : (kept : Kept) (key : PubKey) (x p : Past) → kept_of kept key ≡ Some p → kept_of (with_kept kept key x) key ≡ Some x
 found_changed [] key x p h = absurd (none_some p h)
 found_changed (e ∷ es) key x p h = found_at (is_at (key_cmp key) e.0) e es key x p refl h (found_changed es key x p)
 
-keeps_all : (kept : Kept) → KeepsIn kept kept
+pub keeps_all : (kept : Kept) → KeepsIn kept kept
 keeps_all kept q p h = (p, h, λ n x. x)
 
 keeps_on : (a b c : Kept) → KeepsIn a b → KeepsIn b c → KeepsIn a c
@@ -116,12 +116,12 @@ keeps_on a b c f g q p h =
 
 -- ---- what each change leaves of the pasts
 
-grown_keeps : (kept : Kept) (key : PubKey) (m : Message) (o : Option Past) → kept_of kept key ≡ o → KeepsIn kept (own_grown_from kept key m o)
+pub grown_keeps : (kept : Kept) (key : PubKey) (m : Message) (o : Option Past) → kept_of kept key ≡ o → KeepsIn kept (own_grown_from kept key m o)
 grown_keeps kept key m None e = keeps_all kept
 grown_keeps kept key m (Some past) e =
     changed kept key (with_own past m) (λ z is n x. let P : Past → Type 0 = λ y. Passes y n in subst P (some_inj past z (sym e ∙ is)) (passes-with_own past m n x))
 
-known_keeps : (kept : Kept) (key : PubKey) (b : Bool) → is_some (kept_of kept key) ≡ b → KeepsIn kept (cond b kept (with_key kept key no_past))
+pub known_keeps : (kept : Kept) (key : PubKey) (b : Bool) → is_some (kept_of kept key) ≡ b → KeepsIn kept (cond b kept (with_key kept key no_past))
 known_keeps kept key true e = keeps_all kept
 known_keeps kept key false e = added kept key no_past (none_if (kept_of kept key) e) where
   none_if : (o : Option Past) → is_some o ≡ false → o ≡ None
@@ -157,17 +157,17 @@ book_lessens : (o : Option Past) (b : Book) → Lessens o (with_book (known_past
 book_lessens None b z e n x = absurd (none_some z e)
 book_lessens (Some p) b z e n x = let P : Past → Type 0 = λ y. Passes y n in subst P (some_inj p z e) (passes-with_book p b n x)
 
-file_keeps : (kept : Kept) (books : List (PubKey × Book)) → KeepsIn kept (with_file kept books)
+pub file_keeps : (kept : Kept) (books : List (PubKey × Book)) → KeepsIn kept (with_file kept books)
 file_keeps kept [] = keeps_all kept
 file_keeps kept (b ∷ bs) =
     keeps_on kept (with_file_book kept b) (with_file kept (b ∷ bs)) (put kept b.0 (with_book (known_past (kept_of kept b.0)) b.1) (book_lessens (kept_of kept b.0) b.1)) (file_keeps (with_file_book kept b) bs)
 
-pruned_keeps : (kept : Kept) (key : PubKey) (o : Option Past) → KeepsIn kept (pruned_keys kept key o)
+pub pruned_keeps : (kept : Kept) (key : PubKey) (o : Option Past) → KeepsIn kept (pruned_keys kept key o)
 pruned_keeps kept key None = keeps_all kept
 pruned_keeps kept key (Some past) = file_keeps kept ((key, pruning_of past) ∷ [])
 
 -- what a call leaves of the pasts
-keeps_call : (state : State) (c : DeskCall) (r : DeskReply) → KeepsIn state.keys (after state c r).keys
+pub keeps_call : (state : State) (c : DeskCall) (r : DeskReply) → KeepsIn state.keys (after state c r).keys
 keeps_call state (call.Merge file) (reply.Merged keys) = file_keeps state.keys file.books
 keeps_call state (call.Activate key now) reply.Active = known_keeps state.keys key (is_some (past_of state key)) refl
 keeps_call state (call.Propose key m now) (reply.Granted grant) = grown_keeps state.keys key m (past_of state key) refl
@@ -289,7 +289,7 @@ carry_at : (place : Place) (ts : List Turn) (x : PubKey × Message) (o : Option 
 carry_at place ts x None later keeps h go = go h
 carry_at place ts x (Some p) later keeps h go = let f = keeps p refl in once_active place ts x f.0 f.1 (λ n passes. h n (f.2 n passes))
 
-some_of : {X : Type 0} (P : X → Type 0) (o : Option X) → IsSomeAnd o P → (x : X) × (o ≡ Some x) × P x
+pub some_of : {X : Type 0} (P : X → Type 0) (o : Option X) → IsSomeAnd o P → (x : X) × (o ≡ Some x) × P x
 some_of P None h = absurd h
 some_of P (Some x) h = (x, refl, h)
 

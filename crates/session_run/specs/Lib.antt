@@ -3,6 +3,7 @@ pub mod Reading
 pub mod Turns
 pub mod Acts
 pub mod Safe
+pub mod Durable
 pub mod Codes
 pub mod Closings
 pub mod Runs

@@ -1,6 +1,7 @@
 //! A session: a request on each line in, an answer on each line out.
 #![tactic(auto)]
 
+mod laws;
 mod lines;
 mod next;
 mod session;
@@ -8,6 +9,7 @@ mod status;
 mod turn;
 mod write;
 
+pub use laws::durable_law;
 pub use lines::Lines;
 pub use next::{Limit, LineFault, Next};
 pub use session::serve_lines;

@@ -1,0 +1,24 @@
+//! What holds of the desk's machine, whatever it is asked.
+ghost use Rattle.std.specs.Prelude.{◌≡◌, ℕ, List};
+ghost use Rattle.edge_kit.specs.declared.bytes.PubKey.{PubKey};
+ghost use Rattle.edge_kit.specs.declared.bytes.Root.{Root};
+ghost use Rattle.slash_defs.specs.declared.message.Message.{Message};
+ghost use Rattle.check_sign.specs.States.{State, Lasting, MayOpen, Opens};
+ghost use Rattle.check_sign.specs.Machine.{Reply, after};
+ghost use Rattle.check_sign.specs.declared.open_grant.OpenGrant.{OpenGrant};
+ghost use Rattle.check_sign.specs.declared.call.DeskCall.{DeskCall};
+ghost use Rattle.check_sign.specs.declared.call.DeskCall.TheVariants as call;
+ghost use Rattle.check_sign.specs.declared.call.DeskReply.{DeskReply};
+ghost use Rattle.check_sign.specs.declared.call.DeskReply.TheVariants as reply;
+ghost use Rattle.session_run.specs.Durable.{CoversKey, IsDurable};
+
+/// A grant is durable. Once a message was granted, the past of its key lets nothing pass that is slashable with
+/// it, and so does what a torn call would have left; no call and no reply changes that; and every file that
+/// may open to such a state opens to a past of the key that covers the message.
+pub fn durable_law()
+    ensures granted { (state : State) (key : PubKey) (m : Message) (now : ℕ) (g : OpenGrant) → Reply state (call.Propose key m now) (reply.Granted g)
+        → IsDurable (after state (call.Propose key m now) (reply.Granted g)) key m }
+    ensures stays { (state : State) (c : DeskCall) (r : DeskReply) (key : PubKey) (m : Message) → IsDurable state key m → IsDurable (after state c r) key m }
+    ensures images { (genesis : Root) (state : State) (key : PubKey) (m : Message) (file : List ℕ) → IsDurable state key m → MayOpen genesis state file
+        → (l : Lasting) × Opens genesis file l × CoversKey l.keys key m }
+{}
