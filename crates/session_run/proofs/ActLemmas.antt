@@ -131,7 +131,7 @@ done_nothing bytes (Err e) domains o moment pair fault is h = tt
 
 -- ---- a line
 
-same_keys : {X Y : Type 0} (R : X → Y → Type 0) (xs : List (PubKey × X)) (ys : List (PubKey × Y)) → EachKey R xs ys → keys_of xs ≡ keys_of ys
+pub same_keys : {X Y : Type 0} (R : X → Y → Type 0) (xs : List (PubKey × X)) (ys : List (PubKey × Y)) → EachKey R xs ys → keys_of xs ≡ keys_of ys
 same_keys R [] [] h = refl
 same_keys R [] (y ∷ ys) h = absurd h
 same_keys R (x ∷ xs) [] h = absurd h
@@ -213,3 +213,8 @@ ok_unanswered domains moment read q before now at is u at_is =
     let D : ℕ → Type 0 = λ n. LeftUndone domains q.op n before now in
     let P : Result Request Member → Type 0 = λ x. Unanswered domains moment x before now in
     subst P (sym is) (unanswered domains moment q before now (subst D at_is u))
+
+-- the same, where an answer did not come
+pub unanswered_at : {T E A : Type 0} (result : Result T E) → A → OnErr result A
+unanswered_at (Ok text) h = tt
+unanswered_at (Err e) h = h

@@ -1,5 +1,5 @@
 -- How a desk with its disks fares through calls.
-use Rattle.std.proofs.Common.{◌≡◌, ℕ, ◌≤◌, List, Option, Some, None, true, false, refl, sym, ◌∙◌, arith}
+use Rattle.std.proofs.Common.{◌≡◌, ℕ, ◌≤◌, List, Option, Some, None, true, false, refl, ◌∙◌, arith}
 use Rattle.std.specs.Prelude.{IsSome}
 use Rattle.edge_kit.specs.Causes.{Rose}
 use Rattle.check_sign.specs.Contents.{Seen}

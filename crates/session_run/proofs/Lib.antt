@@ -8,3 +8,4 @@ pub mod RunLemmas
 pub mod ReadLemmas
 pub mod SessionLemmas
 pub mod LimitLemmas
+pub mod ImageLemmas

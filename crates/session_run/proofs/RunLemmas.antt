@@ -31,18 +31,18 @@ moment_is : (place : Place) (ts : List Turn) → (place_after place ts).moment �
 moment_is place [] = refl
 moment_is place (t ∷ ts) = moment_is (place_of place (t.request) t.reply t.signing) ts ∙ ap (λ n. moment_after n ts) (place_moment place (t.request) t.reply t.signing)
 
-place_is : (place : Place) (ts : List Turn) → record { desk = (place_after place ts).desk; moment = moment_after place.moment ts } ≡ place_after place ts
+pub place_is : (place : Place) (ts : List Turn) → record { desk = (place_after place ts).desk; moment = moment_after place.moment ts } ≡ place_after place ts
 place_is place ts = ap (λ n. record { desk = (place_after place ts).desk; moment = n }) (sym (moment_is place ts))
 
 pub moment_then : (moment : ℕ) (ts us : List Turn) → moment_after moment (ts ++ us) ≡ moment_after (moment_after moment ts) us
 moment_then moment [] us = refl
 moment_then moment (t ∷ ts) us = moment_then (moment_by moment (t.request)) ts us
 
-can_then : (place : Place) (ts us : List Turn) → CanRun place ts → CanRun (place_after place ts) us → CanRun place (ts ++ us)
+pub can_then : (place : Place) (ts us : List Turn) → CanRun place ts → CanRun (place_after place ts) us → CanRun place (ts ++ us)
 can_then place [] us p q = q
 can_then place (t ∷ ts) us p q = (p.0, can_then (place_of place (t.request) t.reply t.signing) ts us p.1 q)
 
-after_then : (place : Place) (ts us : List Turn) → place_after place (ts ++ us) ≡ place_after (place_after place ts) us
+pub after_then : (place : Place) (ts us : List Turn) → place_after place (ts ++ us) ≡ place_after (place_after place ts) us
 after_then place [] us = refl
 after_then place (t ∷ ts) us = after_then (place_of place (t.request) t.reply t.signing) ts us
 
@@ -67,7 +67,7 @@ ran_none domains moment pair = record {
 }
 
 -- the requests of one run after another
-asks_then : (domains : Domains) (ts us : List Turn) → AskAsWritten domains ts → AskAsWritten domains us → AskAsWritten domains (ts ++ us)
+pub asks_then : (domains : Domains) (ts us : List Turn) → AskAsWritten domains ts → AskAsWritten domains us → AskAsWritten domains (ts ++ us)
 asks_then domains ts us p q =
     map-append (λ (t : Turn). t.request) ts us ∙ ap (λ l. l ++ map (λ (t : Turn). t.request) us) p ∙ ap (λ l. map (λ (t : Turn). request_of domains t.line) ts ++ l) q
     ∙ sym (map-append (λ (t : Turn). request_of domains t.line) ts us)

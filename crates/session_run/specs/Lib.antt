@@ -7,3 +7,4 @@ pub mod Durable
 pub mod Codes
 pub mod Closings
 pub mod Runs
+pub mod Images

@@ -10,7 +10,8 @@ ghost use Rattle.session_format.specs.Requests.{request_of};
 ghost use Rattle.session_format.specs.Answers.{answer_text};
 ghost use Rattle.session_run.specs.Turns.{Turn, answer_of, moment_by, moment_after, line_of};
 ghost use Rattle.session_run.specs.Acts.{DeskFares, ListsOnce, Turned, Unanswered};
-ghost use Rattle.session_run.specs.Runs.{Ends, HasServed, IsUpAt, CutShort, StopsAs, WithinLimits, last_lines, too_long_text};
+ghost use Rattle.session_run.specs.Images.{Leaves, OpensAfterLines, OpensByLast, OpensByLine};
+ghost use Rattle.session_run.specs.Runs.{Ends, HasServed, IsUpAt, CutShort, ReadsFirst, StopsAs, WithinLimits, last_lines, too_long_text};
 ghost use Rattle.session_run.specs.declared.next.Limit.{Limit};
 
 use crate::lines::Lines;
@@ -57,6 +58,8 @@ pub fn serve_lines<D: Disk, S: Signer, I: Source, O: Sink>(
     ensures up { IsUpAt result → desk.new.contents.torn ≡ None }
     ensures disk_fault { result ≡ Status.DiskFault → Rose (D.faults desk.old.disk) (D.faults desk.new.disk) }
     ensures fares { DeskFares D.faults desk.old desk.new }
+    // A crash at any moment leaves a file that opens to what lasts after some of the lines, the first of what was read.
+    ensures moments { Leaves D.moment D.leaves (OpensAfterLines domains.now 0 desk.old.contents.genesis (ReadsFirst (I.left input.old) (I.left input.new))) desk.old desk.new }
     ensures within { WithinLimits (I.left input.old) → (l : Limit) → result ≢ Status.InputTooLong l }
 {
     run_lines(alloc, domains, desk, signer, input, out)
@@ -79,6 +82,7 @@ fn run_lines<D: Disk, S: Signer, I: Source, O: Sink>(
     ensures up { IsUpAt result → desk.new.contents.torn ≡ None }
     ensures disk_fault { result ≡ Status.DiskFault → Rose (D.faults desk.old.disk) (D.faults desk.new.disk) }
     ensures fares { DeskFares D.faults desk.old desk.new }
+    ensures moments { Leaves D.moment D.leaves (OpensAfterLines domains.now 0 desk.old.contents.genesis (ReadsFirst (I.left input.old) (I.left input.new))) desk.old desk.new }
 {
     let Ok(mut lines) = Lines::new(alloc) else {
         return Status::OutOfMemory;
@@ -157,6 +161,7 @@ fn serve_last<D: Disk, S: Signer, O: Sink>(
         × ((t : Turn) × (t.line ≡ line.now)
         × HasServed domains.now latest (t ∷ []) (record { desk = desk.old.contents; told = S.told signer.old; faults = S.faults signer.old }) (record { desk = desk.new.contents; told = S.told signer.new; faults = S.faults signer.new }) (O.held out.old) (O.held out.new)) }
     ensures fares { DeskFares D.faults desk.old desk.new }
+    ensures moments { Leaves D.moment D.leaves (OpensByLast desk.old.contents.genesis latest (request_of domains.now line.now) line.now) desk.old desk.new }
     ensures later { O.faults out.old ≤ O.faults out.new }
 {
     if line.is_empty() {
@@ -192,6 +197,7 @@ fn serve_line<D: Disk, S: Signer, O: Sink>(
         × ((t : Turn) × (t.line ≡ line.now)
         × HasServed domains.now latest (t ∷ []) (record { desk = desk.old.contents; told = S.told signer.old; faults = S.faults signer.old }) (record { desk = desk.new.contents; told = S.told signer.new; faults = S.faults signer.new }) (O.held out.old) (O.held out.new)) }
     ensures fares { DeskFares D.faults desk.old desk.new }
+    ensures moments { Leaves D.moment D.leaves (OpensByLine desk.old.contents.genesis latest (request_of domains.now line.now)) desk.old desk.new }
     ensures later { O.faults out.old ≤ O.faults out.new }
 {
     let Ok(read) = read_request(alloc, domains, line) else {
@@ -225,6 +231,7 @@ fn answer_line<D: Disk, S: Signer>(
     ensures limit { IfOk result (λ x. x.1 ≤ moment_limit) }
     ensures undone { OnErr result (Unanswered domains.now latest read (record { desk = desk.old.contents; told = S.told signer.old; faults = S.faults signer.old }) (record { desk = desk.new.contents; told = S.told signer.new; faults = S.faults signer.new })) }
     ensures fares { DeskFares D.faults desk.old desk.new }
+    ensures moments { Leaves D.moment D.leaves (OpensByLine desk.old.contents.genesis latest read) desk.old desk.new }
 {
     match read {
         Err(member) => {

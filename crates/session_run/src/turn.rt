@@ -1,14 +1,16 @@
 //! One request at the desk and the signer.
 ghost use Rattle.std.specs.Prelude.{◌≡◌, ◌≤◌, IfOk, OnErr, Contains, IsSome, string_bytes};
 ghost use Rattle.std.specs.Map.{keys_of};
+ghost use Rattle.check_sign.specs.States.{MayOpen};
 ghost use Rattle.check_sign.specs.Machine.{MayCall, moment_limit};
 ghost use Rattle.check_sign.specs.declared.call.DeskReply.{DeskReply};
 ghost use Rattle.check_sign.specs.declared.call.Outcome.TheVariants.{Dropped};
 ghost use Rattle.signer_link.specs.InMemory.{root_of};
 ghost use Rattle.signer_link.specs.declared.signer.SignReply.{SignReply};
 ghost use Rattle.session_format.specs.Answers.{answer_text};
-ghost use Rattle.session_run.specs.Turns.{IsAnswered, object_of, outcome_of, reply_answer, signed_answer};
+ghost use Rattle.session_run.specs.Turns.{IsAnswered, call_of, object_of, outcome_of, reply_answer, signed_answer};
 ghost use Rattle.session_run.specs.Acts.{Acts, DeskFares, CallsFor, Did, IsGiven, LeftUndone, ListsOnce, Signs};
+ghost use Rattle.session_run.specs.Images.{Leaves, OpensByAny, OpensByCall};
 
 use check_sign::{Desk, DeskCall, DeskReply, Grant, Outcome};
 use edge_kit::{Disk, Root};
@@ -34,6 +36,8 @@ pub fn act<D: Disk, S: Signer>(
     ensures done { IfOk result (λ text. Did domains.now op now (record { desk = desk.old.contents; told = S.told signer.old; faults = S.faults signer.old }) (record { desk = desk.new.contents; told = S.told signer.new; faults = S.faults signer.new }) (string_bytes text)) }
     ensures undone { OnErr result (LeftUndone domains.now op now (record { desk = desk.old.contents; told = S.told signer.old; faults = S.faults signer.old }) (record { desk = desk.new.contents; told = S.told signer.new; faults = S.faults signer.new })) }
     ensures fares { DeskFares D.faults desk.old desk.new }
+    // A crash at any moment leaves a file that opens to what lasts before the desk's call or after it.
+    ensures moments { Leaves D.moment D.leaves (OpensByAny desk.old.contents.genesis (call_of (keys_of desk.old.contents.keys) op now)) desk.old desk.new }
 {
     let request = SignRequest {
         fork: domains.fork,
@@ -93,6 +97,7 @@ fn call_for<D: Disk>(
 }
 
 /// Calls the desk, and under the grant that it gives, if any, the signer.
+#[tactic(auto, using(crate::proofs::ImageLemmas::called))]
 fn call_desk<D: Disk, S: Signer>(
     alloc: Global,
     request: &SignRequest,
@@ -107,6 +112,7 @@ fn call_desk<D: Disk, S: Signer>(
     ensures undone { OnErr result ((r : DeskReply) × (s : SignReply)
         × Acts request.now (record { desk = desk.old.contents; told = S.told signer.old; faults = S.faults signer.old }) (record { desk = desk.new.contents; told = S.told signer.new; faults = S.faults signer.new }) call r s Dropped) }
     ensures fares { DeskFares D.faults desk.old desk.new }
+    ensures moments { Leaves D.moment D.leaves (OpensByCall desk.old.contents.genesis call) desk.old desk.new }
 {
     match desk.call(call) {
         DeskReply::Granted(grant) => sign(alloc, request, desk, signer, grant),
@@ -151,6 +157,7 @@ fn sign<D: Disk, S: Signer>(
     ensures undone { OnErr result ((s : SignReply)
         × Signs request.now (record { desk = desk.old.contents; told = S.told signer.old; faults = S.faults signer.old }) (record { desk = desk.new.contents; told = S.told signer.new; faults = S.faults signer.new }) grant s Dropped) }
     ensures fares { DeskFares D.faults desk.old desk.new }
+    ensures moments { Leaves D.moment D.leaves (MayOpen desk.old.contents.genesis) desk.old desk.new }
 {
     let reply = signer.sign(request, &grant);
     let message = grant.what().copied();

@@ -1,6 +1,7 @@
 use Rattle.std.proofs.Common.{rules}
 use Rattle.session_run.proofs.RunLemmas.{bad_answered}
-use Rattle.session_run.proofs.ActLemmas.{ok_answered}
+use Rattle.session_run.proofs.ActLemmas.{ok_answered, ok_unanswered, unanswered_at}
+use Rattle.session_run.proofs.ImageLemmas.{asked_files}
 use Rattle.session_run.proofs.session.answer_line.Goals as goal
 
 pub returns-in_ok-text-in-Err-clause-done : goal.returns-in_ok-text-in-Err-clause-done
@@ -8,3 +9,13 @@ returns-in_ok-text-in-Err-clause-done g c = bad_answered c.args.domains.now c.ar
 
 pub returns-in_ok-text-in-Ok-clause-done : goal.returns-in_ok-text-in-Ok-clause-done
 returns-in_ok-text-in-Ok-clause-done g c = ok_answered c.args.domains.now c.args.latest c.args.read c.in-Ok.request _ _ c.max-now.result _ c.in-Ok.is c.in_ok-text-in-Ok.ensures.done (search rules)
+
+pub returns-in_ok-text-in-Ok-clause-moments : goal.returns-in_ok-text-in-Ok-clause-moments
+returns-in_ok-text-in-Ok-clause-moments g c = asked_files g.D.Disk.moment g.D.Disk.leaves _ _ c.args.latest c.args.read c.in-Ok.request c.max-now.result c.in-Ok.is (search rules) c.in_ok-text-in-Ok.ensures.moments
+
+pub returns-in_err-text-in-Ok-clause-moments : goal.returns-in_err-text-in-Ok-clause-moments
+returns-in_err-text-in-Ok-clause-moments g c = asked_files g.D.Disk.moment g.D.Disk.leaves _ _ c.args.latest c.args.read c.in-Ok.request c.max-now.result c.in-Ok.is (search rules) c.in_err-text-in-Ok.ensures.moments
+
+pub returns-in_err-text-in-Ok-clause-undone : goal.returns-in_err-text-in-Ok-clause-undone
+returns-in_err-text-in-Ok-clause-undone g c =
+    unanswered_at _ (ok_unanswered c.args.domains.now c.args.latest c.args.read c.in-Ok.request _ _ c.max-now.result c.in-Ok.is c.in_err-text-in-Ok.ensures.undone (search rules))

@@ -1,7 +1,9 @@
-use Rattle.std.proofs.Common.{Err, ◌∙◌, ap, arith}
+use Rattle.std.proofs.Common.{Err, ◌∙◌, ap, arith, refl}
 use Rattle.session_run.specs.Runs.{last_lines}
 use Rattle.session_run.proofs.SessionLemmas.{so_far_none, so_far_line, session_done, breaks_line, breaks_last, leaves_line, leaves_last, leaves_begin, rose_back, ends_stop, counted, failed_line, failed_last}
 use Rattle.session_run.proofs.FareLemmas.{fares_none, fares_on}
+use Rattle.session_run.proofs.ImageLemmas.{files_none, files_known, files_on, files_line, files_last}
+use Rattle.edge_kit.proofs.TellingLemmas.{Consumes-nil}
 use Rattle.session_run.proofs.session.run_lines.Goals as goal
 
 pub returns-in_default-clause-ends : goal.returns-in_default-clause-ends
@@ -17,6 +19,7 @@ lines-init g c = record {
   writes = omega arith;
   up = c.requires.up;
   fares = fares_none g.D.Disk.faults c.args.desk.now;
+  moments = files_none g.D.Disk.moment g.D.Disk.leaves _ _ c.args.desk.now (Consumes-nil _);
 }
 
 pub returns-in-Err-Memory-clause-ends : goal.returns-in-Err-Memory-clause-ends
@@ -70,6 +73,8 @@ lines-preserved g c =
       writes = omega (arith, c.lines.invariant.writes, c.in-Ok-serve_line.ensures.later);
       up = c.in-Ok-serve_line.ensures.up;
       fares = fares_on g.D.Disk.faults _ _ _ c.lines.invariant.fares c.in-Ok-serve_line.ensures.fares;
+      moments = files_line g.D.Disk.moment g.D.Disk.leaves _ _ _ _ c.in-Ok-Line.line c.lines.invariant.so_far refl refl c.lines.invariant.fares.genesis gives c.lines.invariant.moments
+          (rw c.as_slice.ensures.value at c.in-Ok-serve_line.ensures.moments);
     }
 
 pub returns-in-Err-Disk-clause-ends : goal.returns-in-Err-Disk-clause-ends
@@ -84,3 +89,51 @@ returns-in-Err-Disk-serve_last-clause-ends g c =
     let end = c.in-Ok-Last.ensures.end (rw c.in-Ok-Last.field-0-is tt) in
     let cut = rw c.as_slice-in-Ok-Last.ensures.value at (c.in-Err-Disk-serve_last.ensures.disk_fault (ap Err c.in-Err-Disk-serve_last.field-0-is)) in
     failed_last _ _ _ _ _ cut.3.0 c.in-Ok-Last.line _ c.close-in-Err-Disk-serve_last.result c.lines.invariant.so_far gives end cut.3.1 cut.2 cut.3.2 c.lines.invariant.up cut.1 (omega (arith, c.lines.invariant.writes, c.in-Err-Disk-serve_last.ensures.later)) c.close-in-Err-Disk-serve_last.ensures.closes
+
+pub returns-in_default-clause-moments : goal.returns-in_default-clause-moments
+returns-in_default-clause-moments g c = files_known g.D.Disk.moment g.D.Disk.leaves c.args.domains.now _ _ c.args.desk.now c.args.desk.now (files_none g.D.Disk.moment g.D.Disk.leaves c.args.domains.now _ c.args.desk.now (Consumes-nil _))
+
+pub returns-in-Err-Memory-clause-moments : goal.returns-in-Err-Memory-clause-moments
+returns-in-Err-Memory-clause-moments g c =
+    let gives = rw c.in-Ok-Line.field-0-is at c.in-Ok-Line.ensures.line in
+    files_known g.D.Disk.moment g.D.Disk.leaves _ _ _ _ _ (files_line g.D.Disk.moment g.D.Disk.leaves _ _ _ _ c.in-Ok-Line.line c.lines.invariant.so_far refl refl c.lines.invariant.fares.genesis gives c.lines.invariant.moments
+    (rw c.as_slice.ensures.value at c.in-Err-Memory.ensures.moments))
+
+pub returns-in-Err-Write-clause-moments : goal.returns-in-Err-Write-clause-moments
+returns-in-Err-Write-clause-moments g c =
+    let gives = rw c.in-Ok-Line.field-0-is at c.in-Ok-Line.ensures.line in
+    files_known g.D.Disk.moment g.D.Disk.leaves _ _ _ _ _ (files_line g.D.Disk.moment g.D.Disk.leaves _ _ _ _ c.in-Ok-Line.line c.lines.invariant.so_far refl refl c.lines.invariant.fares.genesis gives c.lines.invariant.moments
+    (rw c.as_slice.ensures.value at c.in-Err-Write.ensures.moments))
+
+pub returns-in-Err-Disk-clause-moments : goal.returns-in-Err-Disk-clause-moments
+returns-in-Err-Disk-clause-moments g c =
+    let gives = rw c.in-Ok-Line.field-0-is at c.in-Ok-Line.ensures.line in
+    files_known g.D.Disk.moment g.D.Disk.leaves _ _ _ _ _ (files_line g.D.Disk.moment g.D.Disk.leaves _ _ _ _ c.in-Ok-Line.line c.lines.invariant.so_far refl refl c.lines.invariant.fares.genesis gives c.lines.invariant.moments
+    (rw c.as_slice.ensures.value at c.in-Err-Disk.ensures.moments))
+
+pub returns-in-Ok-serve_last-clause-moments : goal.returns-in-Ok-serve_last-clause-moments
+returns-in-Ok-serve_last-clause-moments g c =
+    let gives = rw c.in-Ok-Last.field-0-is at c.in-Ok-Last.ensures.line in
+    files_last g.D.Disk.moment g.D.Disk.leaves _ _ _ _ c.in-Ok-Last.line c.lines.invariant.so_far refl refl c.lines.invariant.fares.genesis gives (c.in-Ok-Last.ensures.end (rw c.in-Ok-Last.field-0-is tt)) c.lines.invariant.moments
+    (rw c.as_slice-in-Ok-Last.ensures.value at c.in-Ok-serve_last.ensures.moments)
+
+pub returns-in-Err-Memory-serve_last-clause-moments : goal.returns-in-Err-Memory-serve_last-clause-moments
+returns-in-Err-Memory-serve_last-clause-moments g c =
+    let gives = rw c.in-Ok-Last.field-0-is at c.in-Ok-Last.ensures.line in
+    files_last g.D.Disk.moment g.D.Disk.leaves _ _ _ _ c.in-Ok-Last.line c.lines.invariant.so_far refl refl c.lines.invariant.fares.genesis gives (c.in-Ok-Last.ensures.end (rw c.in-Ok-Last.field-0-is tt)) c.lines.invariant.moments
+    (rw c.as_slice-in-Ok-Last.ensures.value at c.in-Err-Memory-serve_last.ensures.moments)
+
+pub returns-in-Err-Write-serve_last-clause-moments : goal.returns-in-Err-Write-serve_last-clause-moments
+returns-in-Err-Write-serve_last-clause-moments g c =
+    let gives = rw c.in-Ok-Last.field-0-is at c.in-Ok-Last.ensures.line in
+    files_last g.D.Disk.moment g.D.Disk.leaves _ _ _ _ c.in-Ok-Last.line c.lines.invariant.so_far refl refl c.lines.invariant.fares.genesis gives (c.in-Ok-Last.ensures.end (rw c.in-Ok-Last.field-0-is tt)) c.lines.invariant.moments
+    (rw c.as_slice-in-Ok-Last.ensures.value at c.in-Err-Write-serve_last.ensures.moments)
+
+pub returns-in-Err-Disk-serve_last-clause-moments : goal.returns-in-Err-Disk-serve_last-clause-moments
+returns-in-Err-Disk-serve_last-clause-moments g c =
+    let gives = rw c.in-Ok-Last.field-0-is at c.in-Ok-Last.ensures.line in
+    files_last g.D.Disk.moment g.D.Disk.leaves _ _ _ _ c.in-Ok-Last.line c.lines.invariant.so_far refl refl c.lines.invariant.fares.genesis gives (c.in-Ok-Last.ensures.end (rw c.in-Ok-Last.field-0-is tt)) c.lines.invariant.moments
+    (rw c.as_slice-in-Ok-Last.ensures.value at c.in-Err-Disk-serve_last.ensures.moments)
+
+pub returns-in-Err-clause-moments : goal.returns-in-Err-clause-moments
+returns-in-Err-clause-moments g c = files_known g.D.Disk.moment g.D.Disk.leaves _ _ _ _ _ (files_on g.D.Disk.moment g.D.Disk.leaves _ _ _ _ c.in-Err.ensures.stays.more _ _ c.in-Err.ensures.stays.taken c.lines.invariant.moments)

@@ -2,6 +2,7 @@ use Rattle.std.proofs.Common.{◌≡◌, ◌+◌, ◌≤◌, ◌<◌, None, leng
 use Rattle.check_sign.specs.Machine.{moment_limit}
 use Rattle.session_run.specs.Lines.{input_limit}
 use Rattle.session_run.specs.Acts.{DeskFares}
+use Rattle.session_run.specs.Images.{Leaves, OpensAfterLines, BeginsWith}
 use Rattle.session_run.specs.Runs.{SoFar}
 use Rattle.session_run.proofs.session.run_lines.Given as goal
 
@@ -17,4 +18,5 @@ invariant-lines g l = record {
   writes : g.O.Sink.faults l.fn.out ≤ g.O.Sink.faults l.out;
   up : l.desk.contents.torn ≡ None;
   fares : DeskFares g.D.Disk.faults l.fn.desk l.desk;
+  moments : Leaves g.D.Disk.moment g.D.Disk.leaves (OpensAfterLines l.domains 0 l.fn.desk.contents.genesis (BeginsWith (g.I.Source.left l.fn.input) (g.I.Source.left l.input))) l.fn.desk l.desk;
 }
