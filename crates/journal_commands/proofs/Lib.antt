@@ -1,4 +1,5 @@
 pub mod PieceLemmas
+pub mod ImageLemmas
 pub mod WholeLemmas
 pub mod ClosingLemmas
 pub mod MergeLemmas

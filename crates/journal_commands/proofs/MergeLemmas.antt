@@ -1,12 +1,13 @@
 -- How a merge ends, by what was met.
-use Rattle.std.proofs.Common.{◌≡◌, ℕ, List, None, Ok, Err, length, refl, sym, subst, inl, inr}
-use Rattle.std.specs.Io.KnownBytes.{Appends, Keeps}
+use Rattle.std.proofs.Common.{◌≡◌, ℕ, List, Option, None, Err, length, refl, sym, subst, ⊎_elim, inl, inr}
+use Rattle.std.specs.Io.KnownBytes.{Appends}
 use Rattle.edge_kit.specs.Causes.{Rose}
 use Rattle.edge_kit.specs.declared.bytes.Root.{Root}
 use Rattle.slash_defs.specs.declared.book.File.{File}
 use Rattle.interchange_io.specs.Reading.{file_of, file_limit}
 use Rattle.interchange_io.specs.declared.fault.ReadFault.{ReadFault}
-use Rattle.check_sign.specs.Contents.{Contents}
+use Rattle.check_sign.specs.Contents.{Contents, Seen}
+use Rattle.check_sign.specs.declared.call.DeskCall.TheVariants as call
 use Rattle.check_sign.specs.declared.call.DeskReply.{DeskReply}
 use Rattle.check_sign.specs.declared.call.DeskReply.TheVariants as reply
 use Rattle.check_sign.specs.declared.event.DeskEvent.{DeskEvent}
@@ -16,12 +17,14 @@ use Rattle.session_format.specs.declared.closing.FileRefusal.TheVariants as refu
 use Rattle.session_run.specs.declared.next.Limit.TheVariants as limit
 use Rattle.session_run.specs.declared.status.Status.{Status}
 use Rattle.session_run.specs.declared.status.Status.TheVariants as status
-use Rattle.journal_commands.specs.Unopened.{ClosesBy}
+use Rattle.journal_commands.specs.Images.{Leaves, OpensByCall}
+use Rattle.journal_commands.specs.Unopened.{ClosesBy, IsUnwritten}
 use Rattle.journal_commands.specs.Whole.{WholeStops}
 use Rattle.journal_commands.specs.declared.whole.WholeFault.{WholeFault}
 use Rattle.journal_commands.specs.declared.whole.WholeFault.TheVariants as whole_fault
-use Rattle.journal_commands.specs.Merging.{View, ReadsAll, Merges, Replies, DeskMergeEnds, MergeEnds, FileCloses, FaultCloses, ReplyCloses, merged_text, read_fault_text}
+use Rattle.journal_commands.specs.Merging.{View, ReadsAll, ReadsFile, Merges, Replies, DeskMergeEnds, MergeEnds, FileCloses, FaultCloses, OpensByMerge, ReplyCloses, merged_text, read_fault_text}
 use Rattle.journal_commands.proofs.ClosingLemmas.{closed_by, closed_as, disk_unopened, write_unopened, read_unopened}
+use Rattle.journal_commands.proofs.ImageLemmas.{still, weaker}
 
 -- the input was not read to its end
 pub unread_ends : (f : WholeFault) (vb vn : View) (d1 d2 : ℕ) (b : Contents) (result : Status) → WholeStops f file_limit vb.left vn.left vb.reads_failed vn.reads_failed
@@ -31,7 +34,7 @@ unread_ends whole_fault.Read vb vn d1 d2 b result stops closes =
 unread_ends whole_fault.TooLong vb vn d1 d2 b result stops closes =
     closed_by (DeskMergeEnds vb vn d1 d2 b b) (status.InputTooLong limit.File) result (closing_text (closing.TooLong file_limit)) vb.held vn.held vb.writes_failed vn.writes_failed closes
     (λ text. (stops, refl, text)) (λ r. r) (λ k. k)
-unread_ends whole_fault.OutOfMemory vb vn d1 d2 b result stops closes = subst (DeskMergeEnds vb vn d1 d2 b b) (sym closes.0) closes.1
+unread_ends whole_fault.OutOfMemory vb vn d1 d2 b result stops closes = subst (DeskMergeEnds vb vn d1 d2 b b) (sym closes.0) (closes.1, closes.2)
 
 -- the bytes are no file
 pub refused_ends : (vb vn : View) (d1 d2 : ℕ) (b : Contents) (result : Status) (bytes : List ℕ) (fault : ReadFault) → ReadsAll vb.left vn.left bytes → file_of bytes ≡ Err fault
@@ -44,12 +47,12 @@ refused_ends vb vn d1 d2 b result bytes fault reads is closes =
 counted : (file : File) (keys : ℕ) (b e : Contents) → Merges file (reply.Merged keys) b e → Merges file (reply.Merged (length file.books)) b e
 counted file keys b e m = record { machine = λ state stands. (((m.machine state stands).0.0, refl), (m.machine state stands).1); noted_is = m.noted_is }
 
-module _ (vb vn : View) (d1 d2 : ℕ) (b e : Contents) (result : Status) (bytes : List ℕ) (file : File) (reads : ReadsAll vb.left vn.left bytes) (is : file_of bytes ≡ Ok file) where
+module _ (vb vn : View) (d1 d2 : ℕ) (b e : Contents) (result : Status) (file : File) (reads : ReadsFile vb.left vn.left file) where
   abbrev replies : (r : File → DeskReply) → Merges file (r file) b e → Replies vb.left vn.left b e r
-  replies r m = record { bytes = bytes; read = reads; file = file; is_file = is; merges = m }
+  replies r m = record { file = file; read = reads; merges = m }
 
-  by_memory : (result ≡ status.OutOfMemory) × Keeps vb.held vn.held → DeskMergeEnds vb vn d1 d2 b e result
-  by_memory c = subst (DeskMergeEnds vb vn d1 d2 b e) (sym c.0) c.1
+  by_memory : IsUnwritten vb.held vn.held vb.writes_failed vn.writes_failed result → DeskMergeEnds vb vn d1 d2 b e result
+  by_memory c = subst (DeskMergeEnds vb vn d1 d2 b e) (sym c.0) (c.1, c.2)
 
   by_text : (st : Status) (text : List ℕ) → ClosesBy st text vb.held vn.held vb.writes_failed vn.writes_failed result → (Appends vb.held vn.held text → DeskMergeEnds vb vn d1 d2 b e st) → DeskMergeEnds vb vn d1 d2 b e result
   by_text st text c whole = closed_by (DeskMergeEnds vb vn d1 d2 b e) st result text vb.held vn.held vb.writes_failed vn.writes_failed c whole (λ r. r) (λ k. k)
@@ -86,6 +89,16 @@ module _ (vb vn : View) (d1 d2 : ℕ) (b e : Contents) (result : Status) (bytes 
   pub file_ends : b.torn ≡ None → FileCloses file b e d1 d2 vb.held vn.held vb.writes_failed vn.writes_failed result → DeskMergeEnds vb vn d1 d2 b e result
   file_ends up c = by_reply c.reply_is c.merges (λ q. c.rose q up) c.closed
 
+-- the file that the input is was merged
+pub merged_files : {D : Type 0} (moment : D → ℕ) (leaves : D → ℕ → List ℕ → Type 0) (old new : Seen D) (l1 l2 : Option (List ℕ)) (file : File) → ReadsFile l1 l2 file
+    → Leaves moment leaves (OpensByCall old.contents.genesis (call.Merge file)) old new → Leaves moment leaves (OpensByMerge old.contents.genesis l1 l2) old new
+merged_files moment leaves old new l1 l2 file reads h = weaker moment leaves old new (OpensByCall old.contents.genesis (call.Merge file)) (OpensByMerge old.contents.genesis l1 l2)
+    (λ state stands c. ⊎_elim (λ before. inl before) (λ now. inr (file, now.0, reads, now.1, now.2))) h
+
+-- nothing was
+pub unmerged_files : {D : Type 0} (moment : D → ℕ) (leaves : D → ℕ → List ℕ → Type 0) (desk : Seen D) (l1 l2 : Option (List ℕ)) → Leaves moment leaves (OpensByMerge desk.contents.genesis l1 l2) desk desk
+unmerged_files moment leaves desk l1 l2 = still moment leaves desk (OpensByMerge desk.contents.genesis l1 l2) (λ state c may. inl may)
+
 -- an earlier count of the disk's faults
 pub earlier : (vb vn : View) (d1 d2 d3 : ℕ) (b e : Contents) (result : Status) → (Rose d2 d3 → Rose d1 d3) → DeskMergeEnds vb vn d2 d3 b e result → DeskMergeEnds vb vn d1 d3 b e result
 earlier vb vn d1 d2 d3 b e status.Done f h = h
@@ -105,13 +118,13 @@ earlier vb vn d1 d2 d3 b e status.FileRefused f h = h
 -- what each fault tells
 module _ {D : Type 0} (shows : D → List ℕ → Type 0) (moment : D → ℕ) (leaves : D → ℕ → List ℕ → Type 0) (faults : D → ℕ) (genesis : Root) (first last : D) (vb vn : View) (events : List DeskEvent) (result : Status) where
   pub disk_rose : MergeEnds shows moment leaves faults genesis first last vb vn events result → result ≡ status.DiskFault → Rose (faults first) (faults last)
-  disk_rose (inl h) is = disk_unopened (Rose (faults first) (faults last)) h.0.fault vb.held vn.held vb.writes_failed vn.writes_failed result h.0.closed h.0.cause is
+  disk_rose (inl h) is = disk_unopened h.0.fault vb.held vn.held vb.writes_failed vn.writes_failed result h.0.tells (Rose (faults first) (faults last)) h.0.cause is
   disk_rose (inr h) is = (subst (DeskMergeEnds vb vn (faults first) (faults last) h.desk_before h.desk_now) is h.ends.1).0
 
   pub write_rose : MergeEnds shows moment leaves faults genesis first last vb vn events result → result ≡ status.WriteFault → Rose vb.writes_failed vn.writes_failed
-  write_rose (inl h) is = write_unopened h.0.fault vb.held vn.held vb.writes_failed vn.writes_failed result h.0.closed is
+  write_rose (inl h) is = write_unopened h.0.fault vb.held vn.held vb.writes_failed vn.writes_failed result h.0.tells is
   write_rose (inr h) is = subst (DeskMergeEnds vb vn (faults first) (faults last) h.desk_before h.desk_now) is h.ends.1
 
   pub read_rose : MergeEnds shows moment leaves faults genesis first last vb vn events result → result ≡ status.ReadFault → Rose vb.reads_failed vn.reads_failed
-  read_rose (inl h) is = absurd (read_unopened h.0.fault vb.held vn.held vb.writes_failed vn.writes_failed result h.0.closed is)
+  read_rose (inl h) is = absurd (read_unopened h.0.fault vb.held vn.held vb.writes_failed vn.writes_failed result h.0.tells is)
   read_rose (inr h) is = (subst (DeskMergeEnds vb vn (faults first) (faults last) h.desk_before h.desk_now) is h.ends.1).0

@@ -1,5 +1,5 @@
 -- The lines of a desk's keys, and what each fault tells.
-use Rattle.std.proofs.Common.{◌≡◌, ℕ, List, [], ◌∷◌, ◌++◌, map, Option, refl, sym, ◌∙◌, ap, subst, inl, inr, Some, cond, append_assoc}
+use Rattle.std.proofs.Common.{◌≡◌, ℕ, List, [], ◌∷◌, ◌++◌, map, Option, refl, sym, ◌∙◌, ap, subst, ⊎_elim, inl, inr, Some, cond, append_assoc}
 use Rattle.std.specs.Prelude.{flat_map}
 use Rattle.std.specs.Map.{keys_of}
 use Rattle.std.specs.Option.{option_or}
@@ -19,14 +19,19 @@ use Rattle.record_join.proofs.OrderLemmas.{at_itself, kept_append, once_before}
 use Rattle.record_replay.specs.Items.{items_in}
 use Rattle.record_replay.proofs.NamedLemmas.{named_sorted}
 use Rattle.record_replay.specs.declared.state.KeyState.{KeyState}
-use Rattle.check_sign.specs.Contents.{Contents}
-use Rattle.check_sign.specs.States.{State, DeskStands, key_state}
-use Rattle.check_sign.specs.Machine.{key_states}
+use Rattle.check_sign.specs.Contents.{Contents, Seen}
+use Rattle.check_sign.specs.States.{State, DeskStands, MayOpen, key_state}
+use Rattle.check_sign.specs.Machine.{Reply, after, key_states}
+use Rattle.check_sign.specs.declared.call.DeskCall.TheVariants as call
+use Rattle.check_sign.specs.declared.call.DeskReply.{DeskReply}
+use Rattle.check_sign.specs.declared.call.DeskReply.TheVariants as reply
 use Rattle.check_sign.specs.declared.event.DeskEvent.{DeskEvent}
 use Rattle.session_run.specs.declared.status.Status.{Status}
 use Rattle.session_run.specs.declared.status.Status.TheVariants as status
+use Rattle.journal_commands.specs.Images.{Leaves, OpensByCall}
 use Rattle.journal_commands.specs.Showing.{DeskShowEnds, ShowEnds, StandsStill, kept_text, key_text, listed_text, show_text}
 use Rattle.journal_commands.proofs.ClosingLemmas.{disk_unopened, write_unopened, read_unopened}
+use Rattle.journal_commands.proofs.ImageLemmas.{weaker}
 
 -- one more line
 pub listed_more : (keys : List (PubKey × Parts)) (listed : List (PubKey × KeyState)) (one : PubKey × KeyState) → listed_text keys (listed ++ one ∷ []) ≡ listed_text keys listed ++ kept_text one.0 one.1 (kept_of keys one.0)
@@ -83,18 +88,35 @@ pub all_shown : (b e : Contents) (listed : List (PubKey × KeyState)) (held_befo
     → Appends held_before held_now (listed_text e.keys listed) → (state : State) → DeskStands b state → Appends held_before held_now (show_text e)
 all_shown b e listed held_before held_now is still text state stands =
     let A : List ℕ → Type 0 = λ t. Appends held_before held_now t in
-    subst A (listed_shown e state listed (still state stands) (is state stands)) text
+    subst A (listed_shown e state listed (still.stands state stands) (is state stands)) text
+
+-- ---- the desk's answer
+
+unchanged : (state : State) (r : DeskReply) → Reply state call.Keys r → after state call.Keys r ≡ state
+unchanged state (reply.Keys listed) h = refl
+unchanged state reply.OutOfMemory h = refl
+unchanged state r h = absurd h
+
+pub keys_still : (b e : Contents) (r : DeskReply) → ((state : State) → DeskStands b state → Reply state call.Keys r × DeskStands e (after state call.Keys r)) → e.events ≡ b.events → StandsStill b e
+keys_still b e r machine events = record {
+  stands = λ state stands. let answer = machine state stands in subst (DeskStands e) (unchanged state r answer.0) answer.1;
+  unnoted = events;
+}
+
+pub keys_files : {D : Type 0} (moment : D → ℕ) (leaves : D → ℕ → List ℕ → Type 0) (old new : Seen D) → Leaves moment leaves (OpensByCall old.contents.genesis call.Keys) old new → Leaves moment leaves (MayOpen old.contents.genesis) old new
+keys_files moment leaves old new h = weaker moment leaves old new (OpensByCall old.contents.genesis call.Keys) (MayOpen old.contents.genesis)
+    (λ state stands file. ⊎_elim (λ before. before) (λ now. subst (λ s. MayOpen old.contents.genesis s file) (unchanged state now.0 now.1) now.2)) h
 
 -- what each fault tells
 module _ {D : Type 0} (shows : D → List ℕ → Type 0) (moment : D → ℕ) (leaves : D → ℕ → List ℕ → Type 0) (faults : D → ℕ) (genesis : Root) (first last : D) (hb hn : Option (List ℕ)) (fb fn : ℕ) (events : List DeskEvent) (result : Status) where
   pub disk_rose : ShowEnds shows moment leaves faults genesis first last hb hn fb fn events result → result ≡ status.DiskFault → Rose (faults first) (faults last)
-  disk_rose (inl h) is = disk_unopened (Rose (faults first) (faults last)) h.fault hb hn fb fn result h.closed h.cause is
+  disk_rose (inl h) is = disk_unopened h.fault hb hn fb fn result h.tells (Rose (faults first) (faults last)) h.cause is
   disk_rose (inr h) is = absurd (subst (DeskShowEnds hb hn fb fn h.desk_before h.desk_now) is h.ends.1)
 
   pub write_rose : ShowEnds shows moment leaves faults genesis first last hb hn fb fn events result → result ≡ status.WriteFault → Rose fb fn
-  write_rose (inl h) is = write_unopened h.fault hb hn fb fn result h.closed is
+  write_rose (inl h) is = write_unopened h.fault hb hn fb fn result h.tells is
   write_rose (inr h) is = subst (DeskShowEnds hb hn fb fn h.desk_before h.desk_now) is h.ends.1
 
   pub no_read : ShowEnds shows moment leaves faults genesis first last hb hn fb fn events result → result ≡ status.ReadFault → ⊥
-  no_read (inl h) is = read_unopened h.fault hb hn fb fn result h.closed is
+  no_read (inl h) is = read_unopened h.fault hb hn fb fn result h.tells is
   no_read (inr h) is = subst (DeskShowEnds hb hn fb fn h.desk_before h.desk_now) is h.ends.1

@@ -1,3 +1,4 @@
+pub mod Images
 pub mod Whole
 pub mod Unopened
 pub mod Merging

@@ -1,11 +1,11 @@
 -- How a merge of the input into a journal ends.
 use Rattle.std.specs.Prelude.{◌≡◌, ◌⊎◌, ℕ, List, ◌++◌, Option, None, Ok, Err, length, codes, decimal}
-use Rattle.std.specs.Io.KnownBytes.{Consumes, Appends, Keeps, IsAtEnd}
+use Rattle.std.specs.Io.KnownBytes.{Consumes, Appends, IsAtEnd}
 use Rattle.edge_kit.specs.Causes.{Rose}
 use Rattle.slash_defs.specs.declared.book.File.{File}
 use Rattle.interchange_io.specs.Reading.{file_of, file_limit}
 use Rattle.check_sign.specs.Contents.{Contents}
-use Rattle.check_sign.specs.States.{State, DeskStands}
+use Rattle.check_sign.specs.States.{State, DeskStands, MayOpen}
 use Rattle.check_sign.specs.Machine.{Reply, after, noted}
 use Rattle.check_sign.specs.declared.call.DeskCall.TheVariants as call
 use Rattle.check_sign.specs.declared.call.DeskReply.{DeskReply}
@@ -20,10 +20,19 @@ use Rattle.session_run.specs.declared.status.Status.{Status}
 use Rattle.session_run.specs.declared.status.Status.TheVariants as status
 use Rattle.check_sign.specs.declared.event.DeskEvent.{DeskEvent}
 use Rattle.edge_kit.specs.declared.bytes.Root.{Root}
-use Rattle.journal_commands.specs.Unopened.{ClosesBy, NotOpened, HadDesk}
+use Rattle.command_line.specs.declared.planned.Plan.{Plan}
+use Rattle.command_line.specs.declared.planned.Plan.TheVariants as plan
+use Rattle.journal_commands.specs.Unopened.{ClosesBy, IsUnwritten, NotOpened, HadDesk}
 use Rattle.journal_commands.specs.Whole.{PassesLimit}
 use Rattle.journal_commands.specs.declared.whole.WholeFault.{WholeFault}
 use Rattle.journal_commands.specs.declared.whole.WholeFault.TheVariants as whole_fault
+
+-- the plan is a merge's
+abbrev pub IsMerge : Plan → Type 0
+IsMerge (plan.Merge genesis journal) = Unit {0}
+IsMerge (plan.Session genesis journal fork) = ⊥
+IsMerge (plan.Show genesis journal) = ⊥
+IsMerge (plan.Shown text) = ⊥
 
 -- what the input and the output tell, and how often each of them failed
 pub record View : Type 0 where
@@ -45,6 +54,12 @@ pub record ReadsAll (left_before left_now : Option (List ℕ)) (bytes : List ℕ
   pub taken : Consumes left_before left_now bytes
   pub at_end : IsAtEnd left_now
 
+-- the input was read to its end, and is this file
+pub record ReadsFile (left_before left_now : Option (List ℕ)) (file : File) : Type 0 where
+  pub bytes : List ℕ
+  pub read : ReadsAll left_before left_now bytes
+  pub is_file : file_of bytes ≡ Ok file
+
 -- whichever state a desk stood for, it may give this reply to the merge of the file, stands for the state after it, and has noted just that
 pub record Merges (file : File) (r : DeskReply) (before now : Contents) : Type 0 where
   pub machine : (state : State) → DeskStands before state → Reply state (call.Merge file) r × DeskStands now (after state (call.Merge file) r)
@@ -52,10 +67,8 @@ pub record Merges (file : File) (r : DeskReply) (before now : Contents) : Type 0
 
 -- the input is a file, and the desk gave this reply to its merge
 pub record Replies (left_before left_now : Option (List ℕ)) (before now : Contents) (r : File → DeskReply) : Type 0 where
-  pub bytes : List ℕ
-  pub read : ReadsAll left_before left_now bytes
   pub file : File
-  pub is_file : file_of bytes ≡ Ok file
+  pub read : ReadsFile left_before left_now file
   pub merges : Merges file (r file) before now
 
 -- the input is no file, and the desk was not called; or the desk refused it
@@ -86,7 +99,8 @@ DeskMergeEnds view_before view_now disk_before disk_now before now status.DiskFa
 DeskMergeEnds view_before view_now disk_before disk_now before now status.Damaged = ⊥
 DeskMergeEnds view_before view_now disk_before disk_now before now status.GenesisDiffers =
     (kept : _) × (given : _) × Replies view_before.left view_now.left before now (λ file. reply.GenesisDiffers kept given) × Appends view_before.held view_now.held (closing_text (closing.GenesisDiffers kept given))
-DeskMergeEnds view_before view_now disk_before disk_now before now status.OutOfMemory = Keeps view_before.held view_now.held
+DeskMergeEnds view_before view_now disk_before disk_now before now status.OutOfMemory =
+    (view_now.held ≡ view_before.held) × (view_now.writes_failed ≡ view_before.writes_failed)
 DeskMergeEnds view_before view_now disk_before disk_now before now (status.InputTooLong limit.Line) = ⊥
 DeskMergeEnds view_before view_now disk_before disk_now before now (status.InputTooLong limit.Input) = ⊥
 DeskMergeEnds view_before view_now disk_before disk_now before now (status.InputTooLong limit.File) =
@@ -94,15 +108,23 @@ DeskMergeEnds view_before view_now disk_before disk_now before now (status.Input
 DeskMergeEnds view_before view_now disk_before disk_now before now (status.InputTooLong limit.Keys) = ⊥
 DeskMergeEnds view_before view_now disk_before disk_now before now status.FileRefused = IsRefused view_before view_now before now
 
--- the desk at the end is the one that was opened, or it gave a reply to the merge of a file
-abbrev pub HasMerged : Contents → Contents → Type 0
-HasMerged before now = (now ≡ before) ⊎ ((file : File) × (r : DeskReply) × Merges file r before now)
+-- the desk at the end is the one that was opened, or it gave a reply to the merge of the file that the input is
+abbrev pub HasMerged : Option (List ℕ) → Option (List ℕ) → Contents → Contents → Type 0
+HasMerged left_before left_now before now = (now ≡ before) ⊎ ((file : File) × (r : DeskReply) × ReadsFile left_before left_now file × Merges file r before now)
+
+-- a file of the journal opens to what lasts before the merge, or after a reply that a desk may give to the merge of the file which the input is
+abbrev pub OpensByMerge : Root → Option (List ℕ) → Option (List ℕ) → State → List ℕ → Type 0
+OpensByMerge genesis left_before left_now state c =
+    MayOpen genesis state c
+    ⊎ ((file : File) × (r : DeskReply) × ReadsFile left_before left_now file × Reply state (call.Merge file) r × MayOpen genesis (after state (call.Merge file) r) c)
 
 -- how a merge ends: no desk was opened and nothing was read, or one was
 abbrev pub MergeEnds : {D : Type 0} → (D → List ℕ → Type 0) → (D → ℕ) → (D → ℕ → List ℕ → Type 0) → (D → ℕ) → Root → D → D → View → View → List DeskEvent → Status → Type 0
 MergeEnds shows moment leaves faults genesis first last view_before view_now events result =
-    (NotOpened shows moment leaves faults genesis first last view_before.held view_now.held view_before.writes_failed view_now.writes_failed events result × (view_now.left ≡ view_before.left))
-    ⊎ HadDesk shows moment leaves genesis first last events (λ before now. HasMerged before now × DeskMergeEnds view_before view_now (faults first) (faults last) before now result)
+    (NotOpened shows moment leaves faults genesis first last view_before.held view_now.held view_before.writes_failed view_now.writes_failed events result
+    × (view_now.left ≡ view_before.left) × (view_now.reads_failed ≡ view_before.reads_failed))
+    ⊎ HadDesk shows moment leaves genesis first last events (OpensByMerge genesis view_before.left view_now.left)
+    (λ before now. HasMerged view_before.left view_now.left before now × DeskMergeEnds view_before view_now (faults first) (faults last) before now result)
 
 -- by what reply the output gets which text, and the program which status; a reply that no merge gets counts as want of memory
 abbrev pub ReplyCloses : ℕ → DeskReply → Option (List ℕ) → Option (List ℕ) → ℕ → ℕ → Status → Type 0
@@ -114,14 +136,14 @@ ReplyCloses count (reply.TooManyKeys have new) held_before held_now failed_befor
 ReplyCloses count (reply.Full size wanted) held_before held_now failed_before failed_now result =
     ClosesBy status.FileRefused (closing_text (closing.FileRefused (refusal.Full size wanted))) held_before held_now failed_before failed_now result
 ReplyCloses count reply.Disk held_before held_now failed_before failed_now result = ClosesBy status.DiskFault (closing_text closing.DiskFault) held_before held_now failed_before failed_now result
-ReplyCloses count r held_before held_now failed_before failed_now result = (result ≡ status.OutOfMemory) × Keeps held_before held_now
+ReplyCloses count r held_before held_now failed_before failed_now result = IsUnwritten held_before held_now failed_before failed_now result
 
 -- by what fault of the input the output gets which text, and the program which status
 abbrev pub FaultCloses : WholeFault → Option (List ℕ) → Option (List ℕ) → ℕ → ℕ → Status → Type 0
 FaultCloses whole_fault.Read held_before held_now failed_before failed_now result = Closes status.ReadFault read_fault_text held_before held_now failed_before failed_now result
 FaultCloses whole_fault.TooLong held_before held_now failed_before failed_now result =
     ClosesBy (status.InputTooLong limit.File) (closing_text (closing.TooLong file_limit)) held_before held_now failed_before failed_now result
-FaultCloses whole_fault.OutOfMemory held_before held_now failed_before failed_now result = (result ≡ status.OutOfMemory) × Keeps held_before held_now
+FaultCloses whole_fault.OutOfMemory held_before held_now failed_before failed_now result = IsUnwritten held_before held_now failed_before failed_now result
 
 -- a desk gave a reply to the merge of a file, by which the output was closed; of a disk only its fault in this call is told
 pub record FileCloses (file : File) (before now : Contents) (disk_before disk_now : ℕ) (held_before held_now : Option (List ℕ)) (failed_before failed_now : ℕ) (result : Status) : Type 0 where

@@ -1,5 +1,5 @@
 -- What `show` writes of a key.
-use Rattle.std.specs.Prelude.{◌⊎◌, ℕ, List, [], ◌++◌, flat_map, length, Option, Some, None, option_map, ⊤, codes, decimal}
+use Rattle.std.specs.Prelude.{◌≡◌, ◌⊎◌, ℕ, List, [], ◌++◌, flat_map, length, Option, Some, None, option_map, ⊤, codes, decimal}
 use Rattle.std.specs.Io.KnownBytes.{Appends}
 use Rattle.hex.specs.Hex.{encode_lower}
 use Rattle.edge_kit.specs.Causes.{Rose}
@@ -11,11 +11,20 @@ use Rattle.record_replay.specs.declared.state.KeyState.{KeyState}
 use Rattle.record_replay.specs.declared.state.KeyState.TheVariants as state
 use Rattle.record_join.specs.Keys.{kept_of}
 use Rattle.check_sign.specs.Contents.{Contents}
-use Rattle.check_sign.specs.States.{State, DeskStands, key_state}
+use Rattle.check_sign.specs.States.{State, DeskStands, MayOpen, key_state}
 use Rattle.check_sign.specs.declared.event.DeskEvent.{DeskEvent}
 use Rattle.session_run.specs.declared.status.Status.{Status}
 use Rattle.session_run.specs.declared.status.Status.TheVariants as status
+use Rattle.command_line.specs.declared.planned.Plan.{Plan}
+use Rattle.command_line.specs.declared.planned.Plan.TheVariants as plan
 use Rattle.journal_commands.specs.Unopened.{NotOpened, HadDesk}
+
+-- the plan is a showing's
+abbrev pub IsShow : Plan → Type 0
+IsShow (plan.Show genesis journal) = Unit {0}
+IsShow (plan.Session genesis journal fork) = ⊥
+IsShow (plan.Merge genesis journal) = ⊥
+IsShow (plan.Shown text) = ⊥
 
 -- the word of a state
 abbrev pub state_word : KeyState → List ℕ
@@ -72,9 +81,10 @@ listed_text keys listed = flat_map (λ one. kept_text one.0 one.1 (kept_of keys 
 abbrev pub show_text : Contents → List ℕ
 show_text desk = flat_map (λ kept. key_text kept.0 (key_state desk.states kept.0) kept.1) desk.keys
 
--- the desk stands for what it stood for
-abbrev pub StandsStill : Contents → Contents → Type 0
-StandsStill before now = (state : State) → DeskStands before state → DeskStands now state
+-- the desk stands for what it stood for, and has noted no more
+pub record StandsStill (before now : Contents) : Type 0 where
+  pub stands : (state : State) → DeskStands before state → DeskStands now state
+  pub unnoted : now.events ≡ before.events
 
 -- How the showing of a desk ends, status by status: its lines were written, or the output failed; of memory nothing is said.
 abbrev pub DeskShowEnds : Option (List ℕ) → Option (List ℕ) → ℕ → ℕ → Contents → Contents → Status → Type 0
@@ -93,4 +103,5 @@ DeskShowEnds held_before held_now failed_before failed_now before now status.Fil
 abbrev pub ShowEnds : {D : Type 0} → (D → List ℕ → Type 0) → (D → ℕ) → (D → ℕ → List ℕ → Type 0) → (D → ℕ) → Root → D → D → Option (List ℕ) → Option (List ℕ) → ℕ → ℕ → List DeskEvent → Status → Type 0
 ShowEnds shows moment leaves faults genesis first last held_before held_now failed_before failed_now events result =
     NotOpened shows moment leaves faults genesis first last held_before held_now failed_before failed_now events result
-    ⊎ HadDesk shows moment leaves genesis first last events (λ before now. StandsStill before now × DeskShowEnds held_before held_now failed_before failed_now before now result)
+    ⊎ HadDesk shows moment leaves genesis first last events (MayOpen genesis)
+    (λ before now. StandsStill before now × DeskShowEnds held_before held_now failed_before failed_now before now result)

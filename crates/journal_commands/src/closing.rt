@@ -1,7 +1,7 @@
 //! The line that closes an output.
 ghost use Rattle.std.specs.Prelude.{◌≡◌, ◌≤◌};
 ghost use Rattle.session_format.specs.Closing.{closing_text};
-ghost use Rattle.journal_commands.specs.Unopened.{ClosesBy, ClosesMaybe, open_status, open_line};
+ghost use Rattle.journal_commands.specs.Unopened.{ClosesBy, TellsFault, open_status, open_line};
 
 use check_sign::OpenFault;
 use edge_kit::Sink;
@@ -46,9 +46,11 @@ fn journal_fault_line(fault: record_journal::OpenFault) -> (Status, Option<Closi
     }
 }
 
-/// Closes the output of a journal that is not opened.
-pub(crate) fn close_unopened<O: Sink>(alloc: Global, out: &mut O, fault: OpenFault) -> Status
-    ensures closed { ClosesMaybe (open_status fault) (open_line fault) (O.held out.old) (O.held out.new) (O.faults out.old) (O.faults out.new) result }
+/// Closes the output of a journal that is not opened, by the line of the fault, and gives its status, or
+/// `WriteFault` in its place where the output's count of faults rose and a front of the line was written.
+/// Where memory runs out nothing is written, and the status is `OutOfMemory`.
+pub fn close_unopened<O: Sink>(alloc: Global, out: &mut O, fault: OpenFault) -> Status
+    ensures tells { TellsFault fault (O.held out.old) (O.held out.new) (O.faults out.old) (O.faults out.new) result }
 {
     let (status, line) = open_fault_line(fault);
     match line {

@@ -1,5 +1,6 @@
 //! The commands over disks in memory.
 use crate::{run_merge, run_show};
+use command_line::{PathText, Plan};
 use edge_kit::{Disks, MemDisk, MemSink, MemSource, Root};
 use session_run::Status;
 use std::alloc::Global;
@@ -10,6 +11,14 @@ const FILE: &str =
 
 const LINE: &str =
     "0x0a0a0a0a0a0a0a0a0a0a0a0a0a0a0a0a0a0a0a0a0a0a0a0a0a0a0a0a0a0a0a0a0a0a0a0a0a0a0a0a0a0a0a0a0a0a0a0a known blocks 1 votes 0 floor_slot 9 floor_source - floor_target -\n";
+
+/// The chain of these commands.
+const GENESIS: Root = Root([7; 32]);
+
+/// The path of a journal.
+fn path(alloc: Global) -> Result<PathText, Fail> {
+    Ok(PathText::new(String::from_str(alloc, "journal")?))
+}
 
 /// Two empty disks.
 fn new_disks(alloc: Global) -> Result<Disks<MemDisk>, Fail> {
@@ -28,7 +37,11 @@ fn merged(
     let bytes = Vec::from_slice(alloc, text.as_bytes())?;
     let mut input = MemSource::new(bytes, Vec::new(alloc));
     let mut out = MemSink::new(alloc, 4096, Vec::new(alloc))?;
-    let (status, disks, _events) = run_merge(alloc, Root([7; 32]), disks, &mut input, &mut out);
+    let plan = Plan::Merge {
+        genesis: GENESIS,
+        journal: path(alloc)?,
+    };
+    let (status, disks, _events) = run_merge(alloc, &plan, disks, &mut input, &mut out);
     Ok((status, disks, out.into_bytes()))
 }
 
@@ -40,7 +53,11 @@ fn a_merged_file_is_shown(rt: HostRuntime) -> Result<(), Fail> {
     assert_eq!(rt; status, Status::Done);
     assert!(rt; told.as_slice() == "merged 1\n".as_bytes());
     let mut out = MemSink::new(alloc, 4096, Vec::new(alloc))?;
-    let (status, _disks, _events) = run_show(alloc, Root([7; 32]), disks, &mut out);
+    let plan = Plan::Show {
+        genesis: GENESIS,
+        journal: path(alloc)?,
+    };
+    let (status, _disks, _events) = run_show(alloc, &plan, disks, &mut out);
     assert_eq!(rt; status, Status::Done);
     let shown = out.into_bytes();
     assert!(rt; shown.as_slice() == LINE.as_bytes());

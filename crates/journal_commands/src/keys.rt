@@ -1,15 +1,19 @@
 //! The keys of a journal, a line each.
-ghost use Rattle.std.specs.Prelude.{◌≡◌, ◌≢◌, ◌≤◌, ℕ, OnOk, IfSome};
+ghost use Rattle.std.specs.Prelude.{◌≡◌, ◌≢◌, ◌≤◌, ℕ, List, OnOk, IfSome};
 ghost use Rattle.std.specs.Io.KnownBytes.{Appends};
 ghost use Rattle.edge_kit.specs.Causes.{Rose};
+ghost use Rattle.edge_kit.specs.declared.bytes.Root.{Root};
 ghost use Rattle.record_join.specs.Keys.{kept_of};
-ghost use Rattle.check_sign.specs.States.{State, DeskStands};
-ghost use Rattle.check_sign.specs.Machine.{key_states};
-ghost use Rattle.journal_commands.specs.Showing.{DeskShowEnds, ShowEnds, StandsStill, kept_text, listed_text};
+ghost use Rattle.check_sign.specs.States.{State, DeskStands, MayOpen};
+ghost use Rattle.check_sign.specs.Machine.{IsGrantFor, Reply, key_states};
+ghost use Rattle.check_sign.specs.declared.call.DeskCall.{DeskCall};
+ghost use Rattle.journal_commands.specs.Images.{Leaves};
+ghost use Rattle.journal_commands.specs.Showing.{DeskShowEnds, IsShow, ShowEnds, StandsStill, kept_text, listed_text};
 
 use crate::closing::close_unopened;
 use crate::showing::key_line;
 use check_sign::{Desk, DeskReply, Events, KeyStates, Outcome};
+use command_line::Plan;
 use edge_kit::{Disk, Disks, Failed, PubKey, Root, Sink};
 use record_replay::KeyState;
 use session_run::{Status, write_all};
@@ -24,26 +28,30 @@ enum Unshown {
     Write,
 }
 
-/// Writes one line (`key_line`) for each key that the journal on the first disk names, in key order, each as
-/// soon as it is made. A journal is begun where there is none. The disks come back, with what the desk did:
-/// nothing.
+/// Does what a showing's plan says: writes one line (`key_line`) for each key that the journal on the first
+/// disk names, in key order, each as soon as it is made. A journal is begun where there is none. The disks
+/// come back, with what the desk did: nothing.
 ///
 /// The status is `Done`; `DiskFault`, `Damaged`, `GenesisDiffers` and `InputTooLong(Limit::Keys)`, with a line
 /// that closes the output, where the journal is not opened; `WriteFault` where the output failed; and
 /// `OutOfMemory` where memory was wanted.
 pub fn run_show<D: Disk, O: Sink>(
     alloc: Global,
-    genesis: Root,
+    plan: &Plan,
     disks: Disks<D>,
     out: &mut O,
 ) -> (Status, Disks<D>, Events)
-    ensures ends { ShowEnds D.shows D.moment D.leaves D.faults genesis disks.first result.1.first (O.held out.old) (O.held out.new) (O.faults out.old) (O.faults out.new) result.2 result.0 }
+    requires { IsShow plan.now }
+    ensures ends { (genesis : Root) (journal : List ℕ) → plan.now ≡ Plan.Show genesis journal → ShowEnds D.shows D.moment D.leaves D.faults genesis disks.first result.1.first (O.held out.old) (O.held out.new) (O.faults out.old) (O.faults out.new) result.2 result.0 }
     ensures second { result.1.second ≡ disks.second }
     ensures read_fault { result.0 ≢ Status.ReadFault }
     ensures write_fault { result.0 ≡ Status.WriteFault → Rose (O.faults out.old) (O.faults out.new) }
     ensures disk_fault { result.0 ≡ Status.DiskFault → Rose (D.faults disks.first) (D.faults result.1.first) }
 {
-    show_into(alloc, genesis, disks, out)
+    let Plan::Show { genesis, .. } = plan else {
+        unreachable!()
+    };
+    show_into(alloc, *genesis, disks, out)
 }
 
 /// Opens the desk, and writes its keys.
@@ -72,6 +80,8 @@ fn show_into<D: Disk, O: Sink>(
 fn show_desk<D: Disk, O: Sink>(alloc: Global, desk: &mut Desk<D>, out: &mut O) -> Status
     ensures ends { DeskShowEnds (O.held out.old) (O.held out.new) (O.faults out.old) (O.faults out.new) desk.old.contents desk.new.contents result }
     ensures still { StandsStill desk.old.contents desk.new.contents }
+    // A crash at any moment leaves a file that opens to what lasts.
+    ensures moments { Leaves D.moment D.leaves (MayOpen desk.old.contents.genesis) desk.old desk.new }
     ensures second { desk.new.second ≡ desk.old.second }
 {
     let Some(listed) = list_keys(desk) else {
@@ -88,9 +98,10 @@ fn show_desk<D: Disk, O: Sink>(alloc: Global, desk: &mut Desk<D>, out: &mut O) -
 fn list_keys<D: Disk>(desk: &mut Desk<D>) -> Option<KeyStates>
     ensures listed { IfSome result (λ listed. (state : State) → DeskStands desk.old.contents state → listed ≡ key_states state) }
     ensures still { StandsStill desk.old.contents desk.new.contents }
+    ensures moments { Leaves D.moment D.leaves (MayOpen desk.old.contents.genesis) desk.old desk.new }
     ensures second { desk.new.second ≡ desk.old.second }
 {
-    match desk.keys() {
+    match ask_keys(desk) {
         DeskReply::Keys(listed) => Some(listed),
         DeskReply::Granted(grant) => {
             desk.settle(grant, Outcome::Dropped);
@@ -118,6 +129,17 @@ fn list_keys<D: Disk>(desk: &mut Desk<D>) -> Option<KeyStates>
         DeskReply::TooManyKeys { have: _, new: _ } => None,
         DeskReply::Full { size: _, wanted: _ } => None,
     }
+}
+
+/// Asks the desk for its keys.
+fn ask_keys<D: Disk>(desk: &mut Desk<D>) -> DeskReply
+    ensures reply { (state : State) → DeskStands desk.old.contents state → Reply state DeskCall.Keys result }
+    ensures granted { IsGrantFor DeskCall.Keys result }
+    ensures still { StandsStill desk.old.contents desk.new.contents }
+    ensures moments { Leaves D.moment D.leaves (MayOpen desk.old.contents.genesis) desk.old desk.new }
+    ensures second { desk.new.second ≡ desk.old.second }
+{
+    desk.keys()
 }
 
 /// Writes the lines of these keys in these states.

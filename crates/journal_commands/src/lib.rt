@@ -11,7 +11,7 @@ mod showing;
 mod tests;
 mod whole;
 
-pub use closing::open_fault_line;
+pub use closing::{close_unopened, open_fault_line};
 pub use keys::run_show;
 pub use merge::run_merge;
 pub use showing::key_line;

@@ -1,15 +1,20 @@
 //! The input is merged into a journal.
-ghost use Rattle.std.specs.Prelude.{◌≡◌, ◌≤◌, ℕ, None, IfOk, string_bytes, codes};
+ghost use Rattle.std.specs.Prelude.{◌≡◌, ◌≤◌, ℕ, List, None, IfOk, string_bytes, codes};
 ghost use Rattle.edge_kit.specs.Causes.{Rose};
+ghost use Rattle.edge_kit.specs.declared.bytes.Root.{Root};
 ghost use Rattle.session_format.specs.Closing.{closing_text};
 ghost use Rattle.interchange_io.specs.Reading.{file_limit};
 ghost use Rattle.record_join.specs.BooksPasts.{EachOnce};
+ghost use Rattle.check_sign.specs.Machine.{IsGrantFor};
+ghost use Rattle.check_sign.specs.declared.call.DeskCall.{DeskCall};
+ghost use Rattle.journal_commands.specs.Images.{Leaves, OpensByCall};
 ghost use Rattle.journal_commands.specs.Unopened.{ClosesBy};
-ghost use Rattle.journal_commands.specs.Merging.{DeskMergeEnds, FaultCloses, FileCloses, HasMerged, MergeEnds, merged_text};
+ghost use Rattle.journal_commands.specs.Merging.{DeskMergeEnds, FaultCloses, FileCloses, HasMerged, IsMerge, MergeEnds, Merges, OpensByMerge, merged_text};
 
 use crate::closing::{close_line, close_unopened};
 use crate::whole::{WholeFault, read_whole};
 use check_sign::{Desk, DeskReply, Events, Outcome};
+use command_line::Plan;
 use edge_kit::{Disk, Disks, Root, Sink, Source};
 use interchange_io::{files_list_once, read};
 use session_format::{ClosingLine, FileRefusal};
@@ -20,9 +25,10 @@ use std::alloc::{AllocError, Global};
 /// The most bytes that an interchange file may have.
 const FILE_LIMIT: u64 = 268_435_456;
 
-/// Merges the interchange file (EIP-3076) on the input into the journal on the first disk, and writes
-/// `merged K` and a newline, K the number of its keys. A journal is begun where there is none. The disks come
-/// back, with what the desk did.
+/// Does what a merge's plan says: merges the interchange file (EIP-3076) on the input into the journal on the
+/// first disk, and writes `merged K` and a newline, K the number of its keys. A journal is begun where there
+/// is none. The disks come back, with what the desk did. Whatever moment the program is killed at, the journal
+/// opens to what was kept before or after the merge.
 ///
 /// The status is `Done`, or, with a line that closes the output: `DiskFault`, `Damaged`, `GenesisDiffers` and
 /// `InputTooLong(Limit::Keys)` where the journal is not opened, and nothing was read then; `ReadFault` where
@@ -32,12 +38,13 @@ const FILE_LIMIT: u64 = 268_435_456;
 /// `OutOfMemory` where memory was wanted: the file may be merged then.
 pub fn run_merge<D: Disk, I: Source, O: Sink>(
     alloc: Global,
-    genesis: Root,
+    plan: &Plan,
     disks: Disks<D>,
     input: &mut I,
     out: &mut O,
 ) -> (Status, Disks<D>, Events)
-    ensures ends { MergeEnds D.shows D.moment D.leaves D.faults genesis disks.first result.1.first
+    requires { IsMerge plan.now }
+    ensures ends { (genesis : Root) (journal : List ℕ) → plan.now ≡ Plan.Merge genesis journal → MergeEnds D.shows D.moment D.leaves D.faults genesis disks.first result.1.first
         (record { left = I.left input.old; held = O.held out.old; reads_failed = I.faults input.old; writes_failed = O.faults out.old })
         (record { left = I.left input.new; held = O.held out.new; reads_failed = I.faults input.new; writes_failed = O.faults out.new })
         result.2 result.0 }
@@ -46,7 +53,10 @@ pub fn run_merge<D: Disk, I: Source, O: Sink>(
     ensures write_fault { result.0 ≡ Status.WriteFault → Rose (O.faults out.old) (O.faults out.new) }
     ensures disk_fault { result.0 ≡ Status.DiskFault → Rose (D.faults disks.first) (D.faults result.1.first) }
 {
-    merge_into(alloc, genesis, disks, input, out)
+    let Plan::Merge { genesis, .. } = plan else {
+        unreachable!()
+    };
+    merge_into(alloc, *genesis, disks, input, out)
 }
 
 /// Opens the desk, and merges the input into it.
@@ -87,7 +97,9 @@ fn merge_input<D: Disk, I: Source, O: Sink>(
         (record { left = I.left input.old; held = O.held out.old; reads_failed = I.faults input.old; writes_failed = O.faults out.old })
         (record { left = I.left input.new; held = O.held out.new; reads_failed = I.faults input.new; writes_failed = O.faults out.new })
         (D.faults desk.old.disk) (D.faults desk.new.disk) desk.old.contents desk.new.contents result }
-    ensures course { HasMerged desk.old.contents desk.new.contents }
+    ensures course { HasMerged (I.left input.old) (I.left input.new) desk.old.contents desk.new.contents }
+    // A crash at any moment leaves a file that opens to what lasts before the merge or after it.
+    ensures moments { Leaves D.moment D.leaves (OpensByMerge desk.old.contents.genesis (I.left input.old) (I.left input.new)) desk.old desk.new }
     ensures second { desk.new.second ≡ desk.old.second }
 {
     let bytes = match read_whole(alloc, input, FILE_LIMIT) {
@@ -129,10 +141,11 @@ fn merge_file<D: Disk, O: Sink>(
 ) -> Status
     requires { EachOnce file.books }
     ensures closes { FileCloses file desk.old.contents desk.new.contents (D.faults desk.old.disk) (D.faults desk.new.disk) (O.held out.old) (O.held out.new) (O.faults out.old) (O.faults out.new) result }
+    ensures moments { Leaves D.moment D.leaves (OpensByCall desk.old.contents.genesis (DeskCall.Merge file)) desk.old desk.new }
     ensures second { desk.new.second ≡ desk.old.second }
 {
     let count = file.books.len() as u64;
-    match desk.merge(file) {
+    match ask_merge(desk, file) {
         DeskReply::Merged { keys: _ } => close_merged(alloc, out, count),
         DeskReply::GenesisDiffers { kept, given } => {
             let line = ClosingLine::GenesisDiffers { kept, given };
@@ -169,6 +182,18 @@ fn merge_file<D: Disk, O: Sink>(
         DeskReply::Busy { grants: _ } => Status::OutOfMemory,
         DeskReply::Refused(_) => Status::OutOfMemory,
     }
+}
+
+/// Asks the desk to merge a file.
+fn ask_merge<D: Disk>(desk: &mut Desk<D>, file: File) -> DeskReply
+    requires { EachOnce file.books }
+    ensures merges { Merges file result desk.old.contents desk.new.contents }
+    ensures granted { IsGrantFor (DeskCall.Merge file) result }
+    ensures rose { result ≡ DeskReply.Disk → desk.old.contents.torn ≡ None → Rose (D.faults desk.old.disk) (D.faults desk.new.disk) }
+    ensures moments { Leaves D.moment D.leaves (OpensByCall desk.old.contents.genesis (DeskCall.Merge file)) desk.old desk.new }
+    ensures second { desk.new.second ≡ desk.old.second }
+{
+    desk.merge(file)
 }
 
 /// Writes that a file of so many keys is merged.

@@ -1,6 +1,5 @@
 -- Each status comes only where its cause says.
 use Rattle.std.proofs.Common.{◌≡◌, ◌≢◌, ℕ, List, Option, refl, sym, ap, subst, inl, inr, ◌⊎◌}
-use Rattle.std.specs.Io.KnownBytes.{Keeps}
 use Rattle.edge_kit.specs.Causes.{Rose}
 use Rattle.edge_kit.specs.declared.bytes.Root.{Root}
 use Rattle.phase0_types.specs.declared.fork.Fork.{Fork}
@@ -18,10 +17,10 @@ use Rattle.session_run.specs.declared.status.Status.{Status}
 use Rattle.session_run.specs.declared.status.Status.TheVariants as status
 use Rattle.journal_commands.specs.Merging.{DeskMergeEnds, MergeEnds}
 use Rattle.journal_commands.specs.Showing.{DeskShowEnds, ShowEnds}
-use Rattle.journal_commands.specs.Unopened.{ClosesMaybe, open_line, open_status}
+use Rattle.journal_commands.specs.Unopened.{TellsFault, open_status}
+use Rattle.journal_commands.proofs.ClosingLemmas.{told_by}
 use Rattle.command_line.specs.Plans.{Asked, session, merge, show, shown, nothing}
 use Rattle.validator_cli.specs.Endings.{Outside, EndsAs, RunEnds, SessionEnds, IsComplete, IsDone, IsOfJournal, merge_view}
-use Rattle.validator_cli.specs.Unopened.{IsUnwritten, TellsFault}
 
 -- a journal is opened for what was asked
 abbrev OpensJournal : Asked → Type 0
@@ -99,33 +98,19 @@ closed a before now d1 d2 st s text c (inr x) = let P : Status → Type 0 = λ y
 unwritten : (a : Asked) (before now : Outside) (d1 d2 : ℕ) (s : Status) → s ≡ status.OutOfMemory → Caused a before now d1 d2 s
 unwritten a before now d1 d2 s e = let P : Status → Type 0 = λ y. Caused a before now d1 d2 y in subst P (sym e) tt
 
-closed_or_unwritten : (a : Asked) (before now : Outside) (d1 d2 : ℕ) (st s : Status) (text : List ℕ) → Caused a before now d1 d2 st
-    → Closes st text before.held now.held before.writes_failed now.writes_failed s ⊎ IsUnwritten before.held now.held before.writes_failed now.writes_failed s → Caused a before now d1 d2 s
-closed_or_unwritten a before now d1 d2 st s text c (inl x) = closed a before now d1 d2 st s text c x
-closed_or_unwritten a before now d1 d2 st s text c (inr x) = unwritten a before now d1 d2 s x.0
-
-closed_or_kept : (a : Asked) (before now : Outside) (d1 d2 : ℕ) (st s : Status) (text : List ℕ) → Caused a before now d1 d2 st
-    → Closes st text before.held now.held before.writes_failed now.writes_failed s ⊎ ((s ≡ status.OutOfMemory) × Keeps before.held now.held) → Caused a before now d1 d2 s
-closed_or_kept a before now d1 d2 st s text c (inl x) = closed a before now d1 d2 st s text c x
-closed_or_kept a before now d1 d2 st s text c (inr x) = unwritten a before now d1 d2 s x.0
+-- what a fault of opening tells
+fault_caused : (a : Asked) (before now : Outside) (d1 d2 : ℕ) (f : OpenFault) → OpensJournal a → (f ≡ open_fault.Journal journal_fault.Disk → Rose d1 d2) → Caused a before now d1 d2 (open_status f)
+fault_caused a before now d1 d2 (open_fault.Journal journal_fault.Disk) opens cause = (opens_some a opens, cause refl)
+fault_caused a before now d1 d2 (open_fault.Journal journal_fault.OutOfMemory) opens cause = tt
+fault_caused a before now d1 d2 (open_fault.Journal (journal_fault.Damaged offset byte)) opens cause = opens
+fault_caused a before now d1 d2 (open_fault.Journal (journal_fault.Genesis kept given)) opens cause = opens
+fault_caused a before now d1 d2 (open_fault.TooManyKeys have new) opens cause = opens_keys before.left a opens
 
 -- no desk was opened
 unopened : (a : Asked) (before now : Outside) (d1 d2 : ℕ) (f : OpenFault) (s : Status) → OpensJournal a → (f ≡ open_fault.Journal journal_fault.Disk → Rose d1 d2)
     → TellsFault f before.held now.held before.writes_failed now.writes_failed s → Caused a before now d1 d2 s
-unopened a before now d1 d2 (open_fault.Journal journal_fault.Disk) s opens cause t = closed_or_unwritten a before now d1 d2 status.DiskFault s _ (opens_some a opens, cause refl) t
-unopened a before now d1 d2 (open_fault.Journal journal_fault.OutOfMemory) s opens cause t = unwritten a before now d1 d2 s t.0
-unopened a before now d1 d2 (open_fault.Journal (journal_fault.Damaged offset byte)) s opens cause t = closed_or_unwritten a before now d1 d2 status.Damaged s _ opens t
-unopened a before now d1 d2 (open_fault.Journal (journal_fault.Genesis kept given)) s opens cause t = closed_or_unwritten a before now d1 d2 status.GenesisDiffers s _ opens t
-unopened a before now d1 d2 (open_fault.TooManyKeys have new) s opens cause t = closed_or_unwritten a before now d1 d2 (status.InputTooLong limit.Keys) s _ (opens_keys before.left a opens) t
-
--- no desk was opened for a merge or a showing
-unopened_by : (a : Asked) (before now : Outside) (d1 d2 : ℕ) (f : OpenFault) (s : Status) → OpensJournal a → (f ≡ open_fault.Journal journal_fault.Disk → Rose d1 d2)
-    → ClosesMaybe (open_status f) (open_line f) before.held now.held before.writes_failed now.writes_failed s → Caused a before now d1 d2 s
-unopened_by a before now d1 d2 (open_fault.Journal journal_fault.Disk) s opens cause t = closed_or_kept a before now d1 d2 status.DiskFault s _ (opens_some a opens, cause refl) t
-unopened_by a before now d1 d2 (open_fault.Journal journal_fault.OutOfMemory) s opens cause t = unwritten a before now d1 d2 s t.0
-unopened_by a before now d1 d2 (open_fault.Journal (journal_fault.Damaged offset byte)) s opens cause t = closed_or_kept a before now d1 d2 status.Damaged s _ opens t
-unopened_by a before now d1 d2 (open_fault.Journal (journal_fault.Genesis kept given)) s opens cause t = closed_or_kept a before now d1 d2 status.GenesisDiffers s _ opens t
-unopened_by a before now d1 d2 (open_fault.TooManyKeys have new) s opens cause t = closed_or_kept a before now d1 d2 (status.InputTooLong limit.Keys) s _ (opens_keys before.left a opens) t
+unopened a before now d1 d2 f s opens cause t =
+    told_by (Caused a before now d1 d2) f before.held now.held before.writes_failed now.writes_failed s (fault_caused a before now d1 d2 f opens cause) (λ r. r) tt t
 
 -- a count that rose, told otherwise
 rose_at : (a b c d : ℕ) → a ≡ c → b ≡ d → Rose a b → Rose c d
@@ -149,7 +134,7 @@ served genesis journal fork before now d1 d2 domains m v1 v2 status.FileRefused 
 session_caused : {D : Type 0} (shows : D → List ℕ → Type 0) (moment : D → ℕ) (leaves : D → ℕ → List ℕ → Type 0) (faults : D → ℕ) (genesis : Root) (journal : Option (List ℕ)) (fork : Fork) (f1 f2 : D) (before now : Outside) (events : List DeskEvent) (s : Status)
     → SessionEnds shows moment leaves faults (record { fork = fork; genesis = genesis }) f1 f2 before now events s → Caused (session genesis journal fork) before now (faults f1) (faults f2) s
 session_caused shows moment leaves faults genesis journal fork f1 f2 before now events s (inl o) = served genesis journal fork before now (faults f1) (faults f2) _ _ _ _ s refl refl refl refl o.serves.disk_fault o.serves.within o.serves.ends
-session_caused shows moment leaves faults genesis journal fork f1 f2 before now events s (inr n) = unopened (session genesis journal fork) before now (faults f1) (faults f2) n.fault s tt n.cause n.tells
+session_caused shows moment leaves faults genesis journal fork f1 f2 before now events s (inr n) = unopened (session genesis journal fork) before now (faults f1) (faults f2) n.0.fault s tt n.0.cause n.0.tells
 
 -- a desk was opened, and a file merged
 merged : (genesis : Root) (journal : List ℕ) (before now : Outside) (d1 d2 : ℕ) (desk_before desk_now : Contents) (s : Status)
@@ -170,7 +155,7 @@ merged genesis journal before now d1 d2 desk_before desk_now status.FileRefused 
 
 merge_caused : {D : Type 0} (shows : D → List ℕ → Type 0) (moment : D → ℕ) (leaves : D → ℕ → List ℕ → Type 0) (faults : D → ℕ) (genesis : Root) (journal : List ℕ) (f1 f2 : D) (before now : Outside) (events : List DeskEvent) (s : Status)
     → MergeEnds shows moment leaves faults genesis f1 f2 (merge_view before) (merge_view now) events s → Caused (merge genesis journal) before now (faults f1) (faults f2) s
-merge_caused shows moment leaves faults genesis journal f1 f2 before now events s (inl n) = unopened_by (merge genesis journal) before now (faults f1) (faults f2) n.0.fault s tt n.0.cause n.0.closed
+merge_caused shows moment leaves faults genesis journal f1 f2 before now events s (inl n) = unopened (merge genesis journal) before now (faults f1) (faults f2) n.0.fault s tt n.0.cause n.0.tells
 merge_caused shows moment leaves faults genesis journal f1 f2 before now events s (inr d) = merged genesis journal before now (faults f1) (faults f2) d.desk_before d.desk_now s d.ends.1
 
 -- a desk was opened, and shown
@@ -189,7 +174,7 @@ showed genesis journal before now d1 d2 desk_before desk_now status.FileRefused 
 
 show_caused : {D : Type 0} (shows : D → List ℕ → Type 0) (moment : D → ℕ) (leaves : D → ℕ → List ℕ → Type 0) (faults : D → ℕ) (genesis : Root) (journal : List ℕ) (f1 f2 : D) (before now : Outside) (events : List DeskEvent) (s : Status)
     → ShowEnds shows moment leaves faults genesis f1 f2 before.held now.held before.writes_failed now.writes_failed events s → Caused (show genesis journal) before now (faults f1) (faults f2) s
-show_caused shows moment leaves faults genesis journal f1 f2 before now events s (inl n) = unopened_by (show genesis journal) before now (faults f1) (faults f2) n.fault s tt n.cause n.closed
+show_caused shows moment leaves faults genesis journal f1 f2 before now events s (inl n) = unopened (show genesis journal) before now (faults f1) (faults f2) n.fault s tt n.cause n.tells
 show_caused shows moment leaves faults genesis journal f1 f2 before now events s (inr d) = showed genesis journal before now (faults f1) (faults f2) d.desk_before d.desk_now s d.ends.1
 
 caused_by : {D : Type 0} (shows : D → List ℕ → Type 0) (moment : D → ℕ) (leaves : D → ℕ → List ℕ → Type 0) (faults : D → ℕ) (a : Asked) (f1 f2 : D) (before now : Outside) (events : List DeskEvent) (s : Status)

@@ -41,7 +41,7 @@ rose_at {D} faults n a b e h = let P : D → Type 0 = λ x. Rose n (faults x) in
 pub refused : {D : Type 0} (shows : D → List ℕ → Type 0) (moment : D → ℕ) (leaves : D → ℕ → List ℕ → Type 0) (faults : D → ℕ) (disk : D)
     (left : Option (List ℕ)) (h1 h2 : Option (List ℕ)) (told : Option (List (SignCall × SignReply))) (reads f1 f2 signs : ℕ) (s : Status) → Refuses h1 h2 f1 f2 s
     → RunEnds shows moment leaves faults nothing disk disk (record { left = left; held = h1; told = told; reads_failed = reads; writes_failed = f1; signs_failed = signs }) (record { left = left; held = h2; told = told; reads_failed = reads; writes_failed = f2; signs_failed = signs }) [] s
-refused shows moment leaves faults disk left h1 h2 told reads f1 f2 signs s (inl c) = inl (record { untouched = record { unread = refl; no_read_failed = refl; unasked = refl; no_sign_failed = refl; none = refl }; same_disk = refl; text = c.0; is_own = c.1; closes = c.2 })
+refused shows moment leaves faults disk left h1 h2 told reads f1 f2 signs s (inl c) = inl (record { untouched = record { unread = refl; no_read_failed = refl; unasked = refl; no_sign_failed = refl }; none = refl; same_disk = refl; text = c.0; is_own = c.1; closes = c.2 })
 refused shows moment leaves faults disk left h1 h2 told reads f1 f2 signs s (inr c) = inr (record {
   same = ap (λ (p : Option (List ℕ) × ℕ). record { left = left; held = p.0; told = told; reads_failed = reads; writes_failed = p.1; signs_failed = signs }) (λ i. (c.1 i, c.2 i));
   same_disk = refl;

@@ -5,13 +5,9 @@ use Rattle.edge_kit.specs.declared.bytes.Root.{Root}
 use Rattle.sign_roots.specs.declared.domains.Domains.{Domains}
 use Rattle.signer_link.specs.declared.signer.SignCall.{SignCall}
 use Rattle.signer_link.specs.declared.signer.SignReply.{SignReply}
-use Rattle.record_journal.specs.Frames.{Keeps}
-use Rattle.record_journal.specs.declared.open.OpenFault.TheVariants as journal_fault
 use Rattle.check_sign.specs.Contents.{Contents}
-use Rattle.check_sign.specs.Opening.{IsOpened, LeavesDesk, OpenFaultIs}
+use Rattle.check_sign.specs.Opening.{IsOpened, LeavesDesk}
 use Rattle.check_sign.specs.declared.event.DeskEvent.{DeskEvent}
-use Rattle.check_sign.specs.declared.open.OpenFault.{OpenFault}
-use Rattle.check_sign.specs.declared.open.OpenFault.TheVariants as open_fault
 use Rattle.session_run.specs.Closings.{Closes}
 use Rattle.session_run.specs.Runs.{Ends, IsUpAt, WithinLimits}
 use Rattle.session_run.specs.declared.next.Limit.{Limit}
@@ -23,7 +19,7 @@ use Rattle.command_line.specs.declared.planned.Plan.{Plan}
 use Rattle.command_line.specs.declared.planned.Plan.TheVariants as plan
 use Rattle.journal_commands.specs.Merging.{MergeEnds, View as MergeView}
 use Rattle.journal_commands.specs.Showing.{ShowEnds}
-use Rattle.validator_cli.specs.Unopened.{TellsFault, IsUnwritten}
+use Rattle.journal_commands.specs.Unopened.{IsUnwritten, NotOpened}
 
 -- what the objects of a program tell, and how often each failed
 pub record Outside : Type 0 where
@@ -34,13 +30,12 @@ pub record Outside : Type 0 where
   pub writes_failed : ℕ
   pub signs_failed : ℕ
 
--- nothing was read, asked or done
-pub record IsUntouched (before now : Outside) (events : List DeskEvent) : Type 0 where
+-- nothing was read or asked
+pub record IsUntouched (before now : Outside) : Type 0 where
   pub unread : now.left ≡ before.left
   pub no_read_failed : now.reads_failed ≡ before.reads_failed
   pub unasked : now.told ≡ before.told
   pub no_sign_failed : now.signs_failed ≡ before.signs_failed
-  pub none : events ≡ []
 
 -- what lines made of a desk over a disk, whose count of faults stood here before: what it noted are the events, and each image
 -- of the disk that is handed back opens to what the desk stands for
@@ -63,21 +58,11 @@ pub record Opened {D : Type 0} (shows : D → List ℕ → Type 0) (moment : D �
   pub opened : IsOpened shows disk_before domains.genesis desk_before
   pub serves : Serves moment leaves faults domains (faults disk_before) desk_before disk_now before now events ended
 
--- no desk was opened, and the output was closed by the line that says why: nothing was read, asked or done, and what the disk
--- keeps is as before
-pub record NotOpened {D : Type 0} (shows : D → List ℕ → Type 0) (moment : D → ℕ) (leaves : D → ℕ → List ℕ → Type 0) (faults : D → ℕ) (genesis : Root) (disk_before disk_now : D) (before now : Outside) (events : List DeskEvent) (ended : Status) : Type 0 where
-  pub fault : OpenFault
-  pub is_fault : OpenFaultIs shows disk_before genesis fault
-  pub cause : fault ≡ open_fault.Journal journal_fault.Disk → Rose (faults disk_before) (faults disk_now)
-  pub untouched : IsUntouched before now events
-  pub tells : TellsFault fault before.held now.held before.writes_failed now.writes_failed ended
-  pub kept : Keeps moment leaves genesis.0 disk_before disk_now
-
--- a session over the desk of a disk
+-- a session over the desk of a disk; where none was opened nothing was read or asked
 abbrev pub SessionEnds : {D : Type 0} → (D → List ℕ → Type 0) → (D → ℕ) → (D → ℕ → List ℕ → Type 0) → (D → ℕ) → Domains → D → D → Outside → Outside → List DeskEvent → Status → Type 0
 SessionEnds shows moment leaves faults domains disk_before disk_now before now events ended =
     Opened shows moment leaves faults domains disk_before disk_now before now events ended
-    ⊎ NotOpened shows moment leaves faults domains.genesis disk_before disk_now before now events ended
+    ⊎ (NotOpened shows moment leaves faults domains.genesis disk_before disk_now before.held now.held before.writes_failed now.writes_failed events ended × IsUntouched before now)
 
 -- what a merge has of the objects
 abbrev pub merge_view : Outside → MergeView
@@ -89,17 +74,15 @@ pub record Merges {D : Type 0} (shows : D → List ℕ → Type 0) (moment : D �
   pub unasked : now.told ≡ before.told
   pub no_sign_failed : now.signs_failed ≡ before.signs_failed
 
--- the journal of the disk was shown, or its showing ended otherwise; nothing was read, and the signer was not asked
+-- the journal of the disk was shown, or its showing ended otherwise; nothing was read or asked
 pub record Shows {D : Type 0} (shows : D → List ℕ → Type 0) (moment : D → ℕ) (leaves : D → ℕ → List ℕ → Type 0) (faults : D → ℕ) (genesis : Root) (disk_before disk_now : D) (before now : Outside) (events : List DeskEvent) (ended : Status) : Type 0 where
   pub ends : ShowEnds shows moment leaves faults genesis disk_before disk_now before.held now.held before.writes_failed now.writes_failed events ended
-  pub unread : now.left ≡ before.left
-  pub no_read_failed : now.reads_failed ≡ before.reads_failed
-  pub unasked : now.told ≡ before.told
-  pub no_sign_failed : now.signs_failed ≡ before.signs_failed
+  pub untouched : IsUntouched before now
 
 -- a text was asked for: nothing is read, asked or done, the disk is the same, and the text is written
 pub record TextShown {D : Type 0} (disk_before disk_now : D) (before now : Outside) (events : List DeskEvent) (ended : Status) : Type 0 where
-  pub untouched : IsUntouched before now events
+  pub untouched : IsUntouched before now
+  pub none : events ≡ []
   pub same_disk : disk_now ≡ disk_before
   pub text : List ℕ
   pub closes : Closes status.Done text before.held now.held before.writes_failed now.writes_failed ended
@@ -111,7 +94,8 @@ pub record IsOwnLine (text : List ℕ) : Type 0 where
 
 -- no command: nothing is read, asked or done, the disk is the same, and the output is closed by a line that says why
 pub record NoCommand {D : Type 0} (disk_before disk_now : D) (before now : Outside) (events : List DeskEvent) (ended : Status) : Type 0 where
-  pub untouched : IsUntouched before now events
+  pub untouched : IsUntouched before now
+  pub none : events ≡ []
   pub same_disk : disk_now ≡ disk_before
   pub text : List ℕ
   pub is_own : IsOwnLine text

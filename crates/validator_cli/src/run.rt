@@ -7,12 +7,11 @@ ghost use Rattle.validator_cli.specs.Endings.{EndsAs, IsComplete, IsSession, Out
 
 use crate::ending::Ending;
 use crate::node::Node;
-use crate::opening::close_unopened;
 use crate::usage::usage_line;
 use check_sign::{Desk, Events};
 use command_line::{Plan, Usage, plan};
 use edge_kit::{Clock, Disk, Disks, Door, Sink, Source};
-use journal_commands::{run_merge, run_show};
+use journal_commands::{close_unopened, run_merge, run_show};
 use session_run::{Status, close, serve_lines};
 use sign_roots::Domains;
 use signer_link::Signer;
@@ -117,12 +116,12 @@ fn run_plan<D: Disk, S: Signer, I: Source, O: Sink>(
 {
     match plan {
         Plan::Session { .. } => run_session(alloc, plan, disks, signer, input, out),
-        Plan::Merge { genesis, .. } => {
-            let (status, disks, events) = run_merge(alloc, *genesis, disks, input, out);
+        Plan::Merge { .. } => {
+            let (status, disks, events) = run_merge(alloc, plan, disks, input, out);
             (status, disks, signer, events)
         }
-        Plan::Show { genesis, .. } => {
-            let (status, disks, events) = run_show(alloc, *genesis, disks, out);
+        Plan::Show { .. } => {
+            let (status, disks, events) = run_show(alloc, plan, disks, out);
             (status, disks, signer, events)
         }
         Plan::Shown(text) => {
@@ -161,7 +160,7 @@ pub fn run_session<D: Disk, S: Signer, I: Source, O: Sink>(
     ensures second { result.1.second ≡ disks.second }
 {
     let Plan::Session { genesis, fork, .. } = plan else {
-        return (Status::Usage, disks, signer, Events::new(alloc));
+        unreachable!()
     };
     let domains = Domains::new(*fork, *genesis);
     open_and_serve(alloc, &domains, disks, signer, input, out)
@@ -185,7 +184,7 @@ fn open_and_serve<D: Disk, S: Signer, I: Source, O: Sink>(
     match Desk::open(alloc, disks, domains.genesis, false, 0) {
         Ok(desk) => serve_desk(alloc, domains, desk, signer, input, out),
         Err((fault, disks)) => {
-            let status = close_unopened(alloc, fault, out);
+            let status = close_unopened(alloc, out, fault);
             (status, disks, signer, Events::new(alloc))
         }
     }

@@ -1,7 +1,8 @@
 use Rattle.std.proofs.Common.{inr, sym, subst}
 use Rattle.check_sign.specs.Opening.{LeavesDesk}
-use Rattle.journal_commands.specs.Merging.{View, DeskMergeEnds}
+use Rattle.journal_commands.specs.Merging.{View, DeskMergeEnds, OpensByMerge}
 use Rattle.journal_commands.proofs.ClosingLemmas.{rose_back}
+use Rattle.journal_commands.proofs.ImageLemmas.{opened_files}
 use Rattle.journal_commands.proofs.MergeLemmas.{earlier}
 use Rattle.journal_commands.proofs.merge.merge_into.Goals as goal
 
@@ -29,6 +30,8 @@ returns-clause-ends g c =
         up = c.in-Ok.ensures.fresh.5;
       };
       ends = (c.merge_input-status.ensures.course, subst F (sym c.end-disks.ensures.first) ends);
+      moments = opened_files g.D.Disk.moment g.D.Disk.leaves c.args.genesis c.args.disks.first _ desk ended (λ root. OpensByMerge root before.left now.left) c.in-Ok.ensures.fresh.0 c.in-Ok.ensures.any_moment c.in-Ok.ensures.left
+          c.merge_input-status.ensures.moments c.end-disks.ensures.first;
       left = subst L (sym c.end-disks.ensures.first) c.end-disks.ensures.left;
       noted = c.end-disks.ensures.events;
     })
