@@ -17,14 +17,14 @@ use Rattle.session_format.specs.declared.closing.FileRefusal.TheVariants as refu
 use Rattle.session_run.specs.declared.next.Limit.TheVariants as limit
 use Rattle.session_run.specs.declared.status.Status.{Status}
 use Rattle.session_run.specs.declared.status.Status.TheVariants as status
-use Rattle.journal_commands.specs.Images.{Leaves, OpensByCall}
+use Rattle.session_run.specs.Images.{Leaves, OpensByCall}
 use Rattle.journal_commands.specs.Unopened.{ClosesBy, IsUnwritten}
 use Rattle.journal_commands.specs.Whole.{WholeStops}
 use Rattle.journal_commands.specs.declared.whole.WholeFault.{WholeFault}
 use Rattle.journal_commands.specs.declared.whole.WholeFault.TheVariants as whole_fault
 use Rattle.journal_commands.specs.Merging.{View, ReadsAll, ReadsFile, Merges, Replies, DeskMergeEnds, MergeEnds, FileCloses, FaultCloses, OpensByMerge, ReplyCloses, merged_text, read_fault_text}
 use Rattle.journal_commands.proofs.ClosingLemmas.{closed_by, closed_as, disk_unopened, write_unopened, read_unopened}
-use Rattle.journal_commands.proofs.ImageLemmas.{still, weaker}
+use Rattle.session_run.proofs.ImageLemmas.{still, weaker}
 
 -- the input was not read to its end
 pub unread_ends : (f : WholeFault) (vb vn : View) (d1 d2 : ℕ) (b : Contents) (result : Status) → WholeStops f file_limit vb.left vn.left vb.reads_failed vn.reads_failed

@@ -28,10 +28,10 @@ use Rattle.check_sign.specs.declared.call.DeskReply.TheVariants as reply
 use Rattle.check_sign.specs.declared.event.DeskEvent.{DeskEvent}
 use Rattle.session_run.specs.declared.status.Status.{Status}
 use Rattle.session_run.specs.declared.status.Status.TheVariants as status
-use Rattle.journal_commands.specs.Images.{Leaves, OpensByCall}
+use Rattle.session_run.specs.Images.{Leaves, OpensByCall}
 use Rattle.journal_commands.specs.Showing.{DeskShowEnds, ShowEnds, StandsStill, kept_text, key_text, listed_text, show_text}
 use Rattle.journal_commands.proofs.ClosingLemmas.{disk_unopened, write_unopened, read_unopened}
-use Rattle.journal_commands.proofs.ImageLemmas.{weaker}
+use Rattle.session_run.proofs.ImageLemmas.{weaker}
 
 -- one more line
 pub listed_more : (keys : List (PubKey × Parts)) (listed : List (PubKey × KeyState)) (one : PubKey × KeyState) → listed_text keys (listed ++ one ∷ []) ≡ listed_text keys listed ++ kept_text one.0 one.1 (kept_of keys one.0)

@@ -1,4 +1,3 @@
-pub mod Images
 pub mod Whole
 pub mod Unopened
 pub mod Merging

@@ -7,7 +7,7 @@ ghost use Rattle.record_join.specs.Keys.{kept_of};
 ghost use Rattle.check_sign.specs.States.{State, DeskStands, MayOpen};
 ghost use Rattle.check_sign.specs.Machine.{IsGrantFor, Reply, key_states};
 ghost use Rattle.check_sign.specs.declared.call.DeskCall.{DeskCall};
-ghost use Rattle.journal_commands.specs.Images.{Leaves};
+ghost use Rattle.session_run.specs.Images.{Leaves};
 ghost use Rattle.journal_commands.specs.Showing.{DeskShowEnds, IsShow, ShowEnds, StandsStill, kept_text, listed_text};
 
 use crate::closing::close_unopened;

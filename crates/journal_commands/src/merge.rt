@@ -7,7 +7,7 @@ ghost use Rattle.interchange_io.specs.Reading.{file_limit};
 ghost use Rattle.record_join.specs.BooksPasts.{EachOnce};
 ghost use Rattle.check_sign.specs.Machine.{IsGrantFor};
 ghost use Rattle.check_sign.specs.declared.call.DeskCall.{DeskCall};
-ghost use Rattle.journal_commands.specs.Images.{Leaves, OpensByCall};
+ghost use Rattle.session_run.specs.Images.{Leaves, OpensByCall};
 ghost use Rattle.journal_commands.specs.Unopened.{ClosesBy};
 ghost use Rattle.journal_commands.specs.Merging.{DeskMergeEnds, FaultCloses, FileCloses, HasMerged, IsMerge, MergeEnds, Merges, OpensByMerge, merged_text};
 

@@ -1,15 +1,18 @@
 -- What a run of the program does, by what its words ask for.
 use Rattle.std.specs.Prelude.{◌≡◌, ◌≢◌, ℕ, ◌++◌, ◌∷◌, ◌⊎◌, List, [], Option, None, codes}
 use Rattle.edge_kit.specs.Causes.{Rose}
+use Rattle.edge_kit.specs.Disks.{LeavesOnly}
 use Rattle.edge_kit.specs.declared.bytes.Root.{Root}
 use Rattle.sign_roots.specs.declared.domains.Domains.{Domains}
 use Rattle.signer_link.specs.declared.signer.SignCall.{SignCall}
 use Rattle.signer_link.specs.declared.signer.SignReply.{SignReply}
 use Rattle.check_sign.specs.Contents.{Contents}
+use Rattle.check_sign.specs.States.{State, DeskStands}
 use Rattle.check_sign.specs.Opening.{IsOpened, LeavesDesk}
 use Rattle.check_sign.specs.declared.event.DeskEvent.{DeskEvent}
 use Rattle.session_run.specs.Closings.{Closes}
-use Rattle.session_run.specs.Runs.{Ends, IsUpAt, WithinLimits}
+use Rattle.session_run.specs.Images.{OpensAfterLines}
+use Rattle.session_run.specs.Runs.{Ends, IsUpAt, ReadsFirst, WithinLimits}
 use Rattle.session_run.specs.declared.next.Limit.{Limit}
 use Rattle.session_run.specs.declared.next.Limit.TheVariants as limit
 use Rattle.session_run.specs.declared.status.Status.{Status}
@@ -19,7 +22,7 @@ use Rattle.command_line.specs.declared.planned.Plan.{Plan}
 use Rattle.command_line.specs.declared.planned.Plan.TheVariants as plan
 use Rattle.journal_commands.specs.Merging.{MergeEnds, View as MergeView}
 use Rattle.journal_commands.specs.Showing.{ShowEnds}
-use Rattle.journal_commands.specs.Unopened.{IsUnwritten, NotOpened}
+use Rattle.journal_commands.specs.Unopened.{IsAsBefore, IsUnwritten, NotOpened}
 
 -- what the objects of a program tell, and how often each failed
 pub record Outside : Type 0 where
@@ -52,11 +55,13 @@ pub record Serves {D : Type 0} (moment : D → ℕ) (leaves : D → ℕ → List
   pub events_are : events ≡ desk_now.events
   pub within : WithinLimits before.left → (l : Limit) → ended ≢ status.InputTooLong l
 
--- a desk was opened over the disk, and served
+-- A desk was opened over the disk, and served. A crash at any moment leaves a file that opens as one that a crash at first might
+-- have left, or to what lasts after some of the lines, the first of what was read.
 pub record Opened {D : Type 0} (shows : D → List ℕ → Type 0) (moment : D → ℕ) (leaves : D → ℕ → List ℕ → Type 0) (faults : D → ℕ) (domains : Domains) (disk_before disk_now : D) (before now : Outside) (events : List DeskEvent) (ended : Status) : Type 0 where
   pub desk_before : Contents
   pub opened : IsOpened shows disk_before domains.genesis desk_before
   pub serves : Serves moment leaves faults domains (faults disk_before) desk_before disk_now before now events ended
+  pub moments : (state : State) → DeskStands desk_before state → LeavesOnly moment leaves disk_before disk_now (λ c. IsAsBefore moment leaves domains.genesis disk_before c ⊎ OpensAfterLines domains 0 domains.genesis (ReadsFirst before.left now.left) state c)
 
 -- a session over the desk of a disk; where none was opened nothing was read or asked
 abbrev pub SessionEnds : {D : Type 0} → (D → List ℕ → Type 0) → (D → ℕ) → (D → ℕ → List ℕ → Type 0) → (D → ℕ) → Domains → D → D → Outside → Outside → List DeskEvent → Status → Type 0

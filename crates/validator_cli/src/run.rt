@@ -1,7 +1,9 @@
 //! The top call, and a session.
 ghost use Rattle.std.specs.Prelude.{◌≡◌, ◌≢◌, ◌⊎◌, [], None, map, string_bytes, Ok};
 ghost use Rattle.edge_kit.specs.Causes.{Rose};
-ghost use Rattle.session_run.specs.Runs.{WithinLimits};
+ghost use Rattle.check_sign.specs.Contents.{Seen};
+ghost use Rattle.session_run.specs.Images.{Leaves, OpensAfterLines};
+ghost use Rattle.session_run.specs.Runs.{ReadsFirst, WithinLimits};
 ghost use Rattle.command_line.specs.Plans.{asked_of, taken_as, nothing};
 ghost use Rattle.validator_cli.specs.Endings.{EndsAs, IsComplete, IsSession, Outside, Refuses, RunEnds, Serves, SessionEnds};
 
@@ -205,6 +207,8 @@ fn serve_desk<D: Disk, S: Signer, I: Source, O: Sink>(
         (record { left = I.left input.new; held = O.held out.new; told = S.told result.2; reads_failed = I.faults input.new; writes_failed = O.faults out.new; signs_failed = S.faults result.2 })
         result.3 result.0 }
     ensures second { result.1.second ≡ desk.second }
+    ensures moments { (ended : Seen D) × (result.1.first ≡ ended.disk)
+        × Leaves D.moment D.leaves (OpensAfterLines domains.now 0 desk.contents.genesis (ReadsFirst (I.left input.old) (I.left input.new))) desk ended }
 {
     let mut desk = desk;
     let mut signer = signer;

@@ -1,5 +1,5 @@
 use Rattle.check_sign.specs.declared.call.DeskCall.TheVariants as call
-use Rattle.journal_commands.proofs.ImageLemmas.{called}
+use Rattle.session_run.proofs.ImageLemmas.{called}
 use Rattle.journal_commands.proofs.merge.ask_merge.Goals as goal
 
 pub returns-clause-moments : goal.returns-clause-moments

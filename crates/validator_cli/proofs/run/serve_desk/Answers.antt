@@ -12,3 +12,6 @@ returns-clause-serves g c = record {
   events_are = c.end-disks.ensures.events;
   within = c.serve_lines-status.ensures.within;
 }
+
+pub returns-clause-moments : goal.returns-clause-moments
+returns-clause-moments g c = (c.serve_lines-status.new.desk, c.end-disks.ensures.first, c.serve_lines-status.ensures.moments)
