@@ -4,8 +4,6 @@
 #[cfg(test)]
 mod adapters;
 #[cfg(test)]
-mod desks;
-#[cfg(test)]
 mod events;
 #[cfg(test)]
 mod faults;
