@@ -12,15 +12,13 @@ mod files;
 #[cfg(test)]
 mod journals;
 #[cfg(test)]
-mod many_keys;
-#[cfg(test)]
 mod marks;
 #[cfg(test)]
 mod objects;
 #[cfg(test)]
 mod outside;
 #[cfg(test)]
-mod restarts;
+mod scripts;
 #[cfg(test)]
 mod sessions;
 #[cfg(test)]
