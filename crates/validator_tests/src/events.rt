@@ -21,51 +21,38 @@ pub fn words_of(alloc: Global, events: &[DeskEvent]) -> Result<String, AllocErro
 fn event_words(alloc: Global, event: &Event) -> Result<String, AllocError> {
     match event {
         Event::Merged { file } => format!(in alloc; "merged {}", file.books.len()),
-        Event::Activated { key } => {
-            let key = hex::encode(alloc, &key.0)?;
-            format!(in alloc; "activated 0x{}", key.as_str())
-        }
+        Event::Activated { key } => key_words(alloc, "activated", key),
         Event::Granted {
             key,
             message,
             grant,
         } => {
-            let key = hex::encode(alloc, &key.0)?;
+            let granted = format!(in alloc; "granted {}", *grant)?;
+            let granted = key_words(alloc, granted.as_str(), key)?;
             let message = message_words(alloc, message)?;
-            format!(in alloc;
-                "granted {} 0x{} {}",
-                *grant,
-                key.as_str(),
-                message.as_str()
-            )
+            format!(in alloc; "{} {}", granted.as_str(), message.as_str())
         }
-        Event::Settled {
-            grant,
-            outcome: Outcome::Sent,
-        } => format!(in alloc; "sent {}", *grant),
-        Event::Settled {
-            grant,
-            outcome: Outcome::Dropped,
-        } => format!(in alloc; "dropped {}", *grant),
-        Event::CloseBegun { key } => {
-            let key = hex::encode(alloc, &key.0)?;
-            format!(in alloc; "close begun 0x{}", key.as_str())
-        }
+        Event::Settled { grant, outcome } => match outcome {
+            Outcome::Sent => format!(in alloc; "sent {}", *grant),
+            Outcome::Dropped => format!(in alloc; "dropped {}", *grant),
+        },
+        Event::CloseBegun { key } => key_words(alloc, "close begun", key),
         Event::Closed { key, book } => book_words(alloc, "closed", key, book),
         Event::Pruned { key, book } => book_words(alloc, "pruned", key, book),
     }
 }
 
+/// What was done to a key.
+fn key_words(alloc: Global, done: &str, key: &PubKey) -> Result<String, AllocError> {
+    let key = hex::encode(alloc, &key.0)?;
+    format!(in alloc; "{done} 0x{}", key.as_str())
+}
+
 /// What was done to a key, and how many blocks and votes a book has.
 fn book_words(alloc: Global, done: &str, key: &PubKey, book: &Book) -> Result<String, AllocError> {
-    let key = hex::encode(alloc, &key.0)?;
-    format!(in alloc;
-        "{} 0x{} {} {}",
-        done,
-        key.as_str(),
-        book.blocks.len(),
-        book.votes.len()
-    )
+    let words = key_words(alloc, done, key)?;
+    let (blocks, votes) = (book.blocks.len(), book.votes.len());
+    format!(in alloc; "{} {blocks} {votes}", words.as_str())
 }
 
 /// A message in words.

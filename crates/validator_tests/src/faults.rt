@@ -1,8 +1,7 @@
 //! Sessions over an input, an output and a signer that fail.
-use crate::events::words_of;
 use crate::marks::filled;
 use crate::outside::{Ended, Faults, fresh_disks, no_faults, ready_signer, run};
-use crate::sessions::WORDS;
+use crate::sessions::SESSION;
 use edge_kit::PubKey;
 use signer_link::MemSigner;
 use std::alloc::{AllocError, Global};
@@ -70,15 +69,8 @@ fn run_input<T: Threads + Wait + Sync>(
     faults: Faults,
 ) -> Result<Ended<MemSigner>, AllocError> {
     let input = filled(alloc, INPUT)?;
-    run(
-        rt,
-        alloc,
-        &WORDS,
-        fresh_disks(alloc)?,
-        input.as_bytes(),
-        signer,
-        faults,
-    )
+    let disks = fresh_disks(alloc)?;
+    run(rt, alloc, SESSION, disks, input.as_bytes(), signer, faults)
 }
 
 /// The faults of a row.
@@ -96,15 +88,10 @@ fn faults_end_the_session_with_their_status(rt: HostRuntime) -> Result<(), Fail>
     for row in OUTSIDE {
         let faults = faults_of(alloc, &row)?;
         let ended = run_input(&rt, alloc, ready_signer(alloc), faults)?;
-        assert_eq!(rt; ended.status, row.status);
-        assert!(rt;
-            ended.output.as_slice() == row.output.as_bytes(),
-            "{}",
-            row.output
-        );
-        let events = words_of(alloc, ended.events.as_slice())?;
-        let wanted = filled(alloc, row.events)?;
-        assert_eq!(rt; events.as_str(), wanted.as_str());
+        let output = row.output;
+        assert_eq!(rt; ended.status, row.status, "{output}");
+        assert!(rt; ended.wrote(alloc, output)?, "{output}");
+        assert!(rt; ended.did(alloc, row.events)?, "{output}");
     }
     Ok(())
 }
@@ -140,20 +127,16 @@ fn signer_of(alloc: Global, row: &Unsigned) -> Result<MemSigner, AllocError> {
 #[test]
 fn a_granted_block_that_is_not_signed_is_told_with_its_cause(rt: HostRuntime) -> Result<(), Fail> {
     let alloc = rt.alloc();
-    let wanted = filled(
-        alloc,
-        "0 activated <K1>\n0 granted 0 <K1> block 1 <Ra>\n0 dropped 0\n",
-    )?;
+    let events = "0 activated <K1>\n0 granted 0 <K1> block 1 <Ra>\n0 dropped 0\n";
     for row in UNSIGNED {
         let cause = row.cause;
         let ended = run_input(&rt, alloc, signer_of(alloc, &row)?, no_faults(alloc))?;
-        assert_eq!(rt; ended.status, Status::Done);
+        assert_eq!(rt; ended.status, Status::Done, "{cause}");
         let output = format!(in alloc;
             "{{\"answer\":\"active\"}}\n{{\"answer\":\"unsigned\",\"cause\":\"{cause}\"}}\n"
         )?;
-        assert!(rt; ended.output.as_slice() == output.as_bytes(), "{cause}");
-        let events = words_of(alloc, ended.events.as_slice())?;
-        assert_eq!(rt; events.as_str(), wanted.as_str());
+        assert!(rt; ended.wrote(alloc, output.as_str())?, "{cause}");
+        assert!(rt; ended.did(alloc, events)?, "{cause}");
     }
     Ok(())
 }
@@ -165,15 +148,10 @@ fn run_letters<T: Threads + Wait + Sync>(
     count: usize,
 ) -> Result<Ended<MemSigner>, AllocError> {
     let letters = vec![in alloc; b'a'; count]?;
-    run(
-        rt,
-        alloc,
-        &WORDS,
-        fresh_disks(alloc)?,
-        letters.as_slice(),
-        ready_signer(alloc),
-        no_faults(alloc),
-    )
+    let disks = fresh_disks(alloc)?;
+    let input = letters.as_slice();
+    let signer = ready_signer(alloc);
+    run(rt, alloc, SESSION, disks, input, signer, no_faults(alloc))
 }
 
 #[test]
@@ -182,11 +160,10 @@ fn a_line_over_the_limit_ends_the_session(rt: HostRuntime) -> Result<(), Fail> {
     let ended = run_letters(&rt, alloc, 16_777_217)?;
     assert_eq!(rt; ended.status, Status::InputTooLong(Limit::Line));
     assert_eq!(rt; ended.status.code(), 9);
-    let output = "validator: input too long: limit 16777216\n";
-    assert!(rt; ended.output.as_slice() == output.as_bytes());
+    assert!(rt; ended.wrote(alloc, "validator: input too long: limit 16777216\n")?);
     let ended = run_letters(&rt, alloc, 16_777_216)?;
     assert_eq!(rt; ended.status, Status::Done);
     let output = "{\"answer\":\"refused\",\"member\":\"line\",\"reason\":\"bad_request\"}\n";
-    assert!(rt; ended.output.as_slice() == output.as_bytes());
+    assert!(rt; ended.wrote(alloc, output)?);
     Ok(())
 }

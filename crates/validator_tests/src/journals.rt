@@ -1,20 +1,14 @@
 //! The commands over a journal, and journals that are not opened.
-use crate::marks::filled;
-use crate::outside::{Ended, disks_after, disks_of, fresh_disks, no_faults, ready_signer, run};
-use crate::sessions::{WORDS, is_text};
-use crate::words::ZEROS;
-use edge_kit::{Disks, MemDisk};
-use signer_link::MemSigner;
+use crate::outside::{disks_after, disks_of, fresh_disks, play};
+use crate::sessions::{ACTIVATE, SESSION};
 use std::alloc::{AllocError, Global};
-use std::sync::Wait;
 use std::test::Fail;
-use std::thread::Threads;
 use validator_cli::Status;
 
 /// Merges the file on the input. The disks are handed in, and the path names nothing here.
-const MERGE: [&str; 6] = ["validator", "merge", "--genesis", ZEROS, "--journal", "j"];
+const MERGE: &str = "validator merge --genesis <G0> --journal j";
 
-const SHOW: [&str; 6] = ["validator", "show", "--genesis", ZEROS, "--journal", "j"];
+const SHOW: &str = "validator show --genesis <G0> --journal j";
 
 /// A block of slot 100 without its root, on the chain G0.
 const FILE: &str =
@@ -24,39 +18,17 @@ const FILE: &str =
 const OTHER_FILE: &str =
     r#"{"data":[],"metadata":{"genesis_validators_root":"<G1>","interchange_format_version":"5"}}"#;
 
-/// Runs words over disks and an input with marks.
-fn run_words<T: Threads + Wait + Sync>(
-    rt: &T,
-    alloc: Global,
-    words: &[&str],
-    disks: Disks<MemDisk>,
-    input: &str,
-) -> Result<Ended<MemSigner>, AllocError> {
-    let input = filled(alloc, input)?;
-    let signer = ready_signer(alloc);
-    run(
-        rt,
-        alloc,
-        words,
-        disks,
-        input.as_bytes(),
-        signer,
-        no_faults(alloc),
-    )
-}
-
 #[test]
 fn a_file_that_was_merged_is_shown(rt: HostRuntime) -> Result<(), Fail> {
     let alloc = rt.alloc();
-    let mut ended = run_words(&rt, alloc, &MERGE, fresh_disks(alloc)?, FILE)?;
+    let mut ended = play(&rt, alloc, MERGE, fresh_disks(alloc)?, FILE)?;
     assert_eq!(rt; ended.status, Status::Done);
-    assert!(rt; is_text(alloc, ended.output.as_slice(), "merged 1\n")?);
+    assert!(rt; ended.wrote(alloc, "merged 1\n")?);
     let line = "<K1> known blocks 1 votes 0 floor_slot 100 floor_source - floor_target -\n";
     for _ in 0..2 {
-        let disks = disks_after(alloc, &ended)?;
-        ended = run_words(&rt, alloc, &SHOW, disks, "")?;
+        ended = play(&rt, alloc, SHOW, disks_after(alloc, &ended)?, "")?;
         assert_eq!(rt; ended.status, Status::Done);
-        assert!(rt; is_text(alloc, ended.output.as_slice(), line)?);
+        assert!(rt; ended.wrote(alloc, line)?);
     }
     Ok(())
 }
@@ -73,7 +45,7 @@ enum Held {
 /// A run over a disk.
 #[derive(Clone, Copy)]
 struct Over {
-    words: &'static [&'static str],
+    words: &'static str,
     held: Held,
     input: &'static str,
     status: Status,
@@ -82,40 +54,40 @@ struct Over {
 
 const RUNS: [Over; 5] = [
     Over {
-        words: &MERGE,
+        words: MERGE,
         held: Held::Nothing,
         input: "{",
         status: Status::FileRefused,
         output: "validator: file refused: json\n",
     },
     Over {
-        words: &MERGE,
+        words: MERGE,
         held: Held::Nothing,
         input: OTHER_FILE,
         status: Status::GenesisDiffers,
         output: "validator: genesis differs: kept <G0>, given <G1>\n",
     },
     Over {
-        words: &SHOW,
+        words: SHOW,
         held: Held::Header { root: 0, gate: 1 },
         input: "",
         status: Status::Damaged,
         output: "validator: damaged at 42: end\n",
     },
     Over {
-        words: &SHOW,
+        words: SHOW,
         held: Held::Nothing,
         input: "",
         status: Status::Done,
         output: "",
     },
     Over {
-        words: &WORDS,
+        words: SESSION,
         held: Held::Header {
             root: 0x11,
             gate: 0,
         },
-        input: r#"{"op":"activate","pubkey":"<K1>"}"#,
+        input: ACTIVATE,
         status: Status::GenesisDiffers,
         output: "validator: genesis differs: kept <G1>, given <G0>\n",
     },
@@ -140,33 +112,27 @@ fn each_fault_of_a_journal_or_a_file_is_told_in_its_line(rt: HostRuntime) -> Res
         let wanted = over.output;
         let bytes = bytes_of(alloc, over.held)?;
         let disks = disks_of(alloc, bytes, Vec::new(alloc))?;
-        let ended = run_words(&rt, alloc, over.words, disks, over.input)?;
+        let ended = play(&rt, alloc, over.words, disks, over.input)?;
         assert_eq!(rt; ended.status, over.status, "{wanted}");
-        assert!(rt;
-            is_text(alloc, ended.output.as_slice(), wanted)?,
-            "{wanted}"
-        );
+        assert!(rt; ended.wrote(alloc, wanted)?, "{wanted}");
         assert!(rt; ended.events.is_empty(), "{wanted}");
     }
     Ok(())
 }
 
-const ACTIVATE: &str = r#"{"op":"activate","pubkey":"<K1>"}
-"#;
-
 #[test]
 fn a_disk_that_fails_ends_the_session(rt: HostRuntime) -> Result<(), Fail> {
     let alloc = rt.alloc();
-    let idle = run_words(&rt, alloc, &WORDS, fresh_disks(alloc)?, "")?;
+    let idle = play(&rt, alloc, SESSION, fresh_disks(alloc)?, "")?;
     assert_eq!(rt; idle.status, Status::Done);
     let opening = idle.disks.first.calls();
     let refused = "{\"answer\":\"refused\",\"reason\":\"disk\"}\nvalidator: disk fault\n";
     for (call, output) in [(opening, refused), (0, "validator: disk fault\n")] {
         let failing = Vec::from_slice(alloc, &[call])?;
         let disks = disks_of(alloc, Vec::new(alloc), failing)?;
-        let ended = run_words(&rt, alloc, &WORDS, disks, ACTIVATE)?;
+        let ended = play(&rt, alloc, SESSION, disks, ACTIVATE)?;
         assert_eq!(rt; ended.status, Status::DiskFault, "call {call}");
-        assert!(rt; ended.output.as_slice() == output.as_bytes(), "call {call}");
+        assert!(rt; ended.wrote(alloc, output)?, "call {call}");
         assert!(rt; ended.events.is_empty(), "call {call}");
     }
     Ok(())

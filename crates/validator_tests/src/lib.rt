@@ -4,8 +4,6 @@
 #[cfg(test)]
 mod adapters;
 #[cfg(test)]
-mod desks;
-#[cfg(test)]
 mod events;
 #[cfg(test)]
 mod faults;
@@ -14,15 +12,13 @@ mod files;
 #[cfg(test)]
 mod journals;
 #[cfg(test)]
-mod many_keys;
-#[cfg(test)]
 mod marks;
 #[cfg(test)]
 mod objects;
 #[cfg(test)]
 mod outside;
 #[cfg(test)]
-mod restarts;
+mod scripts;
 #[cfg(test)]
 mod sessions;
 #[cfg(test)]

@@ -3,7 +3,7 @@ use std::alloc::{AllocError, Global};
 
 /// The text with its marks filled in. A mark is a name between `<` and `>`: K1, K2, K3 and K4 are keys, G0
 /// and G1 genesis validators roots, Ra and Rb signing roots, S(K1,Ra) the signature in memory of a root by a
-/// key. `<file>` begins an interchange file of the chain G0, as a text in JSON, and `</file>` ends it;
+/// key, and S7 one of bytes `77`. `<file>` begins an interchange file of the chain G0, as a text in JSON, and `</file>` ends it;
 /// `</file G1>` ends one of the chain G1. `'` is a quote within such a text.
 pub fn filled(alloc: Global, marked: &str) -> Result<String, AllocError> {
     let mut text = String::new(alloc);
@@ -17,6 +17,12 @@ pub fn filled(alloc: Global, marked: &str) -> Result<String, AllocError> {
         }
     }
     Ok(text)
+}
+
+/// Whether bytes are a text with marks.
+pub fn is_text(alloc: Global, bytes: &[u8], marked: &str) -> Result<bool, AllocError> {
+    let text = filled(alloc, marked)?;
+    Ok(bytes == text.as_bytes())
 }
 
 /// Adds what a mark stands for; a name that stands for nothing is added as it is.
@@ -36,6 +42,7 @@ fn push_meaning(text: &mut String, name: &str) -> Result<(), AllocError> {
         "S(K1,Rb)" => push_hex(text, &[('1', 96), ('b', 64), ('0', 32)]),
         "S(K2,Rb)" => push_hex(text, &[('2', 96), ('b', 64), ('0', 32)]),
         "S(K3,Ra)" => push_hex(text, &[('c', 96), ('a', 64), ('0', 32)]),
+        "S7" => push_hex(text, &[('7', 192)]),
         "file" => push_quoted(text, "{'data':["),
         "/file" => push_file_end(text, '0'),
         "/file G1" => push_file_end(text, '1'),

@@ -1,4 +1,6 @@
 //! What stands for the outside in a test.
+use crate::events::words_of;
+use crate::marks::{filled, is_text};
 use check_sign::Events;
 use edge_kit::{Clock, Disks, Door, MemDisk, MemSink, MemSource, PubKey, Sig};
 use signer_link::{MemSigner, SignReply, SignRequest, Signer};
@@ -100,18 +102,32 @@ pub struct Ended<S> {
     pub events: Events,
 }
 
-/// Runs the program's words over disks and an input.
+impl<S> Ended<S> {
+    /// Whether the output is a text with marks.
+    pub fn wrote(&self, alloc: Global, marked: &str) -> Result<bool, AllocError> {
+        is_text(alloc, self.output.as_slice(), marked)
+    }
+
+    /// Whether the desk's events in words are a text with marks.
+    pub fn did(&self, alloc: Global, marked: &str) -> Result<bool, AllocError> {
+        let events = words_of(alloc, self.events.as_slice())?;
+        is_text(alloc, events.as_bytes(), marked)
+    }
+}
+
+/// Runs the program over disks and an input. Its words are one text, with marks and with spaces between them.
 pub fn run<T: Threads + Wait + Sync, S: Signer + Drop>(
     rt: &T,
     alloc: Global,
-    words: &[&str],
+    words: &str,
     disks: Disks<MemDisk>,
     input: &[u8],
     signer: S,
     faults: Faults,
 ) -> Result<Ended<S>, AllocError> {
+    let words = filled(alloc, words)?;
     let mut texts: Vec<String> = Vec::new(alloc);
-    for word in words {
+    for word in words.split_whitespace() {
         texts.push(String::from_str(alloc, word)?)?;
     }
     let Faults {
@@ -141,4 +157,18 @@ pub fn run<T: Threads + Wait + Sync, S: Signer + Drop>(
         signer: ending.signer,
         events: ending.events,
     })
+}
+
+/// Runs words over disks and an input with marks, where nothing fails and the signer holds every key.
+pub fn play<T: Threads + Wait + Sync>(
+    rt: &T,
+    alloc: Global,
+    words: &str,
+    disks: Disks<MemDisk>,
+    input: &str,
+) -> Result<Ended<MemSigner>, AllocError> {
+    let input = filled(alloc, input)?;
+    let signer = ready_signer(alloc);
+    let faults = no_faults(alloc);
+    run(rt, alloc, words, disks, input.as_bytes(), signer, faults)
 }

@@ -1,9 +1,10 @@
 //! Sessions without faults: what is read, what is written, and what the desk did.
-use crate::events::words_of;
 use crate::files::FILES;
 use crate::marks::filled;
-use crate::outside::{fresh_disks, no_faults, ready_signer, run};
+use crate::outside::{Ended, disks_after, fresh_disks, no_faults, play, ready_signer, run};
+use crate::scripts::{Session, in_two, titled};
 use crate::signing::SIGNING;
+use signer_link::MemSigner;
 use std::alloc::{AllocError, Global};
 use std::process::Abort;
 use std::sync::Wait;
@@ -12,92 +13,120 @@ use std::thread::Threads;
 use validator_cli::Status;
 
 /// The words of a session for the chain G0.
-pub const WORDS: [&str; 4] = [
-    "validator",
-    "session",
-    "--genesis",
-    "0x0000000000000000000000000000000000000000000000000000000000000000",
-];
+pub const SESSION: &str = "validator session --genesis <G0>";
 
-/// A session, by texts with marks.
-#[derive(Clone, Copy)]
-pub struct Session {
-    /// What it shows.
-    pub shows: &'static str,
-    pub input: &'static str,
-    pub output: &'static str,
-    /// The desk's events in words.
-    pub events: &'static str,
-}
+/// A line that makes K1 active.
+pub const ACTIVATE: &str = r#"{"op":"activate","pubkey":"<K1>"}
+"#;
 
-/// What a session came to.
-#[derive(Drop)]
-struct Played {
-    status: Status,
-    output: Vec<u8>,
-    events: String,
-}
-
-/// Runs a session over an input with marks.
-fn play<T: Threads + Wait + Sync>(
+/// Compares what a run came to with a session.
+fn compare<T: Abort>(
     rt: &T,
     alloc: Global,
-    input: &str,
-) -> Result<Played, AllocError> {
-    let input = filled(alloc, input)?;
-    let ended = run(
-        rt,
-        alloc,
-        &WORDS,
-        fresh_disks(alloc)?,
-        input.as_bytes(),
-        ready_signer(alloc),
-        no_faults(alloc),
-    )?;
-    let events = words_of(alloc, ended.events.as_slice())?;
-    Ok(Played {
-        status: ended.status,
-        output: ended.output,
-        events,
-    })
-}
-
-/// Whether bytes are a text with marks.
-pub fn is_text(alloc: Global, bytes: &[u8], marked: &str) -> Result<bool, AllocError> {
-    let text = filled(alloc, marked)?;
-    Ok(bytes == text.as_bytes())
+    shows: &str,
+    ended: &Ended<MemSigner>,
+    session: &Session,
+) -> Result<(), AllocError> {
+    assert_eq!(rt; ended.status, Status::Done, "{shows}");
+    assert!(rt; ended.wrote(alloc, session.output.as_str())?, "{shows}");
+    assert!(rt; ended.did(alloc, session.events.as_str())?, "{shows}");
+    Ok(())
 }
 
 /// Runs each session, and compares what it came to with what it has to come to.
-fn compare<T: Threads + Wait + Sync + Abort>(
+fn play_each<T: Threads + Wait + Sync + Abort>(
     rt: &T,
     alloc: Global,
-    sessions: &[Session],
+    scripts: &[&str],
 ) -> Result<(), AllocError> {
-    for session in sessions {
-        let shows = session.shows;
-        let played = play(rt, alloc, session.input)?;
-        assert_eq!(rt; played.status, Status::Done, "{shows}");
-        assert!(rt;
-            is_text(alloc, played.output.as_slice(), session.output)?,
-            "{shows}"
-        );
-        assert!(rt;
-            is_text(alloc, played.events.as_bytes(), session.events)?,
-            "{shows}"
-        );
+    for script in scripts {
+        let (shows, lines) = titled(script);
+        let session = Session::read(rt, alloc, lines)?;
+        let disks = fresh_disks(alloc)?;
+        let ended = play(rt, alloc, SESSION, disks, session.input.as_str())?;
+        compare(rt, alloc, shows, &ended, &session)?;
     }
     Ok(())
 }
 
 #[test]
 fn signing_sessions_answer_line_by_line(rt: HostRuntime) -> Result<(), Fail> {
-    compare(&rt, rt.alloc(), &SIGNING)?;
+    play_each(&rt, rt.alloc(), &SIGNING)?;
     Ok(())
 }
 
 #[test]
 fn sessions_with_files_answer_line_by_line(rt: HostRuntime) -> Result<(), Fail> {
-    compare(&rt, rt.alloc(), &FILES)?;
+    play_each(&rt, rt.alloc(), &FILES)?;
+    Ok(())
+}
+
+/// Runs each session in two runs over the same disks, the second run for the last request, and compares what
+/// each comes to with its part of the session; in the second run, grants and moments are counted anew.
+fn play_each_in_two<T: Threads + Wait + Sync + Abort>(
+    rt: &T,
+    alloc: Global,
+    scripts: &[&str],
+) -> Result<(), AllocError> {
+    for script in scripts {
+        let (shows, lines) = titled(script);
+        let (before, last) = in_two(alloc, lines)?;
+        let before = Session::read(rt, alloc, before.as_str())?;
+        let last = Session::read(rt, alloc, last.as_str())?;
+        let disks = fresh_disks(alloc)?;
+        let first = play(rt, alloc, SESSION, disks, before.input.as_str())?;
+        compare(rt, alloc, shows, &first, &before)?;
+        let disks = disks_after(alloc, &first)?;
+        let second = play(rt, alloc, SESSION, disks, last.input.as_str())?;
+        assert_eq!(rt; second.status, Status::Done, "{shows}");
+        assert!(rt; second.wrote(alloc, last.output.as_str())?, "{shows}");
+        let noted = last.events.as_str().lines().count();
+        assert_eq!(rt; second.events.len(), noted, "{shows}");
+    }
+    Ok(())
+}
+
+#[test]
+fn two_runs_over_the_same_disks_answer_as_one(rt: HostRuntime) -> Result<(), Fail> {
+    play_each_in_two(&rt, rt.alloc(), &SIGNING)?;
+    play_each_in_two(&rt, rt.alloc(), &FILES)?;
+    Ok(())
+}
+
+/// A request to merge a file of so many keys with empty lists, the numbers from 0 in hex.
+fn merge_of(alloc: Global, keys: u32) -> Result<String, AllocError> {
+    let mut text = filled(alloc, "{\"op\":\"merge\",\"file\":\"<file>")?;
+    for number in 0..keys {
+        let comma = if number == 0 { "" } else { "," };
+        let entry = format!(in alloc;
+            "{comma}{{\\\"pubkey\\\":\\\"0x{number:096x}\\\",\\\"signed_attestations\\\":[],\\\"signed_blocks\\\":[]}}"
+        )?;
+        text.push_str(entry.as_str())?;
+    }
+    text.push_str(filled(alloc, "</file>\"}\n")?.as_str())?;
+    Ok(text)
+}
+
+const LATER: &str =
+    r#"{"op":"merge","file":"<file>{'pubkey':'<K1>','signed_attestations':[],'signed_blocks':[]}</file>"}
+{"op":"merge","file":"<file>{'pubkey':'0x000000000000000000000000000000000000000000000000000000000000000000000000000000000000000000000007','signed_attestations':[],'signed_blocks':[]}</file>"}
+"#;
+
+#[test]
+fn a_merge_that_passes_65536_keys_is_refused(rt: HostRuntime) -> Result<(), Fail> {
+    let alloc = rt.alloc();
+    let mut input = merge_of(alloc, 65_536)?;
+    input.push_str(filled(alloc, LATER)?.as_str())?;
+    let disks = fresh_disks(alloc)?;
+    let signer = ready_signer(alloc);
+    let faults = no_faults(alloc);
+    let ended = run(&rt, alloc, SESSION, disks, input.as_bytes(), signer, faults)?;
+    assert_eq!(rt; ended.status, Status::Done);
+    let output = r#"{"answer":"merged","keys":"65536"}
+{"answer":"refused","have":"65536","new":"1","reason":"too_many_keys"}
+{"answer":"merged","keys":"1"}
+"#;
+    assert!(rt; ended.wrote(alloc, output)?);
+    assert!(rt; ended.did(alloc, "0 merged 65536\n0 merged 1\n")?);
     Ok(())
 }

@@ -7,91 +7,63 @@ use std::test::Fail;
 use std::thread::Threads;
 use validator_cli::Status;
 
-pub const ZEROS: &str = "0x0000000000000000000000000000000000000000000000000000000000000000";
-
 /// Runs words over an input whose every read up to the fourth fails, so that reading it at all ends the run
 /// with another status.
 fn run_words<T: Threads + Wait + Sync>(
     rt: &T,
     alloc: Global,
-    words: &[&str],
+    words: &str,
 ) -> Result<Ended<MemSigner>, AllocError> {
     let faults = Faults {
         reads: Vec::from_slice(alloc, &[0, 1, 2, 3])?,
         writes: Vec::new(alloc),
         room: 1 << 20,
     };
-    run(
-        rt,
-        alloc,
-        words,
-        fresh_disks(alloc)?,
-        b"{\"op\":\"export\"}\n",
-        ready_signer(alloc),
-        faults,
-    )
+    let input = b"{\"op\":\"export\"}\n";
+    let signer = ready_signer(alloc);
+    run(rt, alloc, words, fresh_disks(alloc)?, input, signer, faults)
 }
 
-/// What the output has to be.
-#[derive(Clone, Copy)]
-struct Said {
-    words: &'static [&'static str],
-    begins: &'static str,
-}
-
-/// Words that are no command, and how the one line that is written begins.
-const FAULTY: [Said; 8] = [
-    Said {
-        words: &[],
-        begins: "validator: error: ",
-    },
-    Said {
-        words: &["validator"],
-        begins: "validator: error: 'validator' requires a subcommand",
-    },
-    Said {
-        words: &["validator", "session"],
-        begins: "validator: error: the following required arguments were not provided: --genesis <HEX32>",
-    },
-    Said {
-        words: &["validator", "session", "--genesis"],
-        begins: "validator: error: a value is required for '--genesis <HEX32>'",
-    },
-    Said {
-        words: &["validator", "session", "--genesis", "0x00"],
-        begins: "validator: error: invalid value '0x00' for '--genesis <HEX32>'",
-    },
-    Said {
-        words: &["validator", "serve", "--genesis", ZEROS],
-        begins: "validator: error: unrecognized subcommand 'serve'",
-    },
-    Said {
-        words: &["validator", "session", "--genesis", ZEROS, "more"],
-        begins: "validator: error: unexpected argument 'more'",
-    },
-    Said {
-        words: &[
-            "validator",
-            "session",
-            "--genesis",
-            ZEROS,
-            "--fork",
-            "0x00000001:0x00000002",
-        ],
-        begins: "validator: error: invalid value '0x00000001:0x00000002' for '--fork",
-    },
+/// Words that are no command, and how the one line that is written goes on after `validator: error: `.
+const FAULTY: [(&str, &str); 8] = [
+    ("", ""),
+    ("validator", "'validator' requires a subcommand"),
+    (
+        "validator session",
+        "the following required arguments were not provided: --genesis <HEX32>",
+    ),
+    (
+        "validator session --genesis",
+        "a value is required for '--genesis <HEX32>'",
+    ),
+    (
+        "validator session --genesis 0x00",
+        "invalid value '0x00' for '--genesis <HEX32>'",
+    ),
+    (
+        "validator serve --genesis <G0>",
+        "unrecognized subcommand 'serve'",
+    ),
+    (
+        "validator session --genesis <G0> more",
+        "unexpected argument 'more'",
+    ),
+    (
+        "validator session --genesis <G0> --fork 0x00000001:0x00000002",
+        "invalid value '0x00000001:0x00000002' for '--fork",
+    ),
 ];
 
 #[test]
 fn words_that_are_no_command_are_told_in_one_line(rt: HostRuntime) -> Result<(), Fail> {
     let alloc = rt.alloc();
-    for said in FAULTY {
-        let ended = run_words(&rt, alloc, said.words)?;
-        let begins = said.begins;
-        assert_eq!(rt; ended.status, Status::Usage, "{begins}");
-        assert_eq!(rt; ended.status.code(), 2);
-        assert!(rt; ended.output.starts_with(begins.as_bytes()), "{begins}");
-        assert!(rt; is_one_line(ended.output.as_slice()), "{begins}");
+    for (words, told) in FAULTY {
+        let ended = run_words(&rt, alloc, words)?;
+        let begins = format!(in alloc; "validator: error: {told}")?;
+        assert_eq!(rt; ended.status, Status::Usage, "{told}");
+        assert_eq!(rt; ended.status.code(), 2, "{told}");
+        assert!(rt; ended.output.starts_with(begins.as_bytes()), "{told}");
+        assert!(rt; is_one_line(ended.output.as_slice()), "{told}");
     }
     Ok(())
 }
@@ -105,38 +77,28 @@ fn is_one_line(bytes: &[u8]) -> bool {
 }
 
 /// Words that ask for a text, and how it begins.
-const SHOWN: [Said; 5] = [
-    Said {
-        words: &["validator", "--help"],
-        begins: "Ethereum validator client that never signs two messages that get a key slashed\n\nUsage: validator <COMMAND>\n",
-    },
-    Said {
-        words: &["validator", "help"],
-        begins: "Ethereum validator client that never signs two messages that get a key slashed\n\nUsage: validator <COMMAND>\n",
-    },
-    Said {
-        words: &["validator", "session", "--help"],
-        begins: "Answers signing requests, one JSON object a line, from standard input\n\nUsage: validator session",
-    },
-    Said {
-        words: &["validator", "help", "session"],
-        begins: "Answers signing requests, one JSON object a line, from standard input\n\nUsage: validator session",
-    },
-    Said {
-        words: &["validator", "--version"],
-        begins: "validator 0.1.0\n",
-    },
+const SHOWN: [(&str, &str); 5] = [
+    ("validator --help", HELP),
+    ("validator help", HELP),
+    ("validator session --help", SESSION_HELP),
+    ("validator help session", SESSION_HELP),
+    ("validator --version", "validator 0.1.0\n"),
 ];
+
+const HELP: &str =
+    "Ethereum validator client that never signs two messages that get a key slashed\n\nUsage: validator <COMMAND>\n";
+
+const SESSION_HELP: &str =
+    "Answers signing requests, one JSON object a line, from standard input\n\nUsage: validator session";
 
 #[test]
 fn help_and_version_are_shown_and_nothing_is_read(rt: HostRuntime) -> Result<(), Fail> {
     let alloc = rt.alloc();
-    for said in SHOWN {
-        let ended = run_words(&rt, alloc, said.words)?;
-        let begins = said.begins;
+    for (words, begins) in SHOWN {
+        let ended = run_words(&rt, alloc, words)?;
         assert_eq!(rt; ended.status, Status::Done, "{begins}");
         assert!(rt; ended.output.starts_with(begins.as_bytes()), "{begins}");
-        assert!(rt; ended.events.is_empty());
+        assert!(rt; ended.events.is_empty(), "{begins}");
     }
     Ok(())
 }

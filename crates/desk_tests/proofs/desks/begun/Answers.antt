@@ -1,8 +1,8 @@
 use Rattle.std.proofs.Common.{◌≡◌, [], refl, sym, ◌∙◌}
 use Rattle.edge_kit.specs.OnMemDisks.{disk_bytes}
 use Rattle.check_sign.specs.States.{nothing_lasts}
-use Rattle.validator_tests.proofs.StandingLemmas.{opens_nothing}
-use Rattle.validator_tests.proofs.desks.begun.Goals as goal
+use Rattle.desk_tests.proofs.StandingLemmas.{opens_nothing}
+use Rattle.desk_tests.proofs.desks.begun.Goals as goal
 
 pub returns : goal.returns
 returns g c =

@@ -1,8 +1,7 @@
 //! The desk itself: the closing of a key, and stops of its disk.
 ghost use Rattle.std.specs.Prelude.{Contains, IfOk};
-ghost use Rattle.validator_tests.specs.Standing.{StandsForOne};
+ghost use Rattle.desk_tests.specs.Standing.{StandsForOne};
 
-use crate::outside::disks_of;
 use check_sign::{Desk, DeskReply, Grant, KeyState, Outcome};
 use edge_kit::{Crash, Disks, MemDisk, PubKey, Root};
 use protect_record::Verdict;
@@ -18,6 +17,14 @@ const GENESIS: Root = Root([0; 32]);
 const RA: Root = Root([0xaa; 32]);
 
 const RB: Root = Root([0xbb; 32]);
+
+/// Disks of which the first has these bytes and stops at a call, and the second is empty.
+fn disks_of(alloc: Global, bytes: &[u8], stop: Option<u64>) -> Result<Disks<MemDisk>, AllocError> {
+    Ok(Disks {
+        first: MemDisk::new(alloc, bytes.to_vec(alloc)?, Vec::new(alloc), stop)?,
+        second: MemDisk::new(alloc, Vec::new(alloc), Vec::new(alloc), None)?,
+    })
+}
 
 /// Opens a desk.
 fn opened<T: Abort>(rt: &T, alloc: Global, disks: Disks<MemDisk>) -> Desk<MemDisk> {
@@ -145,8 +152,8 @@ fn a_key_is_closed_once_no_grant_of_it_is_open(rt: HostRuntime) -> Result<(), Fa
     assert!(rt; book.blocks.is_empty());
     assert!(rt; book.votes.as_slice() == [signed].as_slice());
     let (disks, _) = desk.end();
-    let bytes = disks.first.bytes().to_vec(alloc)?;
-    let mut later = opened(&rt, alloc, disks_of(alloc, bytes, Vec::new(alloc))?);
+    let disks = disks_of(alloc, disks.first.bytes(), None)?;
+    let mut later = opened(&rt, alloc, disks);
     let state = first_state(&rt, &mut later);
     assert!(rt; state == Some((KEY, KeyState::Closed)));
     Ok(())
@@ -163,7 +170,7 @@ fn active_disk<T: Abort>(rt: &T, alloc: Global) -> Result<MemDisk, AllocError> {
 
 /// How many calls of the disk the opening of a desk makes.
 fn opening_calls<T: Abort>(rt: &T, alloc: Global, bytes: &[u8]) -> Result<u64, AllocError> {
-    let disks = disks_of(alloc, bytes.to_vec(alloc)?, Vec::new(alloc))?;
+    let disks = disks_of(alloc, bytes, None)?;
     let (disks, _) = opened(rt, alloc, disks).end();
     Ok(disks.first.calls())
 }
@@ -175,12 +182,7 @@ fn stopped<T: Abort>(
     bytes: &[u8],
     stop: u64,
 ) -> Result<MemDisk, AllocError> {
-    let bytes = bytes.to_vec(alloc)?;
-    let disks = Disks {
-        first: MemDisk::new(alloc, bytes, Vec::new(alloc), Some(stop))?,
-        second: MemDisk::new(alloc, Vec::new(alloc), Vec::new(alloc), None)?,
-    };
-    let mut desk = opened(rt, alloc, disks);
+    let mut desk = opened(rt, alloc, disks_of(alloc, bytes, Some(stop))?);
     match desk.propose(KEY, vote(1, 2, RA), 0) {
         DeskReply::Disk => {}
         _ => rt.panic("the disk did not stop"),
@@ -193,8 +195,7 @@ fn stopped<T: Abort>(
 /// Whether a desk that is opened over an image grants another vote of the target, and not for a double vote. The
 /// vote of the stopped proposal is granted, whether it is there or not.
 fn grants_another<T: Abort>(rt: &T, alloc: Global, image: &[u8]) -> Result<bool, AllocError> {
-    let disks = disks_of(alloc, image.to_vec(alloc)?, Vec::new(alloc))?;
-    let mut desk = opened(rt, alloc, disks);
+    let mut desk = opened(rt, alloc, disks_of(alloc, image, None)?);
     match desk.propose(KEY, vote(1, 2, RB), 0) {
         DeskReply::Granted(grant) => {
             desk.settle(grant, Outcome::Dropped);

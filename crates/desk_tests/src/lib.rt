@@ -1,0 +1,5 @@
+//! Tests of the desk alone, over disks in memory.
+#![tactic(auto)]
+
+#[cfg(test)]
+mod desks;

@@ -1,0 +1,72 @@
+//! Sessions as they are told in scripts.
+use std::alloc::{AllocError, Global};
+use std::process::Abort;
+
+/// What goes into a session and what comes of it, by texts with marks.
+#[derive(Drop)]
+pub struct Session {
+    pub input: String,
+    pub output: String,
+    /// The desk's events in words.
+    pub events: String,
+}
+
+impl Session {
+    /// Reads the lines of a script: `>` begins a request, `>>` one without its newline, `<` an answer, `*` an
+    /// event, and `!` with the name of a member a request that is refused as bad in that member.
+    pub fn read<T: Abort>(rt: &T, alloc: Global, lines: &str) -> Result<Session, AllocError> {
+        let mut session = Session {
+            input: String::new(alloc),
+            output: String::new(alloc),
+            events: String::new(alloc),
+        };
+        for line in lines.lines() {
+            session.add(rt, line)?;
+        }
+        Ok(session)
+    }
+
+    /// Adds a line of a script.
+    fn add<T: Abort>(&mut self, rt: &T, line: &str) -> Result<(), AllocError> {
+        match line.split_once(' ') {
+            Some((">", request)) => push_line(&mut self.input, request),
+            Some((">>", request)) => self.input.push_str(request),
+            Some(("<", answer)) => push_line(&mut self.output, answer),
+            Some(("*", event)) => push_line(&mut self.events, event),
+            Some(("!", bad)) => self.add_bad(bad),
+            _ => rt.panic("no line of a script"),
+        }
+    }
+
+    /// Adds a request that is refused, with the name of its bad member before it.
+    fn add_bad(&mut self, bad: &str) -> Result<(), AllocError> {
+        let (member, request) = bad.split_once(' ').unwrap_or((bad, ""));
+        push_line(&mut self.input, request)?;
+        self.output
+            .push_str("{\"answer\":\"refused\",\"member\":\"")?;
+        self.output.push_str(member)?;
+        push_line(&mut self.output, "\",\"reason\":\"bad_request\"}")
+    }
+}
+
+/// Adds a text and a newline.
+fn push_line(text: &mut String, line: &str) -> Result<(), AllocError> {
+    text.push_str(line)?;
+    text.push('\n')
+}
+
+/// What a script shows, which is its first line, and the lines after it.
+pub fn titled(script: &str) -> (&str, &str) {
+    script.split_once('\n').unwrap_or((script, ""))
+}
+
+/// The lines of a script in two: those before the last request, and it with what comes of it.
+pub fn in_two(alloc: Global, lines: &str) -> Result<(String, String), AllocError> {
+    match lines.rsplit_once("\n>") {
+        Some((before, last)) => {
+            let before = String::from_str(alloc, before)?;
+            Ok((before, format!(in alloc; ">{last}")?))
+        }
+        None => Ok((String::new(alloc), String::from_str(alloc, lines)?)),
+    }
+}
