@@ -24,13 +24,18 @@ block = lambda slot, r: json.dumps({"op": "block", "pubkey": key, "slot": str(sl
 activate = json.dumps({"op": "activate", "pubkey": key}) + "\n"
 random.seed(7)
 next_slot, signed, lost, looked, made = 0, [], 0, 0, 0
-for kill in range(kills):
+
+def start():
     run = subprocess.Popen(words, stdin=subprocess.PIPE, stdout=subprocess.PIPE, text=True, bufsize=1)
-    # after a restart: what was answered as signed is refused with another root
     run.stdin.write(activate)
     run.stdin.flush()
     assert json.loads(run.stdout.readline())["answer"] == "active"
-    for slot in signed:
+    return run
+
+# after a restart: what was answered as signed is refused with another root
+def look(run, slots):
+    global looked, lost
+    for slot in slots:
         run.stdin.write(block(slot, other))
         run.stdin.flush()
         answer = json.loads(run.stdout.readline())
@@ -38,10 +43,12 @@ for kill in range(kills):
         if answer.get("answer") != "refused" or answer.get("reason") != "double_block":
             lost += 1
             print(f"slot {slot} was signed, and answered afterwards: {answer}")
-    signed = signed[-1:]
-    # sign until the kill
-    wait = random.uniform(0.001, 0.12)
-    timer = threading.Timer(wait, run.kill)
+
+# signs until the program is killed, and gives the slots that were answered as signed
+def sign_until_killed(run):
+    global next_slot
+    slots = []
+    timer = threading.Timer(random.uniform(0.001, 0.12), run.kill)
     timer.start()
     try:
         while True:
@@ -52,8 +59,7 @@ for kill in range(kills):
                 break
             answer = json.loads(line)
             assert answer["answer"] == "signed", answer
-            signed.append(next_slot)
-            made += 1
+            slots.append(next_slot)
             next_slot += 1
     except BrokenPipeError:
         pass
@@ -61,6 +67,18 @@ for kill in range(kills):
     run.kill()
     run.wait()
     next_slot += 1
+    return slots
+
+for kill in range(kills):
+    run = start()
+    look(run, signed)
+    fresh = sign_until_killed(run)
+    made += len(fresh)
+    signed = signed[-1:] + fresh
+run = start()
+look(run, signed)
+run.stdin.close()
+run.wait()
 print(f"kills {kills}, signed {made}, looked at again {looked}, lost {lost}")
 sys.exit(1 if lost else 0)
 PY
