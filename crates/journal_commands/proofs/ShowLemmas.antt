@@ -1,15 +1,17 @@
 -- The lines of a desk's keys, and what each fault tells.
-use Rattle.std.proofs.Common.{◌≡◌, ℕ, List, [], ◌∷◌, ◌++◌, map, Option, refl, sym, ◌∙◌, ap, subst, ⊎_elim, inl, inr, Some, cond, append_assoc}
-use Rattle.std.specs.Prelude.{flat_map}
+use Rattle.std.proofs.Common.{◌≡◌, ℕ, ◌+◌, ◌≤◌, ◌<◌, length, take, drop, get_or, Result, Ok, Err, List, [], ◌∷◌, ◌++◌, map, Option, refl, sym, ◌∙◌, ap, subst, ⊎_elim, inl, inr, Some, cond, append_assoc}
+use Rattle.std.specs.Prelude.{flat_map, OnErr}
 use Rattle.std.specs.Map.{keys_of}
 use Rattle.std.specs.Option.{option_or}
 use Rattle.std.specs.Ordering.{eq_by_cmp}
 use Rattle.std.specs.List.{IsDistinct}
 use Rattle.std.specs.List.Sorted.{IsStrictlySortedBy}
 use Rattle.std.specs.Io.KnownBytes.{Appends}
-use Rattle.std.proofs.lemmas.List.{append-nil}
+use Rattle.std.proofs.lemmas.List.{append-nil, take-append-drop, take-append-le, take_more}
+use Rattle.std.proofs.Math.Seq.{take-append-add}
 use Rattle.std.proofs.lemmas.Grind.{flat_map-append}
 use Rattle.edge_kit.specs.Causes.{Rose}
+use Rattle.edge_kit.proofs.TellingLemmas.{Appends-nil}
 use Rattle.edge_kit.specs.declared.bytes.PubKey.{PubKey}
 use Rattle.edge_kit.specs.declared.bytes.Root.{Root}
 use Rattle.protect_record.specs.Parts.{Parts}
@@ -29,7 +31,7 @@ use Rattle.check_sign.specs.declared.event.DeskEvent.{DeskEvent}
 use Rattle.session_run.specs.declared.status.Status.{Status}
 use Rattle.session_run.specs.declared.status.Status.TheVariants as status
 use Rattle.session_run.specs.Images.{Leaves, OpensByCall}
-use Rattle.journal_commands.specs.Showing.{DeskShowEnds, ShowEnds, StandsStill, kept_text, key_text, listed_text, show_text}
+use Rattle.journal_commands.specs.Showing.{DeskShowEnds, ShowEnds, ShowsFront, StandsStill, kept_text, key_text, listed_text, show_text}
 use Rattle.journal_commands.proofs.ClosingLemmas.{disk_unopened, write_unopened, read_unopened}
 use Rattle.session_run.proofs.ImageLemmas.{weaker}
 
@@ -37,6 +39,27 @@ use Rattle.session_run.proofs.ImageLemmas.{weaker}
 pub listed_more : (keys : List (PubKey × Parts)) (listed : List (PubKey × KeyState)) (one : PubKey × KeyState) → listed_text keys (listed ++ one ∷ []) ≡ listed_text keys listed ++ kept_text one.0 one.1 (kept_of keys one.0)
 listed_more keys listed one =
     flat_map-append (λ (o : PubKey × KeyState). kept_text o.0 o.1 (kept_of keys o.0)) listed (one ∷ []) ∙ ap (λ t. listed_text keys listed ++ t) (append-nil (kept_text one.0 one.1 (kept_of keys one.0)))
+
+-- what holds whatever came holds where an error came
+pub at_err : {T E A : Type 0} (result : Result T E) → A → OnErr result A
+at_err (Ok x) h = tt
+at_err (Err e) h = h
+
+-- what stands before a line, and a front of it, is a front of all lines
+pub listed_part : (keys : List (PubKey × Parts)) (listed : List (PubKey × KeyState)) (i : ℕ) (d : PubKey × KeyState) (n : ℕ) → i < length listed
+    → n ≤ length (kept_text (get_or listed i d).0 (get_or listed i d).1 (kept_of keys (get_or listed i d).0))
+    → listed_text keys (take i listed) ++ take n (kept_text (get_or listed i d).0 (get_or listed i d).1 (kept_of keys (get_or listed i d).0)) ≡ take (length (listed_text keys (take i listed)) + n) (listed_text keys listed)
+listed_part keys listed i d n within short =
+    let one = get_or listed i d in
+    let front = listed_text keys (take i listed) in
+    let line = kept_text one.0 one.1 (kept_of keys one.0) in
+    let rest = listed_text keys (drop (i + 1) listed) in
+    let whole : listed_text keys listed ≡ front ++ (line ++ rest) =
+    ap (listed_text keys) (sym (take-append-drop (i + 1) listed))
+    ∙ flat_map-append (λ (o : PubKey × KeyState). kept_text o.0 o.1 (kept_of keys o.0)) (take (i + 1) listed) (drop (i + 1) listed)
+    ∙ ap (λ t. t ++ rest) (ap (listed_text keys) (take_more listed i d within) ∙ listed_more keys (take i listed) one)
+    ∙ append_assoc front line rest in
+    sym (ap (take (length front + n)) whole ∙ take-append-add front (line ++ rest) n ∙ ap (λ t. front ++ t) (take-append-le n line rest short))
 
 abbrev names_text : List (PubKey × Parts) → List (PubKey × KeyState) → List PubKey → List ℕ
 names_text keys states names = flat_map (λ key. kept_text key (key_state states key) (kept_of keys key)) names
@@ -90,6 +113,16 @@ all_shown b e listed held_before held_now is still text state stands =
     let A : List ℕ → Type 0 = λ t. Appends held_before held_now t in
     subst A (listed_shown e state listed (still.stands state stands) (is state stands)) text
 
+-- the same of a front
+pub part_shown : (b e : Contents) (listed : List (PubKey × KeyState)) (held_before held_now : Option (List ℕ)) → ((state : State) → DeskStands b state → listed ≡ key_states state) → StandsStill b e
+    → ((n : ℕ) × Appends held_before held_now (take n (listed_text e.keys listed))) → ShowsFront held_before held_now b e
+part_shown b e listed held_before held_now is still part state stands =
+    let A : List ℕ → Type 0 = λ t. Appends held_before held_now (take part.0 t) in
+    (part.0, subst A (listed_shown e state listed (still.stands state stands) (is state stands)) part.1)
+
+pub none_shown : (b e : Contents) (held : Option (List ℕ)) → ShowsFront held held b e
+none_shown b e held state stands = (0, Appends-nil held)
+
 -- ---- the desk's answer
 
 unchanged : (state : State) (r : DeskReply) → Reply state call.Keys r → after state call.Keys r ≡ state
@@ -115,7 +148,7 @@ module _ {D : Type 0} (shows : D → List ℕ → Type 0) (moment : D → ℕ) (
 
   pub write_rose : ShowEnds shows moment leaves faults genesis first last hb hn fb fn events result → result ≡ status.WriteFault → Rose fb fn
   write_rose (inl h) is = write_unopened h.fault hb hn fb fn result h.tells is
-  write_rose (inr h) is = subst (DeskShowEnds hb hn fb fn h.desk_before h.desk_now) is h.ends.1
+  write_rose (inr h) is = (subst (DeskShowEnds hb hn fb fn h.desk_before h.desk_now) is h.ends.1).0
 
   pub no_read : ShowEnds shows moment leaves faults genesis first last hb hn fb fn events result → result ≡ status.ReadFault → ⊥
   no_read (inl h) is = read_unopened h.fault hb hn fb fn result h.tells is

@@ -1,5 +1,5 @@
 -- What `show` writes of a key.
-use Rattle.std.specs.Prelude.{◌≡◌, ◌⊎◌, ℕ, List, [], ◌++◌, flat_map, length, Option, Some, None, option_map, ⊤, codes, decimal}
+use Rattle.std.specs.Prelude.{◌≡◌, ◌⊎◌, ℕ, List, [], ◌++◌, flat_map, length, take, Option, Some, None, option_map, codes, decimal}
 use Rattle.std.specs.Io.KnownBytes.{Appends}
 use Rattle.hex.specs.Hex.{encode_lower}
 use Rattle.edge_kit.specs.Causes.{Rose}
@@ -86,16 +86,21 @@ pub record StandsStill (before now : Contents) : Type 0 where
   pub stands : (state : State) → DeskStands before state → DeskStands now state
   pub unnoted : now.events ≡ before.events
 
--- How the showing of a desk ends, status by status: its lines were written, or the output failed; of memory nothing is said.
+-- a front of the lines of the desk's keys was written
+abbrev pub ShowsFront : Option (List ℕ) → Option (List ℕ) → Contents → Contents → Type 0
+ShowsFront held_before held_now before now = (state : State) → DeskStands before state → (n : ℕ) × Appends held_before held_now (take n (show_text now))
+
+-- How the showing of a desk ends, status by status: its lines were written, or a front of them, where the output failed or memory
+-- ran out.
 abbrev pub DeskShowEnds : Option (List ℕ) → Option (List ℕ) → ℕ → ℕ → Contents → Contents → Status → Type 0
 DeskShowEnds held_before held_now failed_before failed_now before now status.Done = (state : State) → DeskStands before state → Appends held_before held_now (show_text now)
 DeskShowEnds held_before held_now failed_before failed_now before now status.Usage = ⊥
 DeskShowEnds held_before held_now failed_before failed_now before now status.ReadFault = ⊥
-DeskShowEnds held_before held_now failed_before failed_now before now status.WriteFault = Rose failed_before failed_now
+DeskShowEnds held_before held_now failed_before failed_now before now status.WriteFault = Rose failed_before failed_now × ShowsFront held_before held_now before now
 DeskShowEnds held_before held_now failed_before failed_now before now status.DiskFault = ⊥
 DeskShowEnds held_before held_now failed_before failed_now before now status.Damaged = ⊥
 DeskShowEnds held_before held_now failed_before failed_now before now status.GenesisDiffers = ⊥
-DeskShowEnds held_before held_now failed_before failed_now before now status.OutOfMemory = ⊤
+DeskShowEnds held_before held_now failed_before failed_now before now status.OutOfMemory = ShowsFront held_before held_now before now
 DeskShowEnds held_before held_now failed_before failed_now before now (status.InputTooLong l) = ⊥
 DeskShowEnds held_before held_now failed_before failed_now before now status.FileRefused = ⊥
 

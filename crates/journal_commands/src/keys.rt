@@ -1,5 +1,5 @@
 //! The keys of a journal, a line each.
-ghost use Rattle.std.specs.Prelude.{◌≡◌, ◌≢◌, ◌≤◌, ℕ, List, OnOk, IfSome};
+ghost use Rattle.std.specs.Prelude.{◌≡◌, ◌≢◌, ◌≤◌, ℕ, List, OnOk, OnErr, length, take, IfSome};
 ghost use Rattle.std.specs.Io.KnownBytes.{Appends};
 ghost use Rattle.edge_kit.specs.Causes.{Rose};
 ghost use Rattle.edge_kit.specs.declared.bytes.Root.{Root};
@@ -150,6 +150,7 @@ fn show_keys<D: Disk, O: Sink>(
     out: &mut O,
 ) -> Result<(), Unshown>
     ensures shown { OnOk result (Appends (O.held out.old) (O.held out.new) (listed_text desk.now.contents.keys listed.now)) }
+    ensures part { OnErr result ((n : ℕ) × Appends (O.held out.old) (O.held out.new) (take n (listed_text desk.now.contents.keys listed.now))) }
     ensures write { result ≡ Err Unshown.Write → Rose (O.faults out.old) (O.faults out.new) }
     ensures later { O.faults out.old ≤ O.faults out.new }
 {
@@ -168,6 +169,8 @@ fn show_key<D: Disk, O: Sink>(
     out: &mut O,
 ) -> Result<(), Unshown>
     ensures shown { OnOk result (Appends (O.held out.old) (O.held out.new) (kept_text key.now state (kept_of desk.now.contents.keys key.now))) }
+    ensures part { OnErr result ((n : ℕ) × (n ≤ length (kept_text key.now state (kept_of desk.now.contents.keys key.now)))
+        × Appends (O.held out.old) (O.held out.new) (take n (kept_text key.now state (kept_of desk.now.contents.keys key.now)))) }
     ensures write { result ≡ Err Unshown.Write → Rose (O.faults out.old) (O.faults out.new) }
     ensures later { O.faults out.old ≤ O.faults out.new }
 {
