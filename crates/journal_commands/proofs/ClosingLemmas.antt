@@ -1,5 +1,5 @@
 -- An output that was closed, by the status that came of it.
-use Rattle.std.proofs.Common.{◌≡◌, ℕ, ◌≤◌, List, Option, Some, None, refl, sym, subst, arith, inl, inr}
+use Rattle.std.proofs.Common.{◌≡◌, ℕ, ◌≤◌, take, List, Option, Some, None, refl, sym, subst, arith, inl, inr}
 use Rattle.std.specs.Prelude.{⊤}
 use Rattle.std.specs.Io.KnownBytes.{Appends}
 use Rattle.edge_kit.specs.Causes.{Rose}
@@ -15,16 +15,17 @@ use Rattle.journal_commands.specs.Unopened.{ClosesBy, ClosesMaybe, TellsFault, o
 
 -- by the text and the status, or by the output, or by memory
 pub closed_by : (P : Status → Type 0) (st result : Status) (text : List ℕ) (held_before held_now : Option (List ℕ)) (failed_before failed_now : ℕ)
-    → ClosesBy st text held_before held_now failed_before failed_now result → (Appends held_before held_now text → P st) → (Rose failed_before failed_now → P status.WriteFault)
-    → ((held_now ≡ held_before) × (failed_now ≡ failed_before) → P status.OutOfMemory) → P result
+    → ClosesBy st text held_before held_now failed_before failed_now result → (Appends held_before held_now text → P st)
+    → (Rose failed_before failed_now × ((n : ℕ) × Appends held_before held_now (take n text)) → P status.WriteFault) → ((held_now ≡ held_before) × (failed_now ≡ failed_before) → P status.OutOfMemory) → P result
 closed_by P st result text held_before held_now failed_before failed_now (inl (inl c)) whole part none = subst P (sym c.0) (whole c.1)
-closed_by P st result text held_before held_now failed_before failed_now (inl (inr c)) whole part none = subst P (sym c.0) (part c.1)
+closed_by P st result text held_before held_now failed_before failed_now (inl (inr c)) whole part none = subst P (sym c.0) (part (c.1, c.2))
 closed_by P st result text held_before held_now failed_before failed_now (inr c) whole part none = subst P (sym c.0) (none (c.1, c.2))
 
 pub closed_as : (P : Status → Type 0) (st result : Status) (text : List ℕ) (held_before held_now : Option (List ℕ)) (failed_before failed_now : ℕ)
-    → Closes st text held_before held_now failed_before failed_now result → (Appends held_before held_now text → P st) → (Rose failed_before failed_now → P status.WriteFault) → P result
+    → Closes st text held_before held_now failed_before failed_now result → (Appends held_before held_now text → P st)
+    → (Rose failed_before failed_now × ((n : ℕ) × Appends held_before held_now (take n text)) → P status.WriteFault) → P result
 closed_as P st result text held_before held_now failed_before failed_now (inl c) whole part = subst P (sym c.0) (whole c.1)
-closed_as P st result text held_before held_now failed_before failed_now (inr c) whole part = subst P (sym c.0) (part c.1)
+closed_as P st result text held_before held_now failed_before failed_now (inr c) whole part = subst P (sym c.0) (part (c.1, c.2))
 
 pub rose_back : (x y z : ℕ) → x ≤ y → Rose y z → Rose x z
 rose_back x y z h r = omega arith
@@ -35,7 +36,7 @@ maybe_by : (P : Status → Type 0) (st result : Status) (line : Option ClosingLi
     → P st → (Rose failed_before failed_now → P status.WriteFault) → P status.OutOfMemory → ClosesMaybe st line held_before held_now failed_before failed_now result → P result
 maybe_by P st result None held_before held_now failed_before failed_now own part none c = subst P (sym c.0) own
 maybe_by P st result (Some line) held_before held_now failed_before failed_now own part none c =
-    closed_by P st result (closing_text line) held_before held_now failed_before failed_now c (λ _. own) part (λ _. none)
+    closed_by P st result (closing_text line) held_before held_now failed_before failed_now c (λ _. own) (λ p. part p.0) (λ _. none)
 
 -- by the status of the fault, or by the output, or by memory
 pub told_by : (P : Status → Type 0) (f : OpenFault) (held_before held_now : Option (List ℕ)) (failed_before failed_now : ℕ) (result : Status)

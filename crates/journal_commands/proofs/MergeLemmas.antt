@@ -22,26 +22,44 @@ use Rattle.journal_commands.specs.Unopened.{ClosesBy, IsUnwritten}
 use Rattle.journal_commands.specs.Whole.{WholeStops}
 use Rattle.journal_commands.specs.declared.whole.WholeFault.{WholeFault}
 use Rattle.journal_commands.specs.declared.whole.WholeFault.TheVariants as whole_fault
-use Rattle.journal_commands.specs.Merging.{View, ReadsAll, ReadsFile, Merges, Replies, DeskMergeEnds, MergeEnds, FileCloses, FaultCloses, OpensByMerge, ReplyCloses, merged_text, read_fault_text}
+use Rattle.journal_commands.specs.Merging.{View, ReadsAll, ReadsFile, Merges, Replies, Tells, IsWhole, IsFront, DeskMergeEnds, MergeEnds, FileCloses, FaultCloses, OpensByMerge, ReplyCloses, merged_text, read_fault_text}
 use Rattle.journal_commands.proofs.ClosingLemmas.{closed_by, closed_as, disk_unopened, write_unopened, read_unopened}
 use Rattle.session_run.proofs.ImageLemmas.{still, weaker}
+
+-- the line of a status was written
+whole_ends : (vb vn : View) (d1 d2 : ℕ) (b e : Contents) (own : Status) → Tells vb vn d1 d2 b e (IsWhole vb vn) own → DeskMergeEnds vb vn d1 d2 b e own
+whole_ends vb vn d1 d2 b e status.WriteFault h = absurd h
+whole_ends vb vn d1 d2 b e status.OutOfMemory h = absurd h
+whole_ends vb vn d1 d2 b e status.Done h = h
+whole_ends vb vn d1 d2 b e status.Usage h = h
+whole_ends vb vn d1 d2 b e status.ReadFault h = h
+whole_ends vb vn d1 d2 b e status.DiskFault h = h
+whole_ends vb vn d1 d2 b e status.Damaged h = h
+whole_ends vb vn d1 d2 b e status.GenesisDiffers h = h
+whole_ends vb vn d1 d2 b e (status.InputTooLong l) h = h
+whole_ends vb vn d1 d2 b e status.FileRefused h = h
+
+-- the same where it closes the output, whole or in part
+text_ends : (vb vn : View) (d1 d2 : ℕ) (b e : Contents) (result own : Status) (text : List ℕ) → ClosesBy own text vb.held vn.held vb.writes_failed vn.writes_failed result
+    → ((Written : List ℕ → Type 0) → Written text → Tells vb vn d1 d2 b e Written own) → DeskMergeEnds vb vn d1 d2 b e result
+text_ends vb vn d1 d2 b e result own text c tells =
+    closed_by (DeskMergeEnds vb vn d1 d2 b e) own result text vb.held vn.held vb.writes_failed vn.writes_failed c
+    (λ whole. whole_ends vb vn d1 d2 b e own (tells (IsWhole vb vn) whole)) (λ part. (part.0, (own, tells (IsFront vb vn) part.1))) (λ k. k)
 
 -- the input was not read to its end
 pub unread_ends : (f : WholeFault) (vb vn : View) (d1 d2 : ℕ) (b : Contents) (result : Status) → WholeStops f file_limit vb.left vn.left vb.reads_failed vn.reads_failed
     → FaultCloses f vb.held vn.held vb.writes_failed vn.writes_failed result → DeskMergeEnds vb vn d1 d2 b b result
 unread_ends whole_fault.Read vb vn d1 d2 b result stops closes =
-    closed_as (DeskMergeEnds vb vn d1 d2 b b) status.ReadFault result read_fault_text vb.held vn.held vb.writes_failed vn.writes_failed closes (λ text. (stops, refl, text)) (λ r. r)
+    closed_as (DeskMergeEnds vb vn d1 d2 b b) status.ReadFault result read_fault_text vb.held vn.held vb.writes_failed vn.writes_failed closes (λ text. (stops, refl, text)) (λ part. (part.0, (status.ReadFault, (stops, refl, part.1))))
 unread_ends whole_fault.TooLong vb vn d1 d2 b result stops closes =
-    closed_by (DeskMergeEnds vb vn d1 d2 b b) (status.InputTooLong limit.File) result (closing_text (closing.TooLong file_limit)) vb.held vn.held vb.writes_failed vn.writes_failed closes
-    (λ text. (stops, refl, text)) (λ r. r) (λ k. k)
+    text_ends vb vn d1 d2 b b result (status.InputTooLong limit.File) (closing_text (closing.TooLong file_limit)) closes (λ Written text. (stops, refl, text))
 unread_ends whole_fault.OutOfMemory vb vn d1 d2 b result stops closes = subst (DeskMergeEnds vb vn d1 d2 b b) (sym closes.0) (closes.1, closes.2)
 
 -- the bytes are no file
 pub refused_ends : (vb vn : View) (d1 d2 : ℕ) (b : Contents) (result : Status) (bytes : List ℕ) (fault : ReadFault) → ReadsAll vb.left vn.left bytes → file_of bytes ≡ Err fault
     → ClosesBy status.FileRefused (closing_text (closing.FileRefused (refusal.Read fault))) vb.held vn.held vb.writes_failed vn.writes_failed result → DeskMergeEnds vb vn d1 d2 b b result
 refused_ends vb vn d1 d2 b result bytes fault reads is closes =
-    closed_by (DeskMergeEnds vb vn d1 d2 b b) status.FileRefused result (closing_text (closing.FileRefused (refusal.Read fault))) vb.held vn.held vb.writes_failed vn.writes_failed closes
-    (λ text. (refusal.Read fault, ((bytes, reads, is), refl), text)) (λ r. r) (λ k. k)
+    text_ends vb vn d1 d2 b b result status.FileRefused (closing_text (closing.FileRefused (refusal.Read fault))) closes (λ Written text. (refusal.Read fault, ((bytes, reads, is), refl), text))
 
 -- a reply names as many keys as the file
 counted : (file : File) (keys : ℕ) (b e : Contents) → Merges file (reply.Merged keys) b e → Merges file (reply.Merged (length file.books)) b e
@@ -54,18 +72,18 @@ module _ (vb vn : View) (d1 d2 : ℕ) (b e : Contents) (result : Status) (file :
   by_memory : IsUnwritten vb.held vn.held vb.writes_failed vn.writes_failed result → DeskMergeEnds vb vn d1 d2 b e result
   by_memory c = subst (DeskMergeEnds vb vn d1 d2 b e) (sym c.0) (c.1, c.2)
 
-  by_text : (st : Status) (text : List ℕ) → ClosesBy st text vb.held vn.held vb.writes_failed vn.writes_failed result → (Appends vb.held vn.held text → DeskMergeEnds vb vn d1 d2 b e st) → DeskMergeEnds vb vn d1 d2 b e result
-  by_text st text c whole = closed_by (DeskMergeEnds vb vn d1 d2 b e) st result text vb.held vn.held vb.writes_failed vn.writes_failed c whole (λ r. r) (λ k. k)
+  by_text : (own : Status) (text : List ℕ) → ClosesBy own text vb.held vn.held vb.writes_failed vn.writes_failed result → ((Written : List ℕ → Type 0) → Written text → Tells vb vn d1 d2 b e Written own) → DeskMergeEnds vb vn d1 d2 b e result
+  by_text own text c tells = text_ends vb vn d1 d2 b e result own text c tells
 
   by_reply : (r : DeskReply) → Merges file r b e → (r ≡ reply.Disk → Rose d1 d2) → ReplyCloses (length file.books) r vb.held vn.held vb.writes_failed vn.writes_failed result → DeskMergeEnds vb vn d1 d2 b e result
-  by_reply (reply.Merged keys) m rose c = by_text status.Done (merged_text (length file.books)) c (λ text. (replies (λ f. reply.Merged (length f.books)) (counted file keys b e m), text))
+  by_reply (reply.Merged keys) m rose c = by_text status.Done (merged_text (length file.books)) c (λ Written text. (replies (λ f. reply.Merged (length f.books)) (counted file keys b e m), text))
   by_reply (reply.GenesisDiffers kept given) m rose c =
-      by_text status.GenesisDiffers (closing_text (closing.GenesisDiffers kept given)) c (λ text. (kept, given, replies (λ f. reply.GenesisDiffers kept given) m, text))
+      by_text status.GenesisDiffers (closing_text (closing.GenesisDiffers kept given)) c (λ Written text. (kept, given, replies (λ f. reply.GenesisDiffers kept given) m, text))
   by_reply (reply.TooManyKeys have new) m rose c =
-      by_text status.FileRefused (closing_text (closing.FileRefused (refusal.TooManyKeys have new))) c (λ text. (refusal.TooManyKeys have new, replies (λ f. reply.TooManyKeys have new) m, text))
+      by_text status.FileRefused (closing_text (closing.FileRefused (refusal.TooManyKeys have new))) c (λ Written text. (refusal.TooManyKeys have new, replies (λ f. reply.TooManyKeys have new) m, text))
   by_reply (reply.Full size wanted) m rose c =
-      by_text status.FileRefused (closing_text (closing.FileRefused (refusal.Full size wanted))) c (λ text. (refusal.Full size wanted, replies (λ f. reply.Full size wanted) m, text))
-  by_reply reply.Disk m rose c = by_text status.DiskFault (closing_text closing.DiskFault) c (λ text. (rose refl, replies (λ f. reply.Disk) m, text))
+      by_text status.FileRefused (closing_text (closing.FileRefused (refusal.Full size wanted))) c (λ Written text. (refusal.Full size wanted, replies (λ f. reply.Full size wanted) m, text))
+  by_reply reply.Disk m rose c = by_text status.DiskFault (closing_text closing.DiskFault) c (λ Written text. (rose refl, replies (λ f. reply.Disk) m, text))
   by_reply reply.Active m rose c = by_memory c
   by_reply reply.Already m rose c = by_memory c
   by_reply (reply.Granted grant) m rose c = by_memory c
@@ -100,20 +118,32 @@ pub unmerged_files : {D : Type 0} (moment : D → ℕ) (leaves : D → ℕ → L
 unmerged_files moment leaves desk l1 l2 = still moment leaves desk (OpensByMerge desk.contents.genesis l1 l2) (λ state c may. inl may)
 
 -- an earlier count of the disk's faults
+earlier_tells : (vb vn : View) (d1 d2 d3 : ℕ) (b e : Contents) (Written : List ℕ → Type 0) (own : Status) → (Rose d2 d3 → Rose d1 d3) → Tells vb vn d2 d3 b e Written own → Tells vb vn d1 d3 b e Written own
+earlier_tells vb vn d1 d2 d3 b e Written status.DiskFault f h = (f h.0, h.1, h.2)
+earlier_tells vb vn d1 d2 d3 b e Written status.Done f h = h
+earlier_tells vb vn d1 d2 d3 b e Written status.Usage f h = h
+earlier_tells vb vn d1 d2 d3 b e Written status.ReadFault f h = h
+earlier_tells vb vn d1 d2 d3 b e Written status.WriteFault f h = h
+earlier_tells vb vn d1 d2 d3 b e Written status.Damaged f h = h
+earlier_tells vb vn d1 d2 d3 b e Written status.GenesisDiffers f h = h
+earlier_tells vb vn d1 d2 d3 b e Written status.OutOfMemory f h = h
+earlier_tells vb vn d1 d2 d3 b e Written status.FileRefused f h = h
+earlier_tells vb vn d1 d2 d3 b e Written (status.InputTooLong limit.Line) f h = h
+earlier_tells vb vn d1 d2 d3 b e Written (status.InputTooLong limit.Input) f h = h
+earlier_tells vb vn d1 d2 d3 b e Written (status.InputTooLong limit.File) f h = h
+earlier_tells vb vn d1 d2 d3 b e Written (status.InputTooLong limit.Keys) f h = h
+
 pub earlier : (vb vn : View) (d1 d2 d3 : ℕ) (b e : Contents) (result : Status) → (Rose d2 d3 → Rose d1 d3) → DeskMergeEnds vb vn d2 d3 b e result → DeskMergeEnds vb vn d1 d3 b e result
-earlier vb vn d1 d2 d3 b e status.Done f h = h
-earlier vb vn d1 d2 d3 b e status.Usage f h = h
-earlier vb vn d1 d2 d3 b e status.ReadFault f h = h
-earlier vb vn d1 d2 d3 b e status.WriteFault f h = h
-earlier vb vn d1 d2 d3 b e status.DiskFault f h = (f h.0, h.1, h.2)
-earlier vb vn d1 d2 d3 b e status.Damaged f h = h
-earlier vb vn d1 d2 d3 b e status.GenesisDiffers f h = h
+earlier vb vn d1 d2 d3 b e status.WriteFault f h = (h.0, (h.1.0, earlier_tells vb vn d1 d2 d3 b e (IsFront vb vn) h.1.0 f h.1.1))
 earlier vb vn d1 d2 d3 b e status.OutOfMemory f h = h
-earlier vb vn d1 d2 d3 b e (status.InputTooLong limit.Line) f h = h
-earlier vb vn d1 d2 d3 b e (status.InputTooLong limit.Input) f h = h
-earlier vb vn d1 d2 d3 b e (status.InputTooLong limit.File) f h = h
-earlier vb vn d1 d2 d3 b e (status.InputTooLong limit.Keys) f h = h
-earlier vb vn d1 d2 d3 b e status.FileRefused f h = h
+earlier vb vn d1 d2 d3 b e status.Done f h = earlier_tells vb vn d1 d2 d3 b e (IsWhole vb vn) status.Done f h
+earlier vb vn d1 d2 d3 b e status.Usage f h = earlier_tells vb vn d1 d2 d3 b e (IsWhole vb vn) status.Usage f h
+earlier vb vn d1 d2 d3 b e status.ReadFault f h = earlier_tells vb vn d1 d2 d3 b e (IsWhole vb vn) status.ReadFault f h
+earlier vb vn d1 d2 d3 b e status.DiskFault f h = earlier_tells vb vn d1 d2 d3 b e (IsWhole vb vn) status.DiskFault f h
+earlier vb vn d1 d2 d3 b e status.Damaged f h = earlier_tells vb vn d1 d2 d3 b e (IsWhole vb vn) status.Damaged f h
+earlier vb vn d1 d2 d3 b e status.GenesisDiffers f h = earlier_tells vb vn d1 d2 d3 b e (IsWhole vb vn) status.GenesisDiffers f h
+earlier vb vn d1 d2 d3 b e status.FileRefused f h = earlier_tells vb vn d1 d2 d3 b e (IsWhole vb vn) status.FileRefused f h
+earlier vb vn d1 d2 d3 b e (status.InputTooLong l) f h = earlier_tells vb vn d1 d2 d3 b e (IsWhole vb vn) (status.InputTooLong l) f h
 
 -- what each fault tells
 module _ {D : Type 0} (shows : D → List ℕ → Type 0) (moment : D → ℕ) (leaves : D → ℕ → List ℕ → Type 0) (faults : D → ℕ) (genesis : Root) (first last : D) (vb vn : View) (events : List DeskEvent) (result : Status) where
@@ -123,7 +153,7 @@ module _ {D : Type 0} (shows : D → List ℕ → Type 0) (moment : D → ℕ) (
 
   pub write_rose : MergeEnds shows moment leaves faults genesis first last vb vn events result → result ≡ status.WriteFault → Rose vb.writes_failed vn.writes_failed
   write_rose (inl h) is = write_unopened h.0.fault vb.held vn.held vb.writes_failed vn.writes_failed result h.0.tells is
-  write_rose (inr h) is = subst (DeskMergeEnds vb vn (faults first) (faults last) h.desk_before h.desk_now) is h.ends.1
+  write_rose (inr h) is = (subst (DeskMergeEnds vb vn (faults first) (faults last) h.desk_before h.desk_now) is h.ends.1).0
 
   pub read_rose : MergeEnds shows moment leaves faults genesis first last vb vn events result → result ≡ status.ReadFault → Rose vb.reads_failed vn.reads_failed
   read_rose (inl h) is = absurd (read_unopened h.0.fault vb.held vn.held vb.writes_failed vn.writes_failed result h.0.tells is)

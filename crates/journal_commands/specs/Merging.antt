@@ -1,5 +1,5 @@
 -- How a merge of the input into a journal ends.
-use Rattle.std.specs.Prelude.{◌≡◌, ◌⊎◌, ℕ, List, ◌++◌, Option, None, Ok, Err, length, codes, decimal}
+use Rattle.std.specs.Prelude.{◌≡◌, ◌⊎◌, ℕ, List, ◌++◌, Option, None, Ok, Err, length, take, codes, decimal}
 use Rattle.std.specs.Io.KnownBytes.{Consumes, Appends, IsAtEnd}
 use Rattle.edge_kit.specs.Causes.{Rose}
 use Rattle.slash_defs.specs.declared.book.File.{File}
@@ -77,36 +77,44 @@ RefusesFile left_before left_now before now (refusal.Read fault) = ((bytes : Lis
 RefusesFile left_before left_now before now (refusal.TooManyKeys have new) = Replies left_before left_now before now (λ file. reply.TooManyKeys have new)
 RefusesFile left_before left_now before now (refusal.Full size wanted) = Replies left_before left_now before now (λ file. reply.Full size wanted)
 
--- the file was merged, and its line written
-abbrev pub IsMerged : View → View → Contents → Contents → Type 0
-IsMerged view_before view_now before now =
-    (r : Replies view_before.left view_now.left before now (λ file. reply.Merged (length file.books))) × Appends view_before.held view_now.held (merged_text (length r.file.books))
+-- What comes before the line of a status is written, status by status, each with its cause, and how its text is written; the disk's
+-- count of faults is the last two numbers.
+abbrev pub Tells : View → View → ℕ → ℕ → Contents → Contents → (List ℕ → Type 0) → Status → Type 0
+Tells view_before view_now disk_before disk_now before now Written status.Done =
+    (r : Replies view_before.left view_now.left before now (λ file. reply.Merged (length file.books))) × Written (merged_text (length r.file.books))
+Tells view_before view_now disk_before disk_now before now Written status.Usage = ⊥
+Tells view_before view_now disk_before disk_now before now Written status.ReadFault =
+    Rose view_before.reads_failed view_now.reads_failed × (now ≡ before) × Written read_fault_text
+Tells view_before view_now disk_before disk_now before now Written status.WriteFault = ⊥
+Tells view_before view_now disk_before disk_now before now Written status.DiskFault =
+    Rose disk_before disk_now × Replies view_before.left view_now.left before now (λ file. reply.Disk) × Written (closing_text closing.DiskFault)
+Tells view_before view_now disk_before disk_now before now Written status.Damaged = ⊥
+Tells view_before view_now disk_before disk_now before now Written status.GenesisDiffers =
+    (kept : _) × (given : _) × Replies view_before.left view_now.left before now (λ file. reply.GenesisDiffers kept given) × Written (closing_text (closing.GenesisDiffers kept given))
+Tells view_before view_now disk_before disk_now before now Written status.OutOfMemory = ⊥
+Tells view_before view_now disk_before disk_now before now Written (status.InputTooLong limit.Line) = ⊥
+Tells view_before view_now disk_before disk_now before now Written (status.InputTooLong limit.Input) = ⊥
+Tells view_before view_now disk_before disk_now before now Written (status.InputTooLong limit.File) =
+    PassesLimit file_limit view_before.left view_now.left × (now ≡ before) × Written (closing_text (closing.TooLong file_limit))
+Tells view_before view_now disk_before disk_now before now Written (status.InputTooLong limit.Keys) = ⊥
+Tells view_before view_now disk_before disk_now before now Written status.FileRefused =
+    (r : FileRefusal) × RefusesFile view_before.left view_now.left before now r × Written (closing_text (closing.FileRefused r))
 
--- the file was refused, and its line written
-abbrev pub IsRefused : View → View → Contents → Contents → Type 0
-IsRefused view_before view_now before now =
-    (r : FileRefusal) × RefusesFile view_before.left view_now.left before now r × Appends view_before.held view_now.held (closing_text (closing.FileRefused r))
+-- a text was written, or a front of it
+abbrev pub IsWhole : View → View → List ℕ → Type 0
+IsWhole view_before view_now text = Appends view_before.held view_now.held text
 
--- How a merge into a desk ends, status by status, each with its cause; the disk's count of faults is the last two numbers.
+abbrev pub IsFront : View → View → List ℕ → Type 0
+IsFront view_before view_now text = (n : ℕ) × Appends view_before.held view_now.held (take n text)
+
+-- How a merge into a desk ends: the line of its status was written; or the output failed within the line of the status in whose
+-- place this one comes; or memory ran out, and nothing was written.
 abbrev pub DeskMergeEnds : View → View → ℕ → ℕ → Contents → Contents → Status → Type 0
-DeskMergeEnds view_before view_now disk_before disk_now before now status.Done = IsMerged view_before view_now before now
-DeskMergeEnds view_before view_now disk_before disk_now before now status.Usage = ⊥
-DeskMergeEnds view_before view_now disk_before disk_now before now status.ReadFault =
-    Rose view_before.reads_failed view_now.reads_failed × (now ≡ before) × Appends view_before.held view_now.held read_fault_text
-DeskMergeEnds view_before view_now disk_before disk_now before now status.WriteFault = Rose view_before.writes_failed view_now.writes_failed
-DeskMergeEnds view_before view_now disk_before disk_now before now status.DiskFault =
-    Rose disk_before disk_now × Replies view_before.left view_now.left before now (λ file. reply.Disk) × Appends view_before.held view_now.held (closing_text closing.DiskFault)
-DeskMergeEnds view_before view_now disk_before disk_now before now status.Damaged = ⊥
-DeskMergeEnds view_before view_now disk_before disk_now before now status.GenesisDiffers =
-    (kept : _) × (given : _) × Replies view_before.left view_now.left before now (λ file. reply.GenesisDiffers kept given) × Appends view_before.held view_now.held (closing_text (closing.GenesisDiffers kept given))
+DeskMergeEnds view_before view_now disk_before disk_now before now status.WriteFault =
+    Rose view_before.writes_failed view_now.writes_failed × ((own : Status) × Tells view_before view_now disk_before disk_now before now (IsFront view_before view_now) own)
 DeskMergeEnds view_before view_now disk_before disk_now before now status.OutOfMemory =
     (view_now.held ≡ view_before.held) × (view_now.writes_failed ≡ view_before.writes_failed)
-DeskMergeEnds view_before view_now disk_before disk_now before now (status.InputTooLong limit.Line) = ⊥
-DeskMergeEnds view_before view_now disk_before disk_now before now (status.InputTooLong limit.Input) = ⊥
-DeskMergeEnds view_before view_now disk_before disk_now before now (status.InputTooLong limit.File) =
-    PassesLimit file_limit view_before.left view_now.left × (now ≡ before) × Appends view_before.held view_now.held (closing_text (closing.TooLong file_limit))
-DeskMergeEnds view_before view_now disk_before disk_now before now (status.InputTooLong limit.Keys) = ⊥
-DeskMergeEnds view_before view_now disk_before disk_now before now status.FileRefused = IsRefused view_before view_now before now
+DeskMergeEnds view_before view_now disk_before disk_now before now own = Tells view_before view_now disk_before disk_now before now (IsWhole view_before view_now) own
 
 -- the desk at the end is the one that was opened, or it gave a reply to the merge of the file that the input is
 abbrev pub HasMerged : Option (List ℕ) → Option (List ℕ) → Contents → Contents → Type 0

@@ -142,7 +142,7 @@ merged : (genesis : Root) (journal : List â„•) (before now : Outside) (d1 d2 : â
 merged genesis journal before now d1 d2 desk_before desk_now status.Done ends = opens_some (merge genesis journal) tt
 merged genesis journal before now d1 d2 desk_before desk_now status.Usage ends = absurd ends
 merged genesis journal before now d1 d2 desk_before desk_now status.ReadFault ends = (opens_some (merge genesis journal) tt, ends.0)
-merged genesis journal before now d1 d2 desk_before desk_now status.WriteFault ends = ends
+merged genesis journal before now d1 d2 desk_before desk_now status.WriteFault ends = ends.0
 merged genesis journal before now d1 d2 desk_before desk_now status.DiskFault ends = (opens_some (merge genesis journal) tt, ends.0)
 merged genesis journal before now d1 d2 desk_before desk_now status.Damaged ends = tt
 merged genesis journal before now d1 d2 desk_before desk_now status.GenesisDiffers ends = tt
@@ -164,7 +164,7 @@ showed : (genesis : Root) (journal : List â„•) (before now : Outside) (d1 d2 : â
 showed genesis journal before now d1 d2 desk_before desk_now status.Done ends = opens_some (show genesis journal) tt
 showed genesis journal before now d1 d2 desk_before desk_now status.Usage ends = absurd ends
 showed genesis journal before now d1 d2 desk_before desk_now status.ReadFault ends = absurd ends
-showed genesis journal before now d1 d2 desk_before desk_now status.WriteFault ends = ends
+showed genesis journal before now d1 d2 desk_before desk_now status.WriteFault ends = ends.0
 showed genesis journal before now d1 d2 desk_before desk_now status.DiskFault ends = absurd ends
 showed genesis journal before now d1 d2 desk_before desk_now status.Damaged ends = tt
 showed genesis journal before now d1 d2 desk_before desk_now status.GenesisDiffers ends = tt
