@@ -1,6 +1,5 @@
 -- How a merge ends, by what was met.
 use Rattle.std.proofs.Common.{◌≡◌, ℕ, List, Option, None, Err, length, refl, sym, subst, ⊎_elim, inl, inr}
-use Rattle.std.specs.Io.KnownBytes.{Appends}
 use Rattle.edge_kit.specs.Causes.{Rose}
 use Rattle.edge_kit.specs.declared.bytes.Root.{Root}
 use Rattle.slash_defs.specs.declared.book.File.{File}
