@@ -8,10 +8,11 @@ use Rattle.check_sign.specs.declared.open.OpenFault.{OpenFault}
 use Rattle.check_sign.specs.declared.open.OpenFault.TheVariants as open_fault
 use Rattle.session_format.specs.Closing.{closing_text}
 use Rattle.session_format.specs.declared.closing.ClosingLine.{ClosingLine}
+use Rattle.session_format.specs.declared.closing.ClosingLine.TheVariants as closing
 use Rattle.session_run.specs.Closings.{Closes}
 use Rattle.session_run.specs.declared.status.Status.{Status}
 use Rattle.session_run.specs.declared.status.Status.TheVariants as status
-use Rattle.journal_commands.specs.Unopened.{ClosesBy, ClosesMaybe, TellsFault, open_status, open_line}
+use Rattle.journal_commands.specs.Unopened.{ClosesBy, ClosesMaybe, LineCloses, TellsFault, open_status, open_line}
 
 -- by the text and the status, or by the output, or by memory
 pub closed_by : (P : Status → Type 0) (st result : Status) (text : List ℕ) (held_before held_now : Option (List ℕ)) (failed_before failed_now : ℕ)
@@ -27,6 +28,15 @@ pub closed_as : (P : Status → Type 0) (st result : Status) (text : List ℕ) (
 closed_as P st result text held_before held_now failed_before failed_now (inl c) whole part = subst P (sym c.0) (whole c.1)
 closed_as P st result text held_before held_now failed_before failed_now (inr c) whole part = subst P (sym c.0) (part (c.1, c.2))
 
+-- by a line, which is of no fault of the disk where memory ran out
+pub closed_line : (P : Status → Type 0) (st result : Status) (line : ClosingLine) (held_before held_now : Option (List ℕ)) (failed_before failed_now : ℕ)
+    → LineCloses st line held_before held_now failed_before failed_now result → (Appends held_before held_now (closing_text line) → P st)
+    → (Rose failed_before failed_now × ((n : ℕ) × Appends held_before held_now (take n (closing_text line))) → P status.WriteFault) → ((held_now ≡ held_before) × (failed_now ≡ failed_before) → P status.OutOfMemory) → P result
+closed_line P st result closing.DiskFault held_before held_now failed_before failed_now c whole part none =
+    closed_as P st result (closing_text closing.DiskFault) held_before held_now failed_before failed_now c whole part
+closed_line P st result line held_before held_now failed_before failed_now c whole part none =
+    closed_by P st result (closing_text line) held_before held_now failed_before failed_now c whole part none
+
 pub rose_back : (x y z : ℕ) → x ≤ y → Rose y z → Rose x z
 rose_back x y z h r = omega arith
 
@@ -36,7 +46,7 @@ maybe_by : (P : Status → Type 0) (st result : Status) (line : Option ClosingLi
     → P st → (Rose failed_before failed_now → P status.WriteFault) → P status.OutOfMemory → ClosesMaybe st line held_before held_now failed_before failed_now result → P result
 maybe_by P st result None held_before held_now failed_before failed_now own part none c = subst P (sym c.0) own
 maybe_by P st result (Some line) held_before held_now failed_before failed_now own part none c =
-    closed_by P st result (closing_text line) held_before held_now failed_before failed_now c (λ _. own) (λ p. part p.0) (λ _. none)
+    closed_line P st result line held_before held_now failed_before failed_now c (λ _. own) (λ p. part p.0) (λ _. none)
 
 -- by the status of the fault, or by the output, or by memory
 pub told_by : (P : Status → Type 0) (f : OpenFault) (held_before held_now : Option (List ℕ)) (failed_before failed_now : ℕ) (result : Status)

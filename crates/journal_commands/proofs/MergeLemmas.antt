@@ -21,7 +21,7 @@ use Rattle.journal_commands.specs.Unopened.{ClosesBy, IsUnwritten}
 use Rattle.journal_commands.specs.Whole.{WholeStops}
 use Rattle.journal_commands.specs.declared.whole.WholeFault.{WholeFault}
 use Rattle.journal_commands.specs.declared.whole.WholeFault.TheVariants as whole_fault
-use Rattle.journal_commands.specs.Merging.{View, ReadsAll, ReadsFile, Merges, Replies, Tells, IsWhole, IsFront, DeskMergeEnds, MergeEnds, FileCloses, FaultCloses, OpensByMerge, ReplyCloses, merged_text, read_fault_text}
+use Rattle.journal_commands.specs.Merging.{View, ReadsAll, ReadsFile, Merges, Replies, Tells, IsWhole, IsFront, DeskMergeEnds, MergeEnds, FileCloses, FaultCloses, HasReplied, IsNoFault, OpensByMerge, ReplyCloses, merged_text, read_fault_text}
 use Rattle.journal_commands.proofs.ClosingLemmas.{closed_by, closed_as, disk_unopened, write_unopened, read_unopened}
 use Rattle.session_run.proofs.ImageLemmas.{still, weaker}
 
@@ -40,10 +40,10 @@ whole_ends vb vn d1 d2 b e status.FileRefused h = h
 
 -- the same where it closes the output, whole or in part
 text_ends : (vb vn : View) (d1 d2 : ℕ) (b e : Contents) (result own : Status) (text : List ℕ) → ClosesBy own text vb.held vn.held vb.writes_failed vn.writes_failed result
-    → ((Written : List ℕ → Type 0) → Written text → Tells vb vn d1 d2 b e Written own) → DeskMergeEnds vb vn d1 d2 b e result
-text_ends vb vn d1 d2 b e result own text c tells =
+    → ((Written : List ℕ → Type 0) → Written text → Tells vb vn d1 d2 b e Written own) → HasReplied IsNoFault vb.left vn.left b e → DeskMergeEnds vb vn d1 d2 b e result
+text_ends vb vn d1 d2 b e result own text c tells replied =
     closed_by (DeskMergeEnds vb vn d1 d2 b e) own result text vb.held vn.held vb.writes_failed vn.writes_failed c
-    (λ whole. whole_ends vb vn d1 d2 b e own (tells (IsWhole vb vn) whole)) (λ part. (part.0, (own, tells (IsFront vb vn) part.1))) (λ k. k)
+    (λ whole. whole_ends vb vn d1 d2 b e own (tells (IsWhole vb vn) whole)) (λ part. (part.0, (own, tells (IsFront vb vn) part.1))) (λ k. (replied, k.0, k.1))
 
 -- the input was not read to its end
 pub unread_ends : (f : WholeFault) (vb vn : View) (d1 d2 : ℕ) (b : Contents) (result : Status) → WholeStops f file_limit vb.left vn.left vb.reads_failed vn.reads_failed
@@ -51,14 +51,14 @@ pub unread_ends : (f : WholeFault) (vb vn : View) (d1 d2 : ℕ) (b : Contents) (
 unread_ends whole_fault.Read vb vn d1 d2 b result stops closes =
     closed_as (DeskMergeEnds vb vn d1 d2 b b) status.ReadFault result read_fault_text vb.held vn.held vb.writes_failed vn.writes_failed closes (λ text. (stops, refl, text)) (λ part. (part.0, (status.ReadFault, (stops, refl, part.1))))
 unread_ends whole_fault.TooLong vb vn d1 d2 b result stops closes =
-    text_ends vb vn d1 d2 b b result (status.InputTooLong limit.File) (closing_text (closing.TooLong file_limit)) closes (λ Written text. (stops, refl, text))
-unread_ends whole_fault.OutOfMemory vb vn d1 d2 b result stops closes = subst (DeskMergeEnds vb vn d1 d2 b b) (sym closes.0) (closes.1, closes.2)
+    text_ends vb vn d1 d2 b b result (status.InputTooLong limit.File) (closing_text (closing.TooLong file_limit)) closes (λ Written text. (stops, refl, text)) (inl refl)
+unread_ends whole_fault.OutOfMemory vb vn d1 d2 b result stops closes = subst (DeskMergeEnds vb vn d1 d2 b b) (sym closes.0) (inl refl, closes.1, closes.2)
 
 -- the bytes are no file
 pub refused_ends : (vb vn : View) (d1 d2 : ℕ) (b : Contents) (result : Status) (bytes : List ℕ) (fault : ReadFault) → ReadsAll vb.left vn.left bytes → file_of bytes ≡ Err fault
     → ClosesBy status.FileRefused (closing_text (closing.FileRefused (refusal.Read fault))) vb.held vn.held vb.writes_failed vn.writes_failed result → DeskMergeEnds vb vn d1 d2 b b result
 refused_ends vb vn d1 d2 b result bytes fault reads is closes =
-    text_ends vb vn d1 d2 b b result status.FileRefused (closing_text (closing.FileRefused (refusal.Read fault))) closes (λ Written text. (refusal.Read fault, ((bytes, reads, is), refl), text))
+    text_ends vb vn d1 d2 b b result status.FileRefused (closing_text (closing.FileRefused (refusal.Read fault))) closes (λ Written text. (refusal.Read fault, ((bytes, reads, is), refl), text)) (inl refl)
 
 -- a reply names as many keys as the file
 counted : (file : File) (keys : ℕ) (b e : Contents) → Merges file (reply.Merged keys) b e → Merges file (reply.Merged (length file.books)) b e
@@ -68,39 +68,31 @@ module _ (vb vn : View) (d1 d2 : ℕ) (b e : Contents) (result : Status) (file :
   abbrev replies : (r : File → DeskReply) → Merges file (r file) b e → Replies vb.left vn.left b e r
   replies r m = record { file = file; read = reads; merges = m }
 
-  by_memory : IsUnwritten vb.held vn.held vb.writes_failed vn.writes_failed result → DeskMergeEnds vb vn d1 d2 b e result
-  by_memory c = subst (DeskMergeEnds vb vn d1 d2 b e) (sym c.0) (c.1, c.2)
+  abbrev replied : (r : DeskReply) → IsNoFault r → Merges file r b e → HasReplied IsNoFault vb.left vn.left b e
+  replied r none m = inr (file, r, none, reads, m)
 
-  by_text : (own : Status) (text : List ℕ) → ClosesBy own text vb.held vn.held vb.writes_failed vn.writes_failed result → ((Written : List ℕ → Type 0) → Written text → Tells vb vn d1 d2 b e Written own) → DeskMergeEnds vb vn d1 d2 b e result
-  by_text own text c tells = text_ends vb vn d1 d2 b e result own text c tells
+  by_memory : (r : DeskReply) → IsNoFault r → Merges file r b e → IsUnwritten vb.held vn.held vb.writes_failed vn.writes_failed result → DeskMergeEnds vb vn d1 d2 b e result
+  by_memory r none m c = subst (DeskMergeEnds vb vn d1 d2 b e) (sym c.0) (replied r none m, c.1, c.2)
+
+  by_text : (r : DeskReply) → IsNoFault r → Merges file r b e → (own : Status) (text : List ℕ) → ClosesBy own text vb.held vn.held vb.writes_failed vn.writes_failed result
+      → ((Written : List ℕ → Type 0) → Written text → Tells vb vn d1 d2 b e Written own) → DeskMergeEnds vb vn d1 d2 b e result
+  by_text r none m own text c tells = text_ends vb vn d1 d2 b e result own text c tells (replied r none m)
 
   by_reply : (r : DeskReply) → Merges file r b e → (r ≡ reply.Disk → Rose d1 d2) → ReplyCloses (length file.books) r vb.held vn.held vb.writes_failed vn.writes_failed result → DeskMergeEnds vb vn d1 d2 b e result
-  by_reply (reply.Merged keys) m rose c = by_text status.Done (merged_text (length file.books)) c (λ Written text. (replies (λ f. reply.Merged (length f.books)) (counted file keys b e m), text))
+  by_reply (reply.Merged keys) m rose c =
+      by_text (reply.Merged keys) tt m status.Done (merged_text (length file.books)) c (λ Written text. (replies (λ f. reply.Merged (length f.books)) (counted file keys b e m), text))
   by_reply (reply.GenesisDiffers kept given) m rose c =
-      by_text status.GenesisDiffers (closing_text (closing.GenesisDiffers kept given)) c (λ Written text. (kept, given, replies (λ f. reply.GenesisDiffers kept given) m, text))
+      by_text (reply.GenesisDiffers kept given) tt m status.GenesisDiffers (closing_text (closing.GenesisDiffers kept given)) c (λ Written text. (kept, given, replies (λ f. reply.GenesisDiffers kept given) m, text))
   by_reply (reply.TooManyKeys have new) m rose c =
-      by_text status.FileRefused (closing_text (closing.FileRefused (refusal.TooManyKeys have new))) c (λ Written text. (refusal.TooManyKeys have new, replies (λ f. reply.TooManyKeys have new) m, text))
+      by_text (reply.TooManyKeys have new) tt m status.FileRefused (closing_text (closing.FileRefused (refusal.TooManyKeys have new))) c
+      (λ Written text. (refusal.TooManyKeys have new, replies (λ f. reply.TooManyKeys have new) m, text))
   by_reply (reply.Full size wanted) m rose c =
-      by_text status.FileRefused (closing_text (closing.FileRefused (refusal.Full size wanted))) c (λ Written text. (refusal.Full size wanted, replies (λ f. reply.Full size wanted) m, text))
-  by_reply reply.Disk m rose c = by_text status.DiskFault (closing_text closing.DiskFault) c (λ Written text. (rose refl, replies (λ f. reply.Disk) m, text))
-  by_reply reply.Active m rose c = by_memory c
-  by_reply reply.Already m rose c = by_memory c
-  by_reply (reply.Granted grant) m rose c = by_memory c
-  by_reply reply.Settled m rose c = by_memory c
-  by_reply reply.CloseBegun m rose c = by_memory c
-  by_reply reply.AlreadyClosing m rose c = by_memory c
-  by_reply (reply.Closed book) m rose c = by_memory c
-  by_reply (reply.Exported f) m rose c = by_memory c
-  by_reply (reply.Pruned book) m rose c = by_memory c
-  by_reply (reply.Keys listed) m rose c = by_memory c
-  by_reply (reply.HasFailed failed) m rose c = by_memory c
-  by_reply reply.Unknown m rose c = by_memory c
-  by_reply reply.NotActive m rose c = by_memory c
-  by_reply reply.Closing m rose c = by_memory c
-  by_reply (reply.NotClosing s) m rose c = by_memory c
-  by_reply (reply.Busy grants) m rose c = by_memory c
-  by_reply (reply.Refused v) m rose c = by_memory c
-  by_reply reply.OutOfMemory m rose c = by_memory c
+      by_text (reply.Full size wanted) tt m status.FileRefused (closing_text (closing.FileRefused (refusal.Full size wanted))) c
+      (λ Written text. (refusal.Full size wanted, replies (λ f. reply.Full size wanted) m, text))
+  by_reply reply.Disk m rose c =
+      closed_as (DeskMergeEnds vb vn d1 d2 b e) status.DiskFault result (closing_text closing.DiskFault) vb.held vn.held vb.writes_failed vn.writes_failed c
+      (λ text. (rose refl, replies (λ f. reply.Disk) m, text)) (λ part. (part.0, (status.DiskFault, (rose refl, replies (λ f. reply.Disk) m, part.1))))
+  by_reply r m rose c = by_memory r tt m c
 
   -- the desk replied to the file
   pub file_ends : b.torn ≡ None → FileCloses file b e d1 d2 vb.held vn.held vb.writes_failed vn.writes_failed result → DeskMergeEnds vb vn d1 d2 b e result

@@ -22,7 +22,7 @@ use Rattle.check_sign.specs.declared.event.DeskEvent.{DeskEvent}
 use Rattle.edge_kit.specs.declared.bytes.Root.{Root}
 use Rattle.command_line.specs.declared.planned.Plan.{Plan}
 use Rattle.command_line.specs.declared.planned.Plan.TheVariants as plan
-use Rattle.journal_commands.specs.Unopened.{ClosesBy, IsUnwritten, NotOpened, HadDesk}
+use Rattle.journal_commands.specs.Unopened.{ClosesBy, IsUnwritten, LineCloses, NotOpened, HadDesk}
 use Rattle.journal_commands.specs.Whole.{PassesLimit}
 use Rattle.journal_commands.specs.declared.whole.WholeFault.{WholeFault}
 use Rattle.journal_commands.specs.declared.whole.WholeFault.TheVariants as whole_fault
@@ -77,6 +77,15 @@ RefusesFile left_before left_now before now (refusal.Read fault) = ((bytes : Lis
 RefusesFile left_before left_now before now (refusal.TooManyKeys have new) = Replies left_before left_now before now (λ file. reply.TooManyKeys have new)
 RefusesFile left_before left_now before now (refusal.Full size wanted) = Replies left_before left_now before now (λ file. reply.Full size wanted)
 
+-- it tells of no fault of the disk
+abbrev pub IsNoFault : DeskReply → Type 0
+IsNoFault reply.Disk = ⊥
+IsNoFault r = Unit {0}
+
+-- the desk was not called, or gave such a reply to the merge of the file that the input is
+abbrev pub HasReplied : (DeskReply → Type 0) → Option (List ℕ) → Option (List ℕ) → Contents → Contents → Type 0
+HasReplied Such left_before left_now before now = (now ≡ before) ⊎ ((file : File) × (r : DeskReply) × Such r × ReadsFile left_before left_now file × Merges file r before now)
+
 -- What comes before the line of a status is written, status by status, each with its cause, and how its text is written; the disk's
 -- count of faults is the last two numbers.
 abbrev pub Tells : View → View → ℕ → ℕ → Contents → Contents → (List ℕ → Type 0) → Status → Type 0
@@ -108,17 +117,17 @@ abbrev pub IsFront : View → View → List ℕ → Type 0
 IsFront view_before view_now text = (n : ℕ) × Appends view_before.held view_now.held (take n text)
 
 -- How a merge into a desk ends: the line of its status was written; or the output failed within the line of the status in whose
--- place this one comes; or memory ran out, and nothing was written.
+-- place this one comes; or memory ran out, nothing was written, and the desk told of no fault of the disk.
 abbrev pub DeskMergeEnds : View → View → ℕ → ℕ → Contents → Contents → Status → Type 0
 DeskMergeEnds view_before view_now disk_before disk_now before now status.WriteFault =
     Rose view_before.writes_failed view_now.writes_failed × ((own : Status) × Tells view_before view_now disk_before disk_now before now (IsFront view_before view_now) own)
 DeskMergeEnds view_before view_now disk_before disk_now before now status.OutOfMemory =
-    (view_now.held ≡ view_before.held) × (view_now.writes_failed ≡ view_before.writes_failed)
+    HasReplied IsNoFault view_before.left view_now.left before now × (view_now.held ≡ view_before.held) × (view_now.writes_failed ≡ view_before.writes_failed)
 DeskMergeEnds view_before view_now disk_before disk_now before now own = Tells view_before view_now disk_before disk_now before now (IsWhole view_before view_now) own
 
 -- the desk at the end is the one that was opened, or it gave a reply to the merge of the file that the input is
 abbrev pub HasMerged : Option (List ℕ) → Option (List ℕ) → Contents → Contents → Type 0
-HasMerged left_before left_now before now = (now ≡ before) ⊎ ((file : File) × (r : DeskReply) × ReadsFile left_before left_now file × Merges file r before now)
+HasMerged left_before left_now before now = HasReplied (λ r. Unit {0}) left_before left_now before now
 
 -- a file of the journal opens to what lasts before the merge, or after a reply that a desk may give to the merge of the file which the input is
 abbrev pub OpensByMerge : Root → Option (List ℕ) → Option (List ℕ) → State → List ℕ → Type 0
@@ -138,19 +147,19 @@ MergeEnds shows moment leaves faults genesis first last view_before view_now eve
 abbrev pub ReplyCloses : ℕ → DeskReply → Option (List ℕ) → Option (List ℕ) → ℕ → ℕ → Status → Type 0
 ReplyCloses count (reply.Merged keys) held_before held_now failed_before failed_now result = ClosesBy status.Done (merged_text count) held_before held_now failed_before failed_now result
 ReplyCloses count (reply.GenesisDiffers kept given) held_before held_now failed_before failed_now result =
-    ClosesBy status.GenesisDiffers (closing_text (closing.GenesisDiffers kept given)) held_before held_now failed_before failed_now result
+    LineCloses status.GenesisDiffers (closing.GenesisDiffers kept given) held_before held_now failed_before failed_now result
 ReplyCloses count (reply.TooManyKeys have new) held_before held_now failed_before failed_now result =
-    ClosesBy status.FileRefused (closing_text (closing.FileRefused (refusal.TooManyKeys have new))) held_before held_now failed_before failed_now result
+    LineCloses status.FileRefused (closing.FileRefused (refusal.TooManyKeys have new)) held_before held_now failed_before failed_now result
 ReplyCloses count (reply.Full size wanted) held_before held_now failed_before failed_now result =
-    ClosesBy status.FileRefused (closing_text (closing.FileRefused (refusal.Full size wanted))) held_before held_now failed_before failed_now result
-ReplyCloses count reply.Disk held_before held_now failed_before failed_now result = ClosesBy status.DiskFault (closing_text closing.DiskFault) held_before held_now failed_before failed_now result
+    LineCloses status.FileRefused (closing.FileRefused (refusal.Full size wanted)) held_before held_now failed_before failed_now result
+ReplyCloses count reply.Disk held_before held_now failed_before failed_now result = LineCloses status.DiskFault closing.DiskFault held_before held_now failed_before failed_now result
 ReplyCloses count r held_before held_now failed_before failed_now result = IsUnwritten held_before held_now failed_before failed_now result
 
 -- by what fault of the input the output gets which text, and the program which status
 abbrev pub FaultCloses : WholeFault → Option (List ℕ) → Option (List ℕ) → ℕ → ℕ → Status → Type 0
 FaultCloses whole_fault.Read held_before held_now failed_before failed_now result = Closes status.ReadFault read_fault_text held_before held_now failed_before failed_now result
 FaultCloses whole_fault.TooLong held_before held_now failed_before failed_now result =
-    ClosesBy (status.InputTooLong limit.File) (closing_text (closing.TooLong file_limit)) held_before held_now failed_before failed_now result
+    LineCloses (status.InputTooLong limit.File) (closing.TooLong file_limit) held_before held_now failed_before failed_now result
 FaultCloses whole_fault.OutOfMemory held_before held_now failed_before failed_now result = IsUnwritten held_before held_now failed_before failed_now result
 
 -- a desk gave a reply to the merge of a file, by which the output was closed; of a disk only its fault in this call is told

@@ -45,10 +45,15 @@ abbrev pub ClosesBy : Status → List ℕ → Option (List ℕ) → Option (List
 ClosesBy st text held_before held_now failed_before failed_now result =
     Closes st text held_before held_now failed_before failed_now result ⊎ IsUnwritten held_before held_now failed_before failed_now result
 
+-- the line closed the output, or memory ran out before; the line of a fault of the disk wants none
+abbrev pub LineCloses : Status → ClosingLine → Option (List ℕ) → Option (List ℕ) → ℕ → ℕ → Status → Type 0
+LineCloses st closing.DiskFault held_before held_now failed_before failed_now result = Closes st (closing_text closing.DiskFault) held_before held_now failed_before failed_now result
+LineCloses st line held_before held_now failed_before failed_now result = ClosesBy st (closing_text line) held_before held_now failed_before failed_now result
+
 -- the line closed the output, where there is one; else nothing was written
 abbrev pub ClosesMaybe : Status → Option ClosingLine → Option (List ℕ) → Option (List ℕ) → ℕ → ℕ → Status → Type 0
 ClosesMaybe st None held_before held_now failed_before failed_now result = (result ≡ st) × (held_now ≡ held_before) × (failed_now ≡ failed_before)
-ClosesMaybe st (Some line) held_before held_now failed_before failed_now result = ClosesBy st (closing_text line) held_before held_now failed_before failed_now result
+ClosesMaybe st (Some line) held_before held_now failed_before failed_now result = LineCloses st line held_before held_now failed_before failed_now result
 
 -- the output was closed by the line of a fault of opening, which has none where memory ran out; or memory ran out before
 abbrev pub TellsFault : OpenFault → Option (List ℕ) → Option (List ℕ) → ℕ → ℕ → Status → Type 0

@@ -1,7 +1,8 @@
 //! The line that closes an output.
 ghost use Rattle.std.specs.Prelude.{◌≡◌, ◌≤◌};
 ghost use Rattle.session_format.specs.Closing.{closing_text};
-ghost use Rattle.journal_commands.specs.Unopened.{ClosesBy, TellsFault, open_status, open_line};
+ghost use Rattle.session_run.specs.Closings.{Closes};
+ghost use Rattle.journal_commands.specs.Unopened.{ClosesBy, LineCloses, TellsFault, open_status, open_line};
 
 use check_sign::OpenFault;
 use edge_kit::Sink;
@@ -11,6 +12,9 @@ use std::alloc::{AllocError, Global};
 
 /// The most keys that a journal may name.
 const KEY_LIMIT: u64 = 65_536;
+
+/// The line of a fault of the disk, which takes no memory.
+const DISK_FAULT: &str = "validator: disk fault\n";
 
 /// The status of a journal that is not opened, and the line that closes the output: none where memory ran
 /// out.
@@ -48,7 +52,8 @@ fn journal_fault_line(fault: record_journal::OpenFault) -> (Status, Option<Closi
 
 /// Closes the output of a journal that is not opened, by the line of the fault, and gives its status, or
 /// `WriteFault` in its place where the output's count of faults rose and a front of the line was written.
-/// Where memory runs out nothing is written, and the status is `OutOfMemory`.
+/// Where memory runs out nothing is written, and the status is `OutOfMemory`; a fault of the disk is told without
+/// memory.
 pub fn close_unopened<O: Sink>(alloc: Global, out: &mut O, fault: OpenFault) -> Status
     ensures tells { TellsFault fault (O.held out.old) (O.held out.new) (O.faults out.old) (O.faults out.new) result }
 {
@@ -60,13 +65,34 @@ pub fn close_unopened<O: Sink>(alloc: Global, out: &mut O, fault: OpenFault) -> 
 }
 
 /// Writes the line that closes an output, and gives the status, `WriteFault` where the output failed, or
-/// `OutOfMemory`, where nothing was written.
+/// `OutOfMemory`, where nothing was written. A fault of the disk is told without memory.
 pub(crate) fn close_line<O: Sink>(
     alloc: Global,
     out: &mut O,
     status: Status,
     line: &ClosingLine,
 ) -> Status
+    ensures closes { LineCloses status line.now (O.held out.old) (O.held out.new) (O.faults out.old) (O.faults out.new) result }
+{
+    match line {
+        ClosingLine::DiskFault => close_disk_fault(out, status),
+        ClosingLine::Damaged { .. } => close_text(alloc, out, status, line),
+        ClosingLine::GenesisDiffers { .. } => close_text(alloc, out, status, line),
+        ClosingLine::TooLong { .. } => close_text(alloc, out, status, line),
+        ClosingLine::FileRefused(_) => close_text(alloc, out, status, line),
+    }
+}
+
+/// Writes the line of a fault of the disk.
+#[tactic(auto, unfolding(session_format::specs::Closing::closing_text))]
+fn close_disk_fault<O: Sink>(out: &mut O, status: Status) -> Status
+    ensures closes { Closes status (closing_text ClosingLine.DiskFault) (O.held out.old) (O.held out.new) (O.faults out.old) (O.faults out.new) result }
+{
+    close(out, status, DISK_FAULT)
+}
+
+/// Writes the text of a line.
+fn close_text<O: Sink>(alloc: Global, out: &mut O, status: Status, line: &ClosingLine) -> Status
     ensures closes { ClosesBy status (closing_text line.now) (O.held out.old) (O.held out.new) (O.faults out.old) (O.faults out.new) result }
 {
     match line.line(alloc) {

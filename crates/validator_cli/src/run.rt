@@ -1,7 +1,8 @@
 //! The top call, and a session.
-ghost use Rattle.std.specs.Prelude.{◌≡◌, ◌≢◌, ◌⊎◌, [], None, map, string_bytes, Ok};
+ghost use Rattle.std.specs.Prelude.{◌≡◌, ◌≢◌, ◌⊎◌, ℕ, List, [], None, map, string_bytes, Ok};
 ghost use Rattle.edge_kit.specs.Causes.{Rose};
 ghost use Rattle.check_sign.specs.Contents.{Seen};
+ghost use Rattle.session_run.specs.Closings.{Closes};
 ghost use Rattle.session_run.specs.Images.{Leaves, OpensAfterLines};
 ghost use Rattle.session_run.specs.Runs.{ReadsFirst, WithinLimits};
 ghost use Rattle.command_line.specs.Plans.{asked_of, taken_as, nothing};
@@ -114,6 +115,7 @@ fn run_plan<D: Disk, S: Signer, I: Source, O: Sink>(
         (record { left = I.left input.old; held = O.held out.old; told = S.told signer; reads_failed = I.faults input.old; writes_failed = O.faults out.old; signs_failed = S.faults signer })
         (record { left = I.left input.new; held = O.held out.new; told = S.told result.2; reads_failed = I.faults input.new; writes_failed = O.faults out.new; signs_failed = S.faults result.2 })
         result.3 result.0 }
+    ensures shown { (text : List ℕ) → plan.now ≡ Plan.Shown text → Closes Status.Done text (O.held out.old) (O.held out.new) (O.faults out.old) (O.faults out.new) result.0 }
     ensures second { result.1.second ≡ disks.second }
 {
     match plan {

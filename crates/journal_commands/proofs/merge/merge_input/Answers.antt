@@ -18,7 +18,7 @@ pub returns-clause-course : goal.returns-clause-course
 returns-clause-course g c =
     let is : file_of c.in-Ok.bytes.items ≡ Ok c.in-Ok-Ok.file = search rules in
     let closes = c.merge_file.ensures.closes in
-    inr (c.in-Ok-Ok.file, closes.reply_is, record { bytes = c.in-Ok.bytes.items; read = record { taken = c.in-Ok.ensures.whole.0; at_end = c.in-Ok.ensures.whole.1 }; is_file = is }, closes.merges)
+    inr (c.in-Ok-Ok.file, closes.reply_is, tt, record { bytes = c.in-Ok.bytes.items; read = record { taken = c.in-Ok.ensures.whole.0; at_end = c.in-Ok.ensures.whole.1 }; is_file = is }, closes.merges)
 
 pub returns-clause-moments : goal.returns-clause-moments
 returns-clause-moments g c =
