@@ -1,6 +1,7 @@
 -- What the parts of a run make of its ending.
 use Rattle.std.proofs.Common.{arith, ◌≡◌, ℕ, ◌≤◌, List, [], ◌∷◌, ◌++◌, Option, Result, Ok, Err, refl, sym, ap, subst, inl, inr}
 use Rattle.std.specs.Prelude.{IfOk, codes}
+use Rattle.std.specs.Str.Iter.{LacksByte}
 use Rattle.edge_kit.specs.Causes.{Rose}
 use Rattle.signer_link.specs.declared.signer.SignCall.{SignCall}
 use Rattle.signer_link.specs.declared.signer.SignReply.{SignReply}
@@ -55,6 +56,6 @@ pub asks : {D : Type 0} (shows : D → List ℕ → Type 0) (moment : D → ℕ)
 asks shows moment leaves faults a b f1 f2 before now events s e r = let P : Asked → Type 0 = λ x. RunEnds shows moment leaves faults x f1 f2 before now events s in subst P e r
 
 -- a line of the program's own
-pub own : {T E : Type 0} (bytes : T → List ℕ) (result : Result T E) (line : List ℕ) → IfOk result (λ text. bytes text ≡ codes "validator: " ++ (line ++ 10 ∷ [])) → IfOk result (λ text. IsOwnLine (bytes text))
-own bytes (Ok text) line h = record { line = line; is_line = h }
-own bytes (Err e) line h = tt
+pub own : {T E : Type 0} (bytes : T → List ℕ) (result : Result T E) (line : List ℕ) → LacksByte 10 line → IfOk result (λ text. bytes text ≡ codes "validator: " ++ (line ++ 10 ∷ [])) → IfOk result (λ text. IsOwnLine (bytes text))
+own bytes (Ok text) line alone h = record { line = line; is_line = h; alone = alone }
+own bytes (Err e) line alone h = tt

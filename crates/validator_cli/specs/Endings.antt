@@ -1,5 +1,6 @@
 -- What a run of the program does, by what its words ask for.
 use Rattle.std.specs.Prelude.{◌≡◌, ◌≢◌, ℕ, ◌++◌, ◌∷◌, ◌⊎◌, List, [], Option, None, codes}
+use Rattle.std.specs.Str.Iter.{LacksByte}
 use Rattle.edge_kit.specs.Causes.{Rose}
 use Rattle.edge_kit.specs.Disks.{LeavesOnly}
 use Rattle.edge_kit.specs.declared.bytes.Root.{Root}
@@ -96,6 +97,7 @@ pub record TextShown {D : Type 0} (disk_before disk_now : D) (before now : Outsi
 pub record IsOwnLine (text : List ℕ) : Type 0 where
   pub line : List ℕ
   pub is_line : text ≡ codes "validator: " ++ (line ++ 10 ∷ [])
+  pub alone : LacksByte 10 line
 
 -- no command: nothing is read, asked or done, the disk is the same, and the output is closed by a line that says why
 pub record NoCommand {D : Type 0} (disk_before disk_now : D) (before now : Outside) (events : List DeskEvent) (ended : Status) : Type 0 where

@@ -1,5 +1,6 @@
 //! What is told of words that are no command.
 ghost use Rattle.std.specs.Prelude.{◌≡◌, ◌++◌, ◌∷◌, [], ℕ, List, IfOk, string_bytes, codes};
+ghost use Rattle.std.specs.Str.Iter.{LacksByte};
 ghost use Rattle.validator_cli.specs.Endings.{IsOwnLine};
 
 use command_line::Usage;
@@ -19,7 +20,9 @@ pub fn usage_line(alloc: Global, usage: &Usage) -> Result<String, AllocError>
 }
 
 /// The words of a text, a blank between them.
-fn one_line(alloc: Global, text: &str) -> Result<String, AllocError> {
+fn one_line(alloc: Global, text: &str) -> Result<String, AllocError>
+    ensures { IfOk result (λ line. LacksByte 10 (string_bytes line)) }
+{
     let mut line = String::new(alloc);
     'words: for word in text.split_whitespace() {
         if !line.is_empty() {
