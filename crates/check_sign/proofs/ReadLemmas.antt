@@ -13,18 +13,20 @@ use Rattle.record_codec.specs.Spelling.{IsBatch, is_record}
 use Rattle.record_codec.specs.declared.item.JournalItem.{JournalItem}
 use Rattle.record_codec.specs.declared.item.JournalItem.TheVariants as item
 use Rattle.record_replay.specs.Batches.{book_items, file_items}
-use Rattle.record_replay.specs.Items.{items_in}
-use Rattle.record_replay.specs.Replaying.{ItemsStand, lasting_state, lasting_states}
+use Rattle.record_replay.specs.Items.{items_in, named_keys, states_in}
+use Rattle.record_replay.specs.Replaying.{IsReplayed, ItemsStand, lasting_state, lasting_states}
 use Rattle.record_replay.specs.declared.state.KeyState.{KeyState}
 use Rattle.record_replay.specs.declared.state.KeyState.TheVariants.{Known, Active, Closing, Closed}
 use Rattle.record_journal.specs.Frames.{reading, begun}
 use Rattle.record_journal.specs.Journals.{Journaled, MayRead, journal_size}
 use Rattle.record_journal.specs.Opened.{Read}
+use Rattle.record_join.specs.Keys.{kept_of}
 use Rattle.record_join.specs.BooksPasts.{BooksStand}
 use Rattle.record_join.proofs.KeyLemmas.{each_keys}
 use Rattle.check_sign.specs.Contents.{Contents, Seen}
 use Rattle.check_sign.specs.States.{State, Lasting, DeskStands, PayloadsStand, TornStands, Opens, reopened, key_state}
 use Rattle.check_sign.specs.Machine.{key_states}
+use Rattle.check_sign.specs.Opening.{IsBroughtBack}
 use Rattle.check_sign.specs.Writing.{Moved, HoldsJournal, journal_of}
 use Rattle.check_sign.proofs.OpenLemmas.{still}
 
@@ -143,3 +145,15 @@ opened_read shows disk desk genesis watch now payloads r fresh same replayed = r
       let both = replayed l.keys l.states here.items in
       reopens desk genesis watch now l fresh both.0 both.1 s;
 }
+
+-- what was replayed of these payloads, the desk's own, is brought back
+pub brought_back : (desk : Contents) (payloads : List (List ℕ)) → payloads ≡ desk.payloads → keys_of desk.keys ≡ named_keys (items_in payloads)
+    → ((key : PubKey) (parts : Parts) → kept_of desk.keys key ≡ Some parts → IsReplayed (items_in payloads) key parts) → desk.states ≡ states_in (items_in payloads) → IsBroughtBack desk
+brought_back desk payloads same keys each states =
+    let K : List (List ℕ) → Type 0 = λ ps. keys_of desk.keys ≡ named_keys (items_in ps) in
+    let E : List (List ℕ) → Type 0 = λ ps. (key : PubKey) (parts : Parts) → kept_of desk.keys key ≡ Some parts → IsReplayed (items_in ps) key parts in
+    let S : List (List ℕ) → Type 0 = λ ps. desk.states ≡ states_in (items_in ps) in record {
+      keys = subst K same keys;
+      each = subst E same each;
+      states = subst S same states;
+    }

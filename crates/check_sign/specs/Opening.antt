@@ -1,10 +1,15 @@
 -- How the opening of a desk may end.
 use Rattle.std.specs.Prelude.{◌≡◌, ℕ, ◌<◌, List, [], Some, None, false, length, ⊤}
+use Rattle.std.specs.Map.{keys_of}
+use Rattle.edge_kit.specs.declared.bytes.PubKey.{PubKey}
 use Rattle.edge_kit.specs.declared.bytes.Root.{Root}
 use Rattle.record_journal.specs.Frames.{reading, begun}
 use Rattle.record_journal.specs.Opened.{Read, FaultIs}
+use Rattle.protect_record.specs.Parts.{Parts}
+use Rattle.record_join.specs.Keys.{kept_of}
 use Rattle.record_join.specs.BooksPasts.{key_limit}
-use Rattle.record_replay.specs.Items.{items_in, named_keys}
+use Rattle.record_replay.specs.Items.{items_in, named_keys, states_in}
+use Rattle.record_replay.specs.Replaying.{IsReplayed}
 use Rattle.record_journal.specs.declared.open.OpenFault.TheVariants as journal_fault
 use Rattle.record_replay.specs.declared.fault.ReplayFault.{ReplayFault}
 use Rattle.record_replay.specs.declared.fault.ReplayFault.TheVariants as replay_fault
@@ -29,6 +34,13 @@ OpenFaultIs shows disk genesis (fault.TooManyKeys have new) = (have ≡ 0) × Re
 abbrev pub open_fault_of : ReplayFault → OpenFault
 open_fault_of (replay_fault.TooManyKeys have new) = fault.TooManyKeys have new
 open_fault_of replay_fault.OutOfMemory = fault.Journal journal_fault.OutOfMemory
+
+-- a desk keeps what the items of its payloads say, whatever they say: just the keys that they name, of each the greatest of
+-- each floor and the entries that still count, and the state that the last of its items says
+pub record IsBroughtBack (desk : Contents) : Type 0 where
+  pub keys : keys_of desk.keys ≡ named_keys (items_in desk.payloads)
+  pub each : (key : PubKey) (parts : Parts) → kept_of desk.keys key ≡ Some parts → IsReplayed (items_in desk.payloads) key parts
+  pub states : desk.states ≡ states_in (items_in desk.payloads)
 
 -- a desk that was opened at the moment 0 over a disk: whatever lasts by the bytes that were read, it stands for it
 pub record IsOpened {D : Type 0} (shows : D → List ℕ → Type 0) (first : D) (genesis : Root) (desk : Contents) : Type 0 where

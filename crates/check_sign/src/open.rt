@@ -1,11 +1,11 @@
 //! The opening of a desk.
-ghost use Rattle.std.specs.Prelude.{◌≡◌, ◌≤◌, [], ℕ, List, None, false, IfOk, IfErr, MatchResult};
+ghost use Rattle.std.specs.Prelude.{◌≡◌, ◌≤◌, [], ℕ, List, None, Some, false, IfOk, IfErr, MatchResult};
 ghost use Rattle.edge_kit.specs.Causes.{Rose};
-ghost use Rattle.record_journal.specs.Frames.{Keeps};
+ghost use Rattle.record_journal.specs.Frames.{Keeps, begun, reading};
 ghost use Rattle.record_journal.specs.Opened.{Read};
 ghost use Rattle.check_sign.specs.States.{State, Lasting, DeskStands, MayOpen, Opens, reopened};
 ghost use Rattle.check_sign.specs.Machine.{moment_limit};
-ghost use Rattle.check_sign.specs.Opening.{OpenFaultIs, open_fault_of};
+ghost use Rattle.check_sign.specs.Opening.{IsBroughtBack, OpenFaultIs, open_fault_of};
 ghost use Rattle.record_journal.specs.declared.open.OpenFault.TheVariants as journal_fault;
 
 use crate::desk::Desk;
@@ -48,6 +48,10 @@ impl<D: Disk> Desk<D> {
         requires moment { now ≤ moment_limit }
         // Whatever lasts by the bytes that were read, the desk stands for it, reopened.
         ensures read { IfOk result (λ d. Read D.shows disks.first (λ bytes. (l : Lasting) → Opens genesis bytes l → DeskStands d.contents (reopened genesis l watch now))) }
+        // Whatever the bytes are, even where they stand for nothing that lasts: the desk has the payloads that they read as, and
+        // keeps what the items of these say.
+        ensures payloads { IfOk result (λ d. Read D.shows disks.first (λ bytes. begun (reading genesis.0 bytes) ≡ Some d.contents.payloads)) }
+        ensures brought_back { IfOk result (λ d. IsBroughtBack d.contents) }
         ensures fresh { IfOk result (λ d. (d.contents.genesis ≡ genesis) × (d.contents.grants ≡ []) × (d.contents.latest ≡ now) × (d.contents.watch ≡ watch) × (d.contents.events ≡ []) × (d.contents.torn ≡ None)) }
         // A crash at any moment leaves a file that opens as one that a crash before might have left, and from now on to what the
         // desk stands for.
