@@ -1,5 +1,5 @@
 -- A call of the desk from its exits.
-use Rattle.std.proofs.Common.{◌≡◌, ℕ, ◌+◌, ◌≤◌, Bool, true, false, List, [], ◌∷◌, ◌++◌, length, Option, Some, None, Err, refl, sym, ◌∙◌, ap, subst, arith}
+use Rattle.std.proofs.Common.{◌≡◌, ℕ, ◌+◌, Bool, true, false, List, ◌++◌, Option, Some, None, Err, refl, sym, ◌∙◌, subst}
 use Rattle.std.specs.Prelude.{is_some}
 use Rattle.record_codec.specs.declared.item.JournalItem.{JournalItem}
 use Rattle.record_journal.specs.Journals.{Journaled, journal_size}
@@ -7,12 +7,14 @@ use Rattle.record_journal.specs.declared.log.AppendFault.{AppendFault}
 use Rattle.record_replay.specs.Items.{items_in}
 use Rattle.record_replay.specs.Replaying.{ItemsStand}
 use Rattle.check_sign.specs.Contents.{Contents}
-use Rattle.check_sign.specs.States.{State, Lasting, lasting, DeskStands, PayloadsStand}
-use Rattle.check_sign.specs.Machine.{frame_size, HasRoomFor, IsUp, Proceeds, MayFail, MayWant, IsTooMuch, written, lasting_after, torn_first, latest_after}
+use Rattle.desk_machine.specs.States.{State, lasting}
+use Rattle.check_sign.specs.Standing.{DeskStands, PayloadsStand}
+use Rattle.desk_machine.specs.Written.{frame_size, HasRoomFor, written}
+use Rattle.desk_machine.specs.Machine.{IsUp, Proceeds, MayFail, MayWant, IsTooMuch, lasting_after, torn_first, latest_after}
 use Rattle.check_sign.specs.Writing.{Wrote, refusal_of}
-use Rattle.check_sign.specs.declared.call.DeskCall.{DeskCall}
-use Rattle.check_sign.specs.declared.call.DeskReply.{DeskReply}
-use Rattle.check_sign.specs.declared.call.DeskReply.TheVariants as reply
+use Rattle.desk_machine.specs.declared.call.DeskCall.{DeskCall}
+use Rattle.desk_machine.specs.declared.call.DeskReply.{DeskReply}
+use Rattle.desk_machine.specs.declared.call.DeskReply.TheVariants as reply
 use Rattle.check_sign.proofs.StepLemmas.{Rest, by_fault}
 
 -- the journal was not torn

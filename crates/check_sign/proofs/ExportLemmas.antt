@@ -17,10 +17,11 @@ use Rattle.record_join.specs.BooksPasts.{BooksStand, EachOnce}
 use Rattle.std.specs.Bool.{Decides}
 use Rattle.std.proofs.lemmas.Map.Keys.{IsDistinct-from_sorted}
 use Rattle.std.proofs.lemmas.Map.Made.{AllPairs-from_IsDistinct}
-use Rattle.record_join.proofs.OrderLemmas.{at_itself, same_key}
-use Rattle.record_join.proofs.KeyLemmas.{each_none, each_found}
-use Rattle.check_sign.specs.States.{is_among}
-use Rattle.check_sign.specs.Handing.{AreExports, ExportsOne, export_at}
+use Rattle.record_join.specs.KeyLaws.{at_itself, same_key}
+use Rattle.record_join.specs.EachKeyLaws.{each_none, each_found}
+use Rattle.desk_machine.specs.States.{is_among}
+use Rattle.check_sign.specs.Exporting.{AreExports, export_at}
+use Rattle.desk_machine.specs.Handing.{ExportsOne}
 
 or_false : (b : Bool) → (b || false) ≡ b
 or_false true = refl

@@ -1,6 +1,6 @@
 pub mod DeskLemmas
 pub mod ExportLemmas
-pub mod GrantLemmas
+pub mod ImageLemmas
 pub mod MachineLemmas
 pub mod MarkLemmas
 pub mod OpenLemmas

@@ -1,5 +1,5 @@
 -- From a desk that stands for a state to the desk after a call.
-use Rattle.std.proofs.Common.{◌≡◌, ℕ, ◌+◌, ◌<◌, ◌≤◌, ◌⊎◌, inl, inr, arith, max, Bool, true, false, cond, List, [], ◌∷◌, ◌++◌, length, Option, Some, None, refl, sym, ◌∙◌, ap, subst}
+use Rattle.std.proofs.Common.{◌≡◌, ℕ, ◌+◌, ◌<◌, ◌≤◌, ◌⊎◌, inl, inr, arith, Bool, true, false, List, length, Option, Some, None, refl, sym, ◌∙◌, ap, subst}
 use Rattle.std.specs.Prelude.{IsSome, IsSomeAnd, IsTrue, ◌↔◌, is_some, count_by, not}
 use Rattle.edge_kit.specs.declared.bytes.PubKey.{PubKey}
 use Rattle.protect_record.specs.Parts.{Parts}
@@ -7,9 +7,10 @@ use Rattle.protect_record.specs.Pasts.{Past}
 use Rattle.protect_record.specs.Standing.{Stands}
 use Rattle.record_join.specs.Keys.{kept_of, EachKey}
 use Rattle.record_join.specs.BooksPasts.{BooksStand, new_keys, key_limit}
-use Rattle.record_join.proofs.KeyLemmas.{each_found, each_none, each_length, each_absent, each_present}
-use Rattle.check_sign.specs.Contents.{Contents, Seen}
-use Rattle.check_sign.specs.States.{State, DeskStands}
+use Rattle.record_join.specs.EachKeyLaws.{each_found, each_none, each_length, each_absent, each_present}
+use Rattle.check_sign.specs.Contents.{Seen}
+use Rattle.desk_machine.specs.States.{State}
+use Rattle.check_sign.specs.Standing.{DeskStands}
 
 -- a desk as it was opened
 pub opened : {D : Type 0} (desk seen : Seen D) (state : State) → seen ≡ desk → DeskStands desk.contents state → DeskStands seen.contents state

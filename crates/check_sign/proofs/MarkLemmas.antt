@@ -11,7 +11,7 @@ use Rattle.std.proofs.lemmas.Map.Entries.{sum_by-insert_entry, sum_by-set_value}
 use Rattle.std.proofs.lemmas.Map.Steps.{set_value_same}
 use Rattle.edge_kit.specs.declared.bytes.PubKey.{PubKey}
 use Rattle.record_join.specs.Keys.{key_cmp, kept_of, with_key, with_kept}
-use Rattle.record_join.proofs.OrderLemmas.{key_total, kept_here, put_kept, taken_out}
+use Rattle.record_join.specs.KeyLaws.{key_total, kept_here, put_kept, taken_out}
 use Rattle.record_replay.specs.declared.state.KeyState.{KeyState}
 use Rattle.record_replay.specs.declared.state.KeyState.TheVariants.{Known, Active, Closing, Closed}
 use Rattle.protect_record.specs.Parts.{Parts}
@@ -19,9 +19,10 @@ use Rattle.record_join.specs.BooksPasts.{BooksStand}
 use Rattle.record_replay.specs.Items.{items_in}
 use Rattle.record_replay.specs.Replaying.{ItemsStand}
 use Rattle.check_sign.specs.Contents.{Contents}
-use Rattle.check_sign.specs.declared.event.DeskEvent.{DeskEvent}
-use Rattle.check_sign.specs.declared.open_grant.OpenGrant.{OpenGrant}
-use Rattle.check_sign.specs.States.{State, DeskStands, key_state, is_active}
+use Rattle.desk_machine.specs.declared.event.DeskEvent.{DeskEvent}
+use Rattle.desk_machine.specs.declared.open_grant.OpenGrant.{OpenGrant}
+use Rattle.desk_machine.specs.States.{State, key_state, is_active}
+use Rattle.check_sign.specs.Standing.{DeskStands}
 use Rattle.check_sign.specs.Marking.{count_active}
 
 -- ---- how many keys are active
@@ -86,15 +87,15 @@ found_at r states held key s is same known e = some_state (kept_of held key) s k
 
 -- ---- a desk that is as it was but for room, and a later moment
 
-pub later : (desk : Contents) (state : State) (keys : List (PubKey × Parts)) (states : List (PubKey × KeyState)) (grants : List OpenGrant) (events : List DeskEvent) (latest now : ℕ) → DeskStands desk state
-    → BooksStand keys state.keys → states ≡ desk.states → grants ≡ desk.grants → latest ≡ max desk.latest now
-    → DeskStands (record desk { keys = keys; states = states; grants = grants; events = events; latest = latest }) (record state { latest = max state.latest now })
-later desk state keys states grants events latest now s each held granted moment = record {
+pub later : (desk : Contents) (state : State) (keys : List (PubKey × Parts)) (states : List (PubKey × KeyState)) (grants : List OpenGrant) (next : ℕ) (events : List DeskEvent) (latest now : ℕ) → DeskStands desk state
+    → BooksStand keys state.keys → states ≡ desk.states → grants ≡ desk.grants → next ≡ desk.next → latest ≡ max desk.latest now
+    → DeskStands (record desk { keys = keys; states = states; grants = grants; next = next; events = events; latest = latest }) (record state { latest = max state.latest now })
+later desk state keys states grants next events latest now s each held granted counts moment = record {
   genesis = s.genesis;
   keys = each;
   states = held ∙ s.states;
   grants = granted ∙ s.grants;
-  next = s.next;
+  next = counts ∙ s.next;
   latest = moment ∙ ap (λ m. max m now) s.latest;
   watch = s.watch;
   size = s.size;

@@ -1,15 +1,21 @@
 -- From what a journal's file may read as to what it may open to.
-use Rattle.std.proofs.Common.{◌≡◌, ◌⊎◌, inl, inr, ⊎_elim, ℕ, List, [], ◌∷◌, ◌++◌, Option, Some, None, refl, sym, ◌∙◌, ap, subst, arith}
+use Rattle.std.proofs.Common.{◌≡◌, ◌⊎◌, inl, inr, ⊎_elim, ℕ, List, [], ◌∷◌, ◌++◌, Option, Some, None, refl, ◌∙◌, ap, subst, arith}
 use Rattle.std.specs.Prelude.{IsSome, IsSomeAnd, true, false}
 use Rattle.edge_kit.specs.Causes.{Rose}
 use Rattle.edge_kit.specs.Disks.{LeavesOnly}
 use Rattle.edge_kit.specs.declared.bytes.Root.{Root}
 use Rattle.edge_kit.proofs.Moments.{leaves_weaker, leaves_now}
-use Rattle.record_journal.specs.Frames.{Reading, Kept, reading, begun}
+use Rattle.record_journal.specs.Frames.{Kept, reading, begun}
 use Rattle.record_journal.specs.Journals.{Journaled, MayRead}
-use Rattle.check_sign.specs.Contents.{Contents, Seen}
-use Rattle.check_sign.specs.States.{State, Lasting, DeskStands, TornStands, PayloadsStand, Opens, MayOpen}
-use Rattle.check_sign.specs.Writing.{Moved, HoldsJournal, journal_of}
+use Rattle.check_sign.specs.Contents.{Seen}
+use Rattle.desk_machine.specs.States.{State, Lasting}
+use Rattle.check_sign.specs.Standing.{DeskStands, TornStands, Opens, MayOpen}
+use Rattle.check_sign.specs.Writing.{Moved, journal_of}
+use Rattle.check_sign.specs.Calls.{Counted, IsCallOf, IsOwn, IsStep}
+use Rattle.desk_machine.specs.Machine.{after}
+use Rattle.desk_machine.specs.declared.call.DeskCall.{DeskCall}
+use Rattle.desk_machine.specs.declared.call.DeskReply.{DeskReply}
+use Rattle.desk_machine.specs.declared.call.DeskReply.TheVariants as reply
 
 torn_opens : (genesis : Root) (file : List ℕ) (ps : List (List ℕ)) (t : Option (List ℕ)) (l : Option Lasting) → TornStands ps t l
     → IsSomeAnd t (λ p. reading genesis.0 file ≡ Kept (ps ++ p ∷ [])) → IsSomeAnd l (λ x. Opens genesis file x)
@@ -55,3 +61,20 @@ module _ {D : Type 0} (moment : D → ℕ) (leaves : D → ℕ → List ℕ → 
       let K : List ℕ → Type 0 = λ r. Moved moment leaves faults j (record { disk = k.disk; root = r; payloads = k.payloads; size = k.size; torn = k.torn }) in
       let J : List ℕ → Type 0 = λ r. Moved moment leaves faults (record { disk = j.disk; root = r; payloads = j.payloads; size = j.size; torn = j.torn }) (record { disk = k.disk; root = root; payloads = k.payloads; size = k.size; torn = k.torn }) in
       subst J e (subst K (moved.root ∙ e) moved)
+
+  -- a step over a journal that moved is one call of the desk
+  pub is_call : (old new : Seen D) (c : DeskCall) (r : DeskReply) → IsStep old.contents c r new.contents → Counted old.contents c r new.contents → IsOwn old.contents c r new.contents
+      → Moved moment leaves faults (journal_of old) (journal_of new) → (r ≡ reply.Disk → old.contents.torn ≡ None → Rose (faults old.disk) (faults new.disk)) → new.second ≡ old.second
+      → IsCallOf moment leaves faults old new c r
+  is_call old new c r step counted own moved rose second = record {
+    machine = step;
+    counted = counted;
+    own = own;
+    journal = moved;
+    moments = λ state stands. moments_open old new state (after state c r) moved counted.genesis stands (step state stands).1;
+    left = λ state stands. left_opens old new state moved stands;
+    later = moved.later;
+    fails = moved.fails;
+    rose = rose;
+    second = second;
+  }

@@ -22,8 +22,8 @@ use Rattle.record_codec.specs.declared.item.JournalItem.TheVariants as item
 use Rattle.record_join.specs.Keys.{key_cmp, kept_of, with_kept}
 use Rattle.record_join.specs.BooksPasts.{BooksStand, own_grown, own_grown_from}
 use Rattle.record_join.specs.Repeats.{IsRepeat, block_entry, repeats, vote_entry}
-use Rattle.record_join.proofs.OrderLemmas.{changed, same_key}
-use Rattle.record_join.proofs.RepeatLemmas.{repeats_decides}
+use Rattle.record_join.specs.KeyLaws.{changed, same_key}
+use Rattle.record_join.specs.RepeatLaws.{repeats_decides}
 use Rattle.record_journal.specs.Journals.{Journaled, journal_size}
 use Rattle.record_journal.specs.declared.log.AppendFault.{AppendFault}
 use Rattle.record_journal.specs.declared.log.AppendFault.TheVariants as fault
@@ -34,16 +34,19 @@ use Rattle.record_replay.specs.Replaying.{ItemsStand, KeyStands}
 use Rattle.record_replay.specs.declared.state.KeyState.{KeyState}
 use Rattle.record_replay.specs.declared.state.KeyState.TheVariants.{Known, Active, Closing, Closed}
 use Rattle.check_sign.specs.Contents.{Contents, Seen}
-use Rattle.check_sign.specs.Handing.{IsExport}
+use Rattle.desk_machine.specs.Handing.{IsExport}
 use Rattle.check_sign.specs.Marking.{count_active}
-use Rattle.check_sign.specs.Machine.{after, frame_size, grant_for, HasRoomFor, IsUp, Proceeds, proposal_items, Reply}
-use Rattle.check_sign.specs.States.{State, DeskStands, PayloadsStand, is_active, key_state, lasting, open_grants}
+use Rattle.desk_machine.specs.Machine.{after, grant_for, IsUp, Proceeds, Reply}
+use Rattle.desk_machine.specs.Written.{frame_size, HasRoomFor, proposal_items}
+use Rattle.desk_machine.specs.States.{State, is_active, key_state, lasting}
+use Rattle.check_sign.specs.Standing.{DeskStands, PayloadsStand}
+use Rattle.desk_machine.specs.Grants.{open_grants}
 use Rattle.check_sign.specs.Writing.{Moved, Wrote, journal_of, refusal_of}
-use Rattle.check_sign.specs.declared.call.DeskCall.TheVariants as call
-use Rattle.check_sign.specs.declared.call.DeskReply.{DeskReply}
-use Rattle.check_sign.specs.declared.call.DeskReply.TheVariants as reply
-use Rattle.check_sign.specs.declared.event.DeskEvent.{DeskEvent}
-use Rattle.check_sign.specs.declared.open_grant.OpenGrant.{OpenGrant}
+use Rattle.desk_machine.specs.declared.call.DeskCall.TheVariants as call
+use Rattle.desk_machine.specs.declared.call.DeskReply.{DeskReply}
+use Rattle.desk_machine.specs.declared.call.DeskReply.TheVariants as reply
+use Rattle.desk_machine.specs.declared.event.DeskEvent.{DeskEvent}
+use Rattle.desk_machine.specs.declared.open_grant.OpenGrant.{OpenGrant}
 use Rattle.check_sign.proofs.MachineLemmas.{is_some_of, some_at, some_is}
 use Rattle.check_sign.proofs.StepLemmas.{Rest, by_fault, grown, up_state}
 
@@ -167,14 +170,14 @@ proposed items keys states key m past stand at own = by (repeats past m) refl wh
 -- ---- a desk that refuses a proposal, or grants it
 
 -- the latest moment alone differs
-pub later_stands : (desk : Contents) (state : State) (books : List (PubKey × Parts)) (grants : List OpenGrant) (events : List DeskEvent) (latest now : ℕ) → DeskStands desk state → BooksStand books state.keys → grants ≡ desk.grants → latest ≡ max desk.latest now
-    → DeskStands (record desk { keys = books; grants = grants; latest = latest; events = events }) (record state { latest = max state.latest now })
-later_stands desk state books grants events latest now s each same is = record {
+pub later_stands : (desk : Contents) (state : State) (books : List (PubKey × Parts)) (grants : List OpenGrant) (next : ℕ) (events : List DeskEvent) (latest now : ℕ) → DeskStands desk state → BooksStand books state.keys → grants ≡ desk.grants → next ≡ desk.next → latest ≡ max desk.latest now
+    → DeskStands (record desk { keys = books; grants = grants; next = next; latest = latest; events = events }) (record state { latest = max state.latest now })
+later_stands desk state books grants next events latest now s each same counts is = record {
   genesis = s.genesis;
   keys = each;
   states = s.states;
   grants = same ∙ s.grants;
-  next = s.next;
+  next = counts ∙ s.next;
   latest = is ∙ ap (λ n. max n now) s.latest;
   watch = s.watch;
   size = s.size;

@@ -1,7 +1,8 @@
 -- The items of books as one batch; what is handed out; and what a desk is opened to.
-use Rattle.std.proofs.Common.{◌≡◌, ◌⊎◌, inl, inr, ℕ, Bool, true, List, [], ◌∷◌, ◌++◌, Option, Some, None, refl, sym, ◌∙◌, ap, subst}
-use Rattle.std.specs.Prelude.{map, flat_map}
+use Rattle.std.proofs.Common.{◌≡◌, ◌≤◌, ◌⊎◌, inl, inr, ℕ, Bool, true, List, [], ◌∷◌, ◌++◌, arith, length, Option, Some, None, refl, sym, ◌∙◌, ap, subst}
+use Rattle.std.specs.Prelude.{map}
 use Rattle.std.specs.List.{AllByRecursion}
+use Rattle.std.proofs.lemmas.List.{length-map}
 use Rattle.std.specs.Map.{keys_of}
 use Rattle.edge_kit.specs.declared.bytes.PubKey.{PubKey}
 use Rattle.edge_kit.specs.declared.bytes.Root.{Root}
@@ -17,15 +18,14 @@ use Rattle.record_replay.specs.Items.{items_in, named_keys, states_in}
 use Rattle.record_replay.specs.Replaying.{IsReplayed, ItemsStand, lasting_state, lasting_states}
 use Rattle.record_replay.specs.declared.state.KeyState.{KeyState}
 use Rattle.record_replay.specs.declared.state.KeyState.TheVariants.{Known, Active, Closing, Closed}
-use Rattle.record_journal.specs.Frames.{reading, begun}
 use Rattle.record_journal.specs.Journals.{Journaled, MayRead, journal_size}
-use Rattle.record_journal.specs.Opened.{Read}
 use Rattle.record_join.specs.Keys.{kept_of}
-use Rattle.record_join.specs.BooksPasts.{BooksStand}
-use Rattle.record_join.proofs.KeyLemmas.{each_keys}
+use Rattle.record_join.specs.BooksPasts.{BooksStand, key_limit}
+use Rattle.record_join.specs.EachKeyLaws.{each_keys}
 use Rattle.check_sign.specs.Contents.{Contents, Seen}
-use Rattle.check_sign.specs.States.{State, Lasting, DeskStands, PayloadsStand, TornStands, Opens, reopened, key_state}
-use Rattle.check_sign.specs.Machine.{key_states}
+use Rattle.desk_machine.specs.States.{State, Lasting, reopened, key_state}
+use Rattle.check_sign.specs.Standing.{DeskStands, PayloadsStand, TornStands}
+use Rattle.desk_machine.specs.Machine.{key_states}
 use Rattle.check_sign.specs.Opening.{IsBroughtBack}
 use Rattle.check_sign.specs.Writing.{Moved, HoldsJournal, journal_of}
 use Rattle.check_sign.proofs.OpenLemmas.{still}
@@ -129,31 +129,25 @@ reopens desk genesis watch now l fresh keys states s = let at_torn : Option (Lis
   torn = subst at_torn (sym fresh.torn) tt;
 }
 
-same_some : {A : Type 0} (a b : A) → Some a ≡ Some b → a ≡ b
-same_some a b e = cc
-
-pub opened_read : {D : Type 0} (shows : D → List ℕ → Type 0) (disk : D) (desk : Contents) (genesis : Root) (watch : Bool) (now : ℕ) (payloads : List (List ℕ)) → Read shows disk (λ bytes. begun (reading genesis.0 bytes) ≡ Some desk.payloads) → IsFresh desk genesis watch now
+pub opened_stands : (desk : Contents) (genesis : Root) (watch : Bool) (now : ℕ) (payloads : List (List ℕ)) → IsFresh desk genesis watch now
     → payloads ≡ desk.payloads → ((pasts : List (PubKey × Past)) (states : List (PubKey × KeyState)) → ItemsStand (items_in payloads) pasts states → BooksStand desk.keys pasts × (desk.states ≡ lasting_states states))
-    → Read shows disk (λ bytes. (l : Lasting) → Opens genesis bytes l → DeskStands desk (reopened genesis l watch now))
-opened_read shows disk desk genesis watch now payloads r fresh same replayed = record {
-  bytes = r.bytes;
-  shown = r.shown;
-  holds = λ l o.
-      let P : List (List ℕ) → Type 0 = λ ps. PayloadsStand ps l in
-      let s : PayloadsStand desk.payloads l = subst P (same_some o.payloads desk.payloads (sym o.read ∙ r.holds)) o.stand in
-      let here : PayloadsStand payloads l = subst P (sym same) s in
-      let both = replayed l.keys l.states here.items in
-      reopens desk genesis watch now l fresh both.0 both.1 s;
-}
+    → (l : Lasting) → PayloadsStand desk.payloads l → DeskStands desk (reopened genesis l watch now)
+opened_stands desk genesis watch now payloads fresh same replayed l s =
+    let P : List (List ℕ) → Type 0 = λ ps. PayloadsStand ps l in
+    let here : PayloadsStand payloads l = subst P (sym same) s in
+    let both = replayed l.keys l.states here.items in
+    reopens desk genesis watch now l fresh both.0 both.1 s
 
 -- what was replayed of these payloads, the desk's own, is brought back
 pub brought_back : (desk : Contents) (payloads : List (List ℕ)) → payloads ≡ desk.payloads → keys_of desk.keys ≡ named_keys (items_in payloads)
-    → ((key : PubKey) (parts : Parts) → kept_of desk.keys key ≡ Some parts → IsReplayed (items_in payloads) key parts) → desk.states ≡ states_in (items_in payloads) → IsBroughtBack desk
-brought_back desk payloads same keys each states =
+    → length desk.keys ≤ key_limit → ((key : PubKey) (parts : Parts) → kept_of desk.keys key ≡ Some parts → IsReplayed (items_in payloads) key parts) → desk.states ≡ states_in (items_in payloads) → IsBroughtBack desk
+brought_back desk payloads same keys limit each states =
     let K : List (List ℕ) → Type 0 = λ ps. keys_of desk.keys ≡ named_keys (items_in ps) in
     let E : List (List ℕ) → Type 0 = λ ps. (key : PubKey) (parts : Parts) → kept_of desk.keys key ≡ Some parts → IsReplayed (items_in ps) key parts in
     let S : List (List ℕ) → Type 0 = λ ps. desk.states ≡ states_in (items_in ps) in record {
       keys = subst K same keys;
+      limit = let listed : length (keys_of desk.keys) ≡ length desk.keys = length-map desk.keys (λ (e : PubKey × Parts). e.0) in
+          let named = ap (λ (l : List PubKey). length l) (subst K same keys) in omega (arith, listed, named, limit);
       each = subst E same each;
       states = subst S same states;
     }

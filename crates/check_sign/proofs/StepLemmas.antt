@@ -1,22 +1,23 @@
 -- What the writing of a batch makes of the states that a desk stands for.
-use Rattle.std.proofs.Common.{◌≡◌, ◌⊎◌, inl, inr, ℕ, ◌+◌, arith, List, [], ◌∷◌, ◌++◌, length, Option, Some, None, Result, Ok, Err, refl, sym, ◌∙◌, ap, subst, append_assoc, append-nil}
-use Rattle.edge_kit.specs.declared.bytes.Root.{Root}
+use Rattle.std.proofs.Common.{◌≡◌, inr, ℕ, ◌+◌, arith, List, [], ◌∷◌, ◌++◌, length, Option, Some, None, Ok, Err, refl, sym, ◌∙◌, ap, subst, append_assoc, append-nil}
 use Rattle.record_codec.specs.Spelling.{spelling}
 use Rattle.record_codec.specs.Reading.{batch_of}
 use Rattle.record_codec.specs.declared.item.JournalItem.{JournalItem}
-use Rattle.record_journal.specs.Journals.{Journaled, journal_size, with_torn}
+use Rattle.record_journal.specs.Journals.{Journaled, journal_size}
 use Rattle.record_journal.specs.declared.log.AppendFault.{AppendFault}
 use Rattle.record_journal.specs.declared.log.AppendFault.TheVariants as fault
 use Rattle.record_join.specs.BooksPasts.{BooksStand}
 use Rattle.record_replay.specs.Items.{items_in, items_or_none}
 use Rattle.record_replay.specs.Replaying.{ItemsStand}
 use Rattle.check_sign.specs.Contents.{Contents}
-use Rattle.check_sign.specs.States.{State, Lasting, lasting, DeskStands, PayloadsStand, TornStands}
-use Rattle.check_sign.specs.Machine.{frame_size, HasRoomFor, IsOver, IsWritten, IsUp, Proceeds, MayFail, MayWant, IsTooMuch, Succeeds, written, lasting_after, torn_first, latest_after}
-use Rattle.check_sign.specs.Writing.{Wrote, IsRead, payloads_of, with_batch, refusal_of}
-use Rattle.check_sign.specs.declared.call.DeskCall.{DeskCall}
-use Rattle.check_sign.specs.declared.call.DeskReply.{DeskReply}
-use Rattle.check_sign.specs.declared.call.DeskReply.TheVariants as reply
+use Rattle.desk_machine.specs.States.{State, Lasting, lasting}
+use Rattle.check_sign.specs.Standing.{DeskStands, PayloadsStand, TornStands}
+use Rattle.desk_machine.specs.Written.{frame_size, IsOver, IsWritten, written}
+use Rattle.desk_machine.specs.Machine.{IsUp, Proceeds, MayFail, MayWant, IsTooMuch, lasting_after, torn_first, latest_after}
+use Rattle.check_sign.specs.Writing.{Wrote, IsRead, payloads_of, refusal_of}
+use Rattle.desk_machine.specs.declared.call.DeskCall.{DeskCall}
+use Rattle.desk_machine.specs.declared.call.DeskReply.{DeskReply}
+use Rattle.desk_machine.specs.declared.call.DeskReply.TheVariants as reply
 
 flat_append : (ps qs : List (List ℕ)) → items_in (ps ++ qs) ≡ items_in ps ++ items_in qs
 flat_append [] qs = refl

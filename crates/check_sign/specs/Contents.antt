@@ -4,8 +4,8 @@ use Rattle.edge_kit.specs.declared.bytes.PubKey.{PubKey}
 use Rattle.edge_kit.specs.declared.bytes.Root.{Root}
 use Rattle.protect_record.specs.Parts.{Parts}
 use Rattle.record_replay.specs.declared.state.KeyState.{KeyState}
-use Rattle.check_sign.specs.declared.open_grant.OpenGrant.{OpenGrant}
-use Rattle.check_sign.specs.declared.event.DeskEvent.{DeskEvent}
+use Rattle.desk_machine.specs.declared.open_grant.OpenGrant.{OpenGrant}
+use Rattle.desk_machine.specs.declared.event.DeskEvent.{DeskEvent}
 
 pub record Contents : Type 0 where
   -- the root of the chain's genesis validators

@@ -1,7 +1,8 @@
 pub mod Contents
-pub mod States
-pub mod Handing
-pub mod Machine
+pub mod Standing
+pub mod Exporting
+pub mod Calls
+pub mod Images
 pub mod Marking
 pub mod Writing
 pub mod Opening

@@ -1,12 +1,12 @@
 -- The states of keys while one of them is changed.
-use Rattle.std.specs.Prelude.{◌≡◌, ℕ, List, Option, Some, None, count_by}
+use Rattle.std.specs.Prelude.{◌≡◌, ℕ, List, Option, count_by}
 use Rattle.edge_kit.specs.declared.bytes.PubKey.{PubKey}
 use Rattle.std.specs.Map.{keys_of}
 use Rattle.std.specs.List.Sorted.{IsStrictlySortedBy}
 use Rattle.record_join.specs.Keys.{key_cmp, kept_of, with_key}
 use Rattle.record_replay.specs.declared.state.KeyState.{KeyState}
 use Rattle.record_replay.specs.declared.state.KeyState.TheVariants.{Active}
-use Rattle.check_sign.specs.States.{is_active}
+use Rattle.desk_machine.specs.States.{is_active}
 
 -- how many keys are active
 abbrev pub count_active : List (PubKey × KeyState) → ℕ

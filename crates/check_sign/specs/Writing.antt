@@ -1,5 +1,5 @@
 -- What the writing of a batch makes of the journal.
-use Rattle.std.specs.Prelude.{◌≡◌, ◌⊎◌, ℕ, ◌+◌, ◌≤◌, List, [], ◌∷◌, ◌++◌, Some, None, IsSome, Result, Ok, Err}
+use Rattle.std.specs.Prelude.{◌≡◌, ◌⊎◌, ℕ, ◌+◌, ◌≤◌, List, [], ◌∷◌, ◌++◌, None, IsSome, Result, Ok, Err}
 use Rattle.edge_kit.specs.Causes.{Rose}
 use Rattle.edge_kit.specs.Disks.{LeavesOnly}
 use Rattle.edge_kit.specs.declared.bytes.Root.{Root}
@@ -10,9 +10,9 @@ use Rattle.record_journal.specs.Journals.{Journaled, MayRead, journal_size, with
 use Rattle.record_journal.specs.declared.log.AppendFault.{AppendFault}
 use Rattle.record_journal.specs.declared.log.AppendFault.TheVariants.{Disk, OutOfMemory, Full}
 use Rattle.check_sign.specs.Contents.{Seen}
-use Rattle.check_sign.specs.Machine.{frame_size, HasRoomFor, IsOver, IsWritten}
-use Rattle.check_sign.specs.declared.call.DeskReply.{DeskReply}
-use Rattle.check_sign.specs.declared.call.DeskReply.TheVariants as reply
+use Rattle.desk_machine.specs.Written.{frame_size, HasRoomFor, IsOver, IsWritten}
+use Rattle.desk_machine.specs.declared.call.DeskReply.{DeskReply}
+use Rattle.desk_machine.specs.declared.call.DeskReply.TheVariants as reply
 
 -- the journal of a desk
 abbrev pub journal_of : {D : Type 0} → Seen D → Journaled D

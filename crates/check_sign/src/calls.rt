@@ -1,14 +1,11 @@
 //! The calls of the desk, one by one.
-ghost use Rattle.std.specs.Prelude.{◌≡◌, ◌⊎◌, ◌+◌, ◌≤◌, ◌++◌, ◌∷◌, [], ℕ, List, None, Some, IsSome, Contains, is_some};
-ghost use Rattle.edge_kit.specs.Causes.{Rose};
-ghost use Rattle.edge_kit.specs.Disks.{LeavesOnly};
+ghost use Rattle.std.specs.Prelude.{◌≡◌, ◌≤◌, Contains, is_some};
 ghost use Rattle.record_join.specs.BooksPasts.{EachOnce};
-ghost use Rattle.check_sign.specs.States.{State, DeskStands, MayOpen};
-ghost use Rattle.check_sign.specs.Machine.{Reply, after, noted, moment_limit, IsOpenIn, IsGrantFor};
+ghost use Rattle.desk_machine.specs.Machine.{moment_limit};
+ghost use Rattle.check_sign.specs.Calls.{IsCallOf};
 
-use crate::call::{DeskCall, DeskReply, Keys, Outcome};
 use crate::desk::Desk;
-use crate::grant::Grant;
+use desk_machine::{DeskCall, DeskReply, Grant, Keys, Outcome};
 use edge_kit::{Disk, PubKey};
 use slash_defs::{File, Message};
 
@@ -18,19 +15,7 @@ impl<D: Disk> Desk<D> {
     /// kept, and by `OutOfMemory`, `Full` and `Disk` in this order.
     pub fn merge(&mut self, file: File) -> DeskReply
         requires { EachOnce file.books }
-        ensures machine { (state : State) → DeskStands self.old.contents state → Reply state (DeskCall.Merge file) result × DeskStands self.new.contents (after state (DeskCall.Merge file) result) }
-        ensures events { self.new.contents.events ≡ self.old.contents.events ++ noted self.old.contents.latest (DeskCall.Merge file) result }
-        ensures is_open { IsOpenIn self.new.contents.grants result }
-        ensures granted { IsGrantFor (DeskCall.Merge file) result }
-        ensures rose { result ≡ DeskReply.Disk → self.old.contents.torn ≡ None → Rose (D.faults self.old.disk) (D.faults self.new.disk) }
-        // A crash at any moment of the call leaves a file that opens to what lasts of the state before or of the state after,
-        // and from now on of the latter.
-        ensures any_moment { (state : State) → DeskStands self.old.contents state → LeavesOnly D.moment D.leaves self.old.disk self.new.disk (λ c. MayOpen self.old.contents.genesis state c ⊎ MayOpen self.old.contents.genesis (after state (DeskCall.Merge file) result) c) }
-        ensures left { (state : State) → DeskStands self.new.contents state → (c : List ℕ) → D.leaves self.new.disk (D.moment self.new.disk) c → MayOpen self.new.contents.genesis state c }
-        ensures later { D.faults self.old.disk ≤ D.faults self.new.disk }
-        ensures fails { self.old.contents.torn ≡ None → IsSome self.new.contents.torn → Rose (D.faults self.old.disk) (D.faults self.new.disk) }
-        ensures genesis { self.new.contents.genesis ≡ self.old.contents.genesis }
-        ensures second { self.new.second ≡ self.old.second }
+        ensures { IsCallOf D.moment D.leaves D.faults self.old self.new (DeskCall.Merge file) result }
     {
         self.call(DeskCall::Merge { file })
     }
@@ -40,19 +25,7 @@ impl<D: Disk> Desk<D> {
     /// `OutOfMemory`, `Full` and `Disk` in this order.
     pub fn activate(&mut self, key: PubKey, now: u64) -> DeskReply
         requires { now ≤ moment_limit }
-        ensures machine { (state : State) → DeskStands self.old.contents state → Reply state (DeskCall.Activate key now) result × DeskStands self.new.contents (after state (DeskCall.Activate key now) result) }
-        ensures events { self.new.contents.events ≡ self.old.contents.events ++ noted self.old.contents.latest (DeskCall.Activate key now) result }
-        ensures is_open { IsOpenIn self.new.contents.grants result }
-        ensures granted { IsGrantFor (DeskCall.Activate key now) result }
-        ensures rose { result ≡ DeskReply.Disk → self.old.contents.torn ≡ None → Rose (D.faults self.old.disk) (D.faults self.new.disk) }
-        // A crash at any moment of the call leaves a file that opens to what lasts of the state before or of the state after,
-        // and from now on of the latter.
-        ensures any_moment { (state : State) → DeskStands self.old.contents state → LeavesOnly D.moment D.leaves self.old.disk self.new.disk (λ c. MayOpen self.old.contents.genesis state c ⊎ MayOpen self.old.contents.genesis (after state (DeskCall.Activate key now) result) c) }
-        ensures left { (state : State) → DeskStands self.new.contents state → (c : List ℕ) → D.leaves self.new.disk (D.moment self.new.disk) c → MayOpen self.new.contents.genesis state c }
-        ensures later { D.faults self.old.disk ≤ D.faults self.new.disk }
-        ensures fails { self.old.contents.torn ≡ None → IsSome self.new.contents.torn → Rose (D.faults self.old.disk) (D.faults self.new.disk) }
-        ensures genesis { self.new.contents.genesis ≡ self.old.contents.genesis }
-        ensures second { self.new.second ≡ self.old.second }
+        ensures { IsCallOf D.moment D.leaves D.faults self.old self.new (DeskCall.Activate key now) result }
     {
         self.call(DeskCall::Activate { key, now })
     }
@@ -63,19 +36,7 @@ impl<D: Disk> Desk<D> {
     /// `OutOfMemory`, `Full` and `Disk` in this order. The grant has to be spent by `settle`.
     pub fn propose(&mut self, key: PubKey, message: Message, now: u64) -> DeskReply
         requires { now ≤ moment_limit }
-        ensures machine { (state : State) → DeskStands self.old.contents state → Reply state (DeskCall.Propose key message now) result × DeskStands self.new.contents (after state (DeskCall.Propose key message now) result) }
-        ensures events { self.new.contents.events ≡ self.old.contents.events ++ noted self.old.contents.latest (DeskCall.Propose key message now) result }
-        ensures is_open { IsOpenIn self.new.contents.grants result }
-        ensures granted { IsGrantFor (DeskCall.Propose key message now) result }
-        ensures rose { result ≡ DeskReply.Disk → self.old.contents.torn ≡ None → Rose (D.faults self.old.disk) (D.faults self.new.disk) }
-        // A crash at any moment of the call leaves a file that opens to what lasts of the state before or of the state after,
-        // and from now on of the latter.
-        ensures any_moment { (state : State) → DeskStands self.old.contents state → LeavesOnly D.moment D.leaves self.old.disk self.new.disk (λ c. MayOpen self.old.contents.genesis state c ⊎ MayOpen self.old.contents.genesis (after state (DeskCall.Propose key message now) result) c) }
-        ensures left { (state : State) → DeskStands self.new.contents state → (c : List ℕ) → D.leaves self.new.disk (D.moment self.new.disk) c → MayOpen self.new.contents.genesis state c }
-        ensures later { D.faults self.old.disk ≤ D.faults self.new.disk }
-        ensures fails { self.old.contents.torn ≡ None → IsSome self.new.contents.torn → Rose (D.faults self.old.disk) (D.faults self.new.disk) }
-        ensures genesis { self.new.contents.genesis ≡ self.old.contents.genesis }
-        ensures second { self.new.second ≡ self.old.second }
+        ensures { IsCallOf D.moment D.leaves D.faults self.old self.new (DeskCall.Propose key message now) result }
     {
         self.call(DeskCall::Propose { key, message, now })
     }
@@ -84,16 +45,7 @@ impl<D: Disk> Desk<D> {
     /// memory.
     pub fn settle(&mut self, grant: Grant, outcome: Outcome)
         requires { Contains self.old.contents.grants grant }
-        ensures machine { (state : State) → DeskStands self.old.contents state → Reply state (DeskCall.Settle grant outcome) DeskReply.Settled × DeskStands self.new.contents (after state (DeskCall.Settle grant outcome) DeskReply.Settled) }
-        ensures events { self.new.contents.events ≡ self.old.contents.events ++ noted self.old.contents.latest (DeskCall.Settle grant outcome) DeskReply.Settled }
-        // A crash at any moment of the call leaves a file that opens to what lasts of the state before or of the state after,
-        // and from now on of the latter.
-        ensures any_moment { (state : State) → DeskStands self.old.contents state → LeavesOnly D.moment D.leaves self.old.disk self.new.disk (λ c. MayOpen self.old.contents.genesis state c ⊎ MayOpen self.old.contents.genesis (after state (DeskCall.Settle grant outcome) DeskReply.Settled) c) }
-        ensures left { (state : State) → DeskStands self.new.contents state → (c : List ℕ) → D.leaves self.new.disk (D.moment self.new.disk) c → MayOpen self.new.contents.genesis state c }
-        ensures later { D.faults self.old.disk ≤ D.faults self.new.disk }
-        ensures fails { self.old.contents.torn ≡ None → IsSome self.new.contents.torn → Rose (D.faults self.old.disk) (D.faults self.new.disk) }
-        ensures genesis { self.new.contents.genesis ≡ self.old.contents.genesis }
-        ensures second { self.new.second ≡ self.old.second }
+        ensures { IsCallOf D.moment D.leaves D.faults self.old self.new (DeskCall.Settle grant outcome) DeskReply.Settled }
     {
         self.settle_grant(grant, outcome);
     }
@@ -101,19 +53,7 @@ impl<D: Disk> Desk<D> {
     /// Begins to close an active key: no more is granted for it. It is not kept on the disk. Refused by `Unknown`
     /// exactly where no past is kept, and by `NotActive`. Takes no memory.
     pub fn begin_close(&mut self, key: PubKey) -> DeskReply
-        ensures machine { (state : State) → DeskStands self.old.contents state → Reply state (DeskCall.BeginClose key) result × DeskStands self.new.contents (after state (DeskCall.BeginClose key) result) }
-        ensures events { self.new.contents.events ≡ self.old.contents.events ++ noted self.old.contents.latest (DeskCall.BeginClose key) result }
-        ensures is_open { IsOpenIn self.new.contents.grants result }
-        ensures granted { IsGrantFor (DeskCall.BeginClose key) result }
-        ensures rose { result ≡ DeskReply.Disk → self.old.contents.torn ≡ None → Rose (D.faults self.old.disk) (D.faults self.new.disk) }
-        // A crash at any moment of the call leaves a file that opens to what lasts of the state before or of the state after,
-        // and from now on of the latter.
-        ensures any_moment { (state : State) → DeskStands self.old.contents state → LeavesOnly D.moment D.leaves self.old.disk self.new.disk (λ c. MayOpen self.old.contents.genesis state c ⊎ MayOpen self.old.contents.genesis (after state (DeskCall.BeginClose key) result) c) }
-        ensures left { (state : State) → DeskStands self.new.contents state → (c : List ℕ) → D.leaves self.new.disk (D.moment self.new.disk) c → MayOpen self.new.contents.genesis state c }
-        ensures later { D.faults self.old.disk ≤ D.faults self.new.disk }
-        ensures fails { self.old.contents.torn ≡ None → IsSome self.new.contents.torn → Rose (D.faults self.old.disk) (D.faults self.new.disk) }
-        ensures genesis { self.new.contents.genesis ≡ self.old.contents.genesis }
-        ensures second { self.new.second ≡ self.old.second }
+        ensures { IsCallOf D.moment D.leaves D.faults self.old self.new (DeskCall.BeginClose key) result }
     {
         self.call(DeskCall::BeginClose { key })
     }
@@ -122,19 +62,7 @@ impl<D: Disk> Desk<D> {
     /// failed, by `Unknown`, by `NotClosing` with its state, by `Busy` exactly where grants of the key are open,
     /// and by `OutOfMemory`, `Full` and `Disk` in this order.
     pub fn finish_close(&mut self, key: PubKey) -> DeskReply
-        ensures machine { (state : State) → DeskStands self.old.contents state → Reply state (DeskCall.FinishClose key) result × DeskStands self.new.contents (after state (DeskCall.FinishClose key) result) }
-        ensures events { self.new.contents.events ≡ self.old.contents.events ++ noted self.old.contents.latest (DeskCall.FinishClose key) result }
-        ensures is_open { IsOpenIn self.new.contents.grants result }
-        ensures granted { IsGrantFor (DeskCall.FinishClose key) result }
-        ensures rose { result ≡ DeskReply.Disk → self.old.contents.torn ≡ None → Rose (D.faults self.old.disk) (D.faults self.new.disk) }
-        // A crash at any moment of the call leaves a file that opens to what lasts of the state before or of the state after,
-        // and from now on of the latter.
-        ensures any_moment { (state : State) → DeskStands self.old.contents state → LeavesOnly D.moment D.leaves self.old.disk self.new.disk (λ c. MayOpen self.old.contents.genesis state c ⊎ MayOpen self.old.contents.genesis (after state (DeskCall.FinishClose key) result) c) }
-        ensures left { (state : State) → DeskStands self.new.contents state → (c : List ℕ) → D.leaves self.new.disk (D.moment self.new.disk) c → MayOpen self.new.contents.genesis state c }
-        ensures later { D.faults self.old.disk ≤ D.faults self.new.disk }
-        ensures fails { self.old.contents.torn ≡ None → IsSome self.new.contents.torn → Rose (D.faults self.old.disk) (D.faults self.new.disk) }
-        ensures genesis { self.new.contents.genesis ≡ self.old.contents.genesis }
-        ensures second { self.new.second ≡ self.old.second }
+        ensures { IsCallOf D.moment D.leaves D.faults self.old self.new (DeskCall.FinishClose key) result }
     {
         self.call(DeskCall::FinishClose { key })
     }
@@ -142,19 +70,7 @@ impl<D: Disk> Desk<D> {
     /// The interchange file (EIP-3076) of those of the keys that are kept, in key order, each once. What it
     /// does not refuse, the key's past lets pass. Refused by `OutOfMemory` alone.
     pub fn export(&mut self, keys: Keys) -> DeskReply
-        ensures machine { (state : State) → DeskStands self.old.contents state → Reply state (DeskCall.Export keys) result × DeskStands self.new.contents (after state (DeskCall.Export keys) result) }
-        ensures events { self.new.contents.events ≡ self.old.contents.events ++ noted self.old.contents.latest (DeskCall.Export keys) result }
-        ensures is_open { IsOpenIn self.new.contents.grants result }
-        ensures granted { IsGrantFor (DeskCall.Export keys) result }
-        ensures rose { result ≡ DeskReply.Disk → self.old.contents.torn ≡ None → Rose (D.faults self.old.disk) (D.faults self.new.disk) }
-        // A crash at any moment of the call leaves a file that opens to what lasts of the state before or of the state after,
-        // and from now on of the latter.
-        ensures any_moment { (state : State) → DeskStands self.old.contents state → LeavesOnly D.moment D.leaves self.old.disk self.new.disk (λ c. MayOpen self.old.contents.genesis state c ⊎ MayOpen self.old.contents.genesis (after state (DeskCall.Export keys) result) c) }
-        ensures left { (state : State) → DeskStands self.new.contents state → (c : List ℕ) → D.leaves self.new.disk (D.moment self.new.disk) c → MayOpen self.new.contents.genesis state c }
-        ensures later { D.faults self.old.disk ≤ D.faults self.new.disk }
-        ensures fails { self.old.contents.torn ≡ None → IsSome self.new.contents.torn → Rose (D.faults self.old.disk) (D.faults self.new.disk) }
-        ensures genesis { self.new.contents.genesis ≡ self.old.contents.genesis }
-        ensures second { self.new.second ≡ self.old.second }
+        ensures { IsCallOf D.moment D.leaves D.faults self.old self.new (DeskCall.Export keys) result }
     {
         self.call(DeskCall::Export { keys })
     }
@@ -163,38 +79,14 @@ impl<D: Disk> Desk<D> {
     /// `Disk` where the disk failed, by `Unknown` exactly where no past is kept, and by `OutOfMemory`, `Full` and
     /// `Disk` in this order.
     pub fn prune(&mut self, key: PubKey) -> DeskReply
-        ensures machine { (state : State) → DeskStands self.old.contents state → Reply state (DeskCall.Prune key) result × DeskStands self.new.contents (after state (DeskCall.Prune key) result) }
-        ensures events { self.new.contents.events ≡ self.old.contents.events ++ noted self.old.contents.latest (DeskCall.Prune key) result }
-        ensures is_open { IsOpenIn self.new.contents.grants result }
-        ensures granted { IsGrantFor (DeskCall.Prune key) result }
-        ensures rose { result ≡ DeskReply.Disk → self.old.contents.torn ≡ None → Rose (D.faults self.old.disk) (D.faults self.new.disk) }
-        // A crash at any moment of the call leaves a file that opens to what lasts of the state before or of the state after,
-        // and from now on of the latter.
-        ensures any_moment { (state : State) → DeskStands self.old.contents state → LeavesOnly D.moment D.leaves self.old.disk self.new.disk (λ c. MayOpen self.old.contents.genesis state c ⊎ MayOpen self.old.contents.genesis (after state (DeskCall.Prune key) result) c) }
-        ensures left { (state : State) → DeskStands self.new.contents state → (c : List ℕ) → D.leaves self.new.disk (D.moment self.new.disk) c → MayOpen self.new.contents.genesis state c }
-        ensures later { D.faults self.old.disk ≤ D.faults self.new.disk }
-        ensures fails { self.old.contents.torn ≡ None → IsSome self.new.contents.torn → Rose (D.faults self.old.disk) (D.faults self.new.disk) }
-        ensures genesis { self.new.contents.genesis ≡ self.old.contents.genesis }
-        ensures second { self.new.second ≡ self.old.second }
+        ensures { IsCallOf D.moment D.leaves D.faults self.old self.new (DeskCall.Prune key) result }
     {
         self.call(DeskCall::Prune { key })
     }
 
     /// The kept keys in order, each with its state. Refused by `OutOfMemory` alone.
     pub fn keys(&mut self) -> DeskReply
-        ensures machine { (state : State) → DeskStands self.old.contents state → Reply state (DeskCall.Keys) result × DeskStands self.new.contents (after state (DeskCall.Keys) result) }
-        ensures events { self.new.contents.events ≡ self.old.contents.events ++ noted self.old.contents.latest (DeskCall.Keys) result }
-        ensures is_open { IsOpenIn self.new.contents.grants result }
-        ensures granted { IsGrantFor (DeskCall.Keys) result }
-        ensures rose { result ≡ DeskReply.Disk → self.old.contents.torn ≡ None → Rose (D.faults self.old.disk) (D.faults self.new.disk) }
-        // A crash at any moment of the call leaves a file that opens to what lasts of the state before or of the state after,
-        // and from now on of the latter.
-        ensures any_moment { (state : State) → DeskStands self.old.contents state → LeavesOnly D.moment D.leaves self.old.disk self.new.disk (λ c. MayOpen self.old.contents.genesis state c ⊎ MayOpen self.old.contents.genesis (after state (DeskCall.Keys) result) c) }
-        ensures left { (state : State) → DeskStands self.new.contents state → (c : List ℕ) → D.leaves self.new.disk (D.moment self.new.disk) c → MayOpen self.new.contents.genesis state c }
-        ensures later { D.faults self.old.disk ≤ D.faults self.new.disk }
-        ensures fails { self.old.contents.torn ≡ None → IsSome self.new.contents.torn → Rose (D.faults self.old.disk) (D.faults self.new.disk) }
-        ensures genesis { self.new.contents.genesis ≡ self.old.contents.genesis }
-        ensures second { self.new.second ≡ self.old.second }
+        ensures { IsCallOf D.moment D.leaves D.faults self.old self.new (DeskCall.Keys) result }
     {
         self.call(DeskCall::Keys)
     }

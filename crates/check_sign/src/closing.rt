@@ -1,18 +1,16 @@
 //! Keys that become active, and keys that are closed.
-ghost use Rattle.std.specs.Prelude.{◌≡◌, ◌≢◌, ◌⊎◌, ◌+◌, ◌-◌, ◌<◌, ◌≤◌, ◌++◌, ◌∷◌, [], None, Some, max, Contains, length};
+ghost use Rattle.std.specs.Prelude.{◌≡◌, ◌≤◌, None};
 ghost use Rattle.edge_kit.specs.Causes.{Rose};
-ghost use Rattle.record_join.specs.BooksPasts.{EachOnce};
-ghost use Rattle.check_sign.specs.States.{State, DeskStands};
-ghost use Rattle.check_sign.specs.Machine.{Reply, after, noted, moment_limit, IsOpenIn, IsGrantFor};
+ghost use Rattle.desk_machine.specs.Machine.{moment_limit};
+ghost use Rattle.check_sign.specs.Calls.{IsStep, Counted};
 ghost use Rattle.check_sign.specs.Writing.{Moved, journal_of};
-ghost use Rattle.check_sign.specs.declared.call.DeskCall.TheVariants as DeskCall;
+ghost use Rattle.desk_machine.specs.declared.call.DeskCall.TheVariants as DeskCall;
 
-use crate::call::DeskReply;
 use crate::desk::Desk;
-use crate::event::Event;
 use crate::marking::{mark_active, set_state, state_of, unmark};
-use crate::room::{count_of, fits_one, make_room, note};
+use crate::room::{fits_one, make_room, note};
 use crate::writing::{refusal, write_items};
+use desk_machine::{DeskReply, Event};
 use edge_kit::{Disk, PubKey};
 use record_codec::JournalItem;
 use record_replay::{KeyState, replay_laws};
@@ -21,13 +19,10 @@ impl<D: Disk> Desk<D> {
     /// Makes a key active.
     pub(crate) fn activate_key(&mut self, key: PubKey, now: u64) -> DeskReply
         requires { now ≤ moment_limit }
-        ensures machine { (state : State) → DeskStands self.old.contents state → Reply state (DeskCall.Activate key now) result × DeskStands self.new.contents (after state (DeskCall.Activate key now) result) }
-        ensures events { self.new.contents.events ≡ self.old.contents.events ++ noted self.old.contents.latest (DeskCall.Activate key now) result }
-        ensures is_open { IsOpenIn self.new.contents.grants result }
-        ensures granted { IsGrantFor (DeskCall.Activate key now) result }
+        ensures machine { IsStep self.old.contents (DeskCall.Activate key now) result self.new.contents }
+        ensures counted { Counted self.old.contents (DeskCall.Activate key now) result self.new.contents }
         ensures rose { result ≡ DeskReply.Disk → self.old.contents.torn ≡ None → Rose (D.faults self.old.disk) (D.faults self.new.disk) }
         ensures moved { Moved D.moment D.leaves D.faults (journal_of self.old) (journal_of self.new) }
-        ensures genesis { self.new.contents.genesis ≡ self.old.contents.genesis }
         ensures second { self.new.second ≡ self.old.second }
     {
         self.latest = self.latest.max(now);
@@ -69,13 +64,10 @@ impl<D: Disk> Desk<D> {
 
     /// Begins to close an active key. Takes no memory.
     pub(crate) fn begin_closing(&mut self, key: PubKey) -> DeskReply
-        ensures machine { (state : State) → DeskStands self.old.contents state → Reply state (DeskCall.BeginClose key) result × DeskStands self.new.contents (after state (DeskCall.BeginClose key) result) }
-        ensures events { self.new.contents.events ≡ self.old.contents.events ++ noted self.old.contents.latest (DeskCall.BeginClose key) result }
-        ensures is_open { IsOpenIn self.new.contents.grants result }
-        ensures granted { IsGrantFor (DeskCall.BeginClose key) result }
+        ensures machine { IsStep self.old.contents (DeskCall.BeginClose key) result self.new.contents }
+        ensures counted { Counted self.old.contents (DeskCall.BeginClose key) result self.new.contents }
         ensures rose { result ≡ DeskReply.Disk → self.old.contents.torn ≡ None → Rose (D.faults self.old.disk) (D.faults self.new.disk) }
         ensures moved { Moved D.moment D.leaves D.faults (journal_of self.old) (journal_of self.new) }
-        ensures genesis { self.new.contents.genesis ≡ self.old.contents.genesis }
         ensures second { self.new.second ≡ self.old.second }
     {
         replay_laws();
@@ -96,13 +88,10 @@ impl<D: Disk> Desk<D> {
 
     /// Closes a key that is being closed, of which no grant is open.
     pub(crate) fn finish_closing(&mut self, key: PubKey) -> DeskReply
-        ensures machine { (state : State) → DeskStands self.old.contents state → Reply state (DeskCall.FinishClose key) result × DeskStands self.new.contents (after state (DeskCall.FinishClose key) result) }
-        ensures events { self.new.contents.events ≡ self.old.contents.events ++ noted self.old.contents.latest (DeskCall.FinishClose key) result }
-        ensures is_open { IsOpenIn self.new.contents.grants result }
-        ensures granted { IsGrantFor (DeskCall.FinishClose key) result }
+        ensures machine { IsStep self.old.contents (DeskCall.FinishClose key) result self.new.contents }
+        ensures counted { Counted self.old.contents (DeskCall.FinishClose key) result self.new.contents }
         ensures rose { result ≡ DeskReply.Disk → self.old.contents.torn ≡ None → Rose (D.faults self.old.disk) (D.faults self.new.disk) }
         ensures moved { Moved D.moment D.leaves D.faults (journal_of self.old) (journal_of self.new) }
-        ensures genesis { self.new.contents.genesis ≡ self.old.contents.genesis }
         ensures second { self.new.second ≡ self.old.second }
     {
         if self.journal.failed() {
@@ -116,14 +105,14 @@ impl<D: Disk> Desk<D> {
         if state != KeyState::Closing {
             return DeskReply::NotClosing(state);
         }
-        let grants = count_of(&self.grants, &key) as u64;
+        let grants = self.grants.count_of(&key) as u64;
         if grants > 0 {
             return DeskReply::Busy { grants };
         }
         let Ok(book) = record.export(self.alloc) else {
             return DeskReply::OutOfMemory;
         };
-        let Ok(noted) = record.export(self.alloc) else {
+        let Ok(noted) = book.copy(self.alloc) else {
             return DeskReply::OutOfMemory;
         };
         if !make_room(&mut self.events, &mut self.grants, self.closable) {

@@ -1,25 +1,22 @@
 //! The desk.
-ghost use Rattle.std.specs.Prelude.{◌≡◌, ◌⊎◌, ◌+◌, ◌≤◌, ◌++◌, ◌∷◌, [], ℕ, List, None, Some, IsSome, Contains, option_copied, IfOk};
+ghost use Rattle.std.specs.Prelude.{◌≡◌, ◌+◌, ◌≤◌, ℕ, List, None, Contains, option_copied, IfOk};
+ghost use Rattle.record_journal.specs.Journals.{MayRead};
 ghost use Rattle.std.specs.Map.{keys_of};
 ghost use Rattle.edge_kit.specs.Causes.{Rose};
-ghost use Rattle.edge_kit.specs.Disks.{LeavesOnly};
 ghost use Rattle.record_join.specs.Keys.{kept_of};
-ghost use Rattle.record_join.specs.BooksPasts.{EachOnce};
-ghost use Rattle.check_sign.specs.States.{State, DeskStands, MayOpen};
-ghost use Rattle.check_sign.specs.Machine.{MayCall, Reply, after, noted, moment_limit, IsOpenIn, IsGrantFor};
+ghost use Rattle.desk_machine.specs.Machine.{MayCall};
+ghost use Rattle.check_sign.specs.Calls.{IsCallOf, IsOwn, IsStep, Counted, LeavesDesk};
 ghost use Rattle.check_sign.specs.Writing.{Moved, journal_of};
 
-use crate::call::{DeskCall, DeskReply, Keys, Outcome};
-use crate::event::{DeskEvent, Event, Events};
-use crate::grant::Grant;
-use crate::open_grant::OpenGrant;
-use crate::room::{close_one, note};
+use crate::room::note;
+use desk_machine::{
+    DeskCall, DeskEvent, DeskReply, Event, Events, Grant, Keys, OpenGrants, Outcome,
+};
 use edge_kit::{Disk, Disks, PubKey, Root};
 use protect_record::Record;
 use record_join::Books;
 use record_journal::Journal;
 use record_replay::KeyState;
-use slash_defs::{File, Message};
 use std::alloc::{AllocError, Global};
 use std::collections::BTreeMap;
 use std::marker::Model;
@@ -35,15 +32,14 @@ pub struct Desk<D: Disk> {
     pub(crate) second: D,
     pub(crate) books: Books,
     pub(crate) states: BTreeMap<PubKey, KeyState>,
-    pub(crate) grants: Vec<OpenGrant>,
-    pub(crate) next: u64,
+    pub(crate) grants: OpenGrants,
     pub(crate) latest: u64,
     pub(crate) events: Vec<DeskEvent>,
     pub(crate) closable: usize,
 }
 
 impl<D: Disk> Model for Desk<D> {
-    ghost use Rattle.std.specs.Prelude.{◌+◌, ◌≤◌, vec_len, vec_capacity};
+    ghost use Rattle.std.specs.Prelude.{◌+◌, ◌≤◌, length, vec_len, vec_capacity};
     ghost use Rattle.check_sign.specs.Contents.{Contents, Seen};
     ghost use Rattle.check_sign.specs.Marking.{count_active};
     ghost use Rattle.check_sign.specs.Writing.{HoldsJournal};
@@ -57,8 +53,8 @@ impl<D: Disk> Model for Desk<D> {
         genesis = d.genesis;
         keys = d.books;
         states = d.states.entries;
-        grants = d.grants.items;
-        next = d.next;
+        grants = d.grants.grants;
+        next = d.grants.next;
         latest = d.latest;
         watch = d.watch;
         events = d.events.items;
@@ -69,7 +65,7 @@ impl<D: Disk> Model for Desk<D> {
     } };
 
     // There is room for the events of settling each open grant and of beginning to close each active key.
-    ghost invariant = { λ d. (vec_len d.events + vec_len d.grants + d.closable ≤ vec_capacity d.events) × (d.next ≤ vec_len d.events)
+    ghost invariant = { λ d. (vec_len d.events + length d.grants.grants + d.closable ≤ vec_capacity d.events) × (d.grants.next ≤ vec_len d.events)
         × (count_active d.states.entries ≤ d.closable) × HoldsJournal D.moment D.leaves d.genesis d.journal };
 }
 
@@ -78,19 +74,7 @@ impl<D: Disk> Desk<D> {
     /// too, the desk is as before but for the latest moment; after `Disk` it has failed.
     pub fn call(&mut self, call: DeskCall) -> DeskReply
         requires { MayCall self.old.contents.grants call }
-        ensures machine { (state : State) → DeskStands self.old.contents state → Reply state (call) result × DeskStands self.new.contents (after state (call) result) }
-        ensures events { self.new.contents.events ≡ self.old.contents.events ++ noted self.old.contents.latest (call) result }
-        ensures is_open { IsOpenIn self.new.contents.grants result }
-        ensures granted { IsGrantFor (call) result }
-        ensures rose { result ≡ DeskReply.Disk → self.old.contents.torn ≡ None → Rose (D.faults self.old.disk) (D.faults self.new.disk) }
-        // A crash at any moment of the call leaves a file that opens to what lasts of the state before or of the state after,
-        // and from now on of the latter.
-        ensures any_moment { (state : State) → DeskStands self.old.contents state → LeavesOnly D.moment D.leaves self.old.disk self.new.disk (λ c. MayOpen self.old.contents.genesis state c ⊎ MayOpen self.old.contents.genesis (after state (call) result) c) }
-        ensures left { (state : State) → DeskStands self.new.contents state → (c : List ℕ) → D.leaves self.new.disk (D.moment self.new.disk) c → MayOpen self.new.contents.genesis state c }
-        ensures later { D.faults self.old.disk ≤ D.faults self.new.disk }
-        ensures fails { self.old.contents.torn ≡ None → IsSome self.new.contents.torn → Rose (D.faults self.old.disk) (D.faults self.new.disk) }
-        ensures genesis { self.new.contents.genesis ≡ self.old.contents.genesis }
-        ensures second { self.new.second ≡ self.old.second }
+        ensures { IsCallOf D.moment D.leaves D.faults self.old self.new (call) result }
     {
         self.dispatch(call)
     }
@@ -98,13 +82,11 @@ impl<D: Disk> Desk<D> {
     /// Does a call.
     fn dispatch(&mut self, call: DeskCall) -> DeskReply
         requires { MayCall self.old.contents.grants call }
-        ensures machine { (state : State) → DeskStands self.old.contents state → Reply state (call) result × DeskStands self.new.contents (after state (call) result) }
-        ensures events { self.new.contents.events ≡ self.old.contents.events ++ noted self.old.contents.latest (call) result }
-        ensures is_open { IsOpenIn self.new.contents.grants result }
-        ensures granted { IsGrantFor (call) result }
+        ensures machine { IsStep self.old.contents (call) result self.new.contents }
+        ensures counted { Counted self.old.contents (call) result self.new.contents }
+        ensures own { IsOwn self.old.contents (call) result self.new.contents }
         ensures rose { result ≡ DeskReply.Disk → self.old.contents.torn ≡ None → Rose (D.faults self.old.disk) (D.faults self.new.disk) }
         ensures moved { Moved D.moment D.leaves D.faults (journal_of self.old) (journal_of self.new) }
-        ensures genesis { self.new.contents.genesis ≡ self.old.contents.genesis }
         ensures second { self.new.second ≡ self.old.second }
     {
         match call {
@@ -127,18 +109,13 @@ impl<D: Disk> Desk<D> {
     /// Spends a grant that is open at this desk. Takes no memory.
     pub(crate) fn settle_grant(&mut self, grant: Grant, outcome: Outcome)
         requires { Contains self.old.contents.grants grant }
-        ensures machine { (state : State) → DeskStands self.old.contents state → Reply state (DeskCall.Settle grant outcome) DeskReply.Settled × DeskStands self.new.contents (after state (DeskCall.Settle grant outcome) DeskReply.Settled) }
-        ensures events { self.new.contents.events ≡ self.old.contents.events ++ noted self.old.contents.latest (DeskCall.Settle grant outcome) DeskReply.Settled }
+        ensures machine { IsStep self.old.contents (DeskCall.Settle grant outcome) DeskReply.Settled self.new.contents }
+        ensures counted { Counted self.old.contents (DeskCall.Settle grant outcome) DeskReply.Settled self.new.contents }
+        ensures rose { DeskReply.Settled ≡ DeskReply.Disk → self.old.contents.torn ≡ None → Rose (D.faults self.old.disk) (D.faults self.new.disk) }
         ensures moved { Moved D.moment D.leaves D.faults (journal_of self.old) (journal_of self.new) }
-        ensures genesis { self.new.contents.genesis ≡ self.old.contents.genesis }
         ensures second { self.new.second ≡ self.old.second }
     {
-        let Grant {
-            number,
-            key: _,
-            message: _,
-        } = grant;
-        close_one(&mut self.grants, number);
+        let number = self.grants.settle(grant);
         let settled = Event::Settled {
             grant: number,
             outcome,
@@ -176,7 +153,8 @@ impl<D: Disk> Desk<D> {
         ensures first { result.0.first ≡ self.disk }
         ensures second { result.0.second ≡ self.second }
         ensures events { result.1 ≡ self.contents.events }
-        ensures left { (state : State) → DeskStands self.contents state → (c : List ℕ) → D.leaves self.disk (D.moment self.disk) c → MayOpen self.contents.genesis state c }
+        ensures left { LeavesDesk D.moment D.leaves self.disk self.contents }
+        ensures holds { (file : List ℕ) → D.leaves self.disk (D.moment self.disk) file → MayRead (journal_of self) file }
     {
         let disks = Disks {
             first: self.journal.end(),

@@ -6,11 +6,12 @@ ghost use Rattle.protect_record.specs.Pasts.{Past};
 ghost use Rattle.std.specs.BTreeMap.{IsOrdered};
 ghost use Rattle.record_join.specs.Keys.{key_cmp};
 ghost use Rattle.record_join.specs.BooksPasts.{BooksStand};
-ghost use Rattle.check_sign.specs.Handing.{Exports, AreExports};
-ghost use Rattle.check_sign.specs.States.{key_state};
+ghost use Rattle.desk_machine.specs.Handing.{Exports};
+ghost use Rattle.check_sign.specs.Exporting.{AreExports};
+ghost use Rattle.desk_machine.specs.States.{key_state};
 
-use crate::call::KeyStates;
 use crate::marking::state_of;
+use desk_machine::KeyStates;
 use edge_kit::{Items, PubKey};
 use record_join::Books;
 use record_replay::KeyState;

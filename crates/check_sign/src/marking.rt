@@ -4,7 +4,7 @@ ghost use Rattle.edge_kit.specs.declared.bytes.PubKey.{PubKey};
 ghost use Rattle.std.specs.BTreeMap.{IsOrdered};
 ghost use Rattle.record_join.specs.Keys.{key_cmp, kept_of, with_key, with_kept};
 ghost use Rattle.record_replay.specs.declared.state.KeyState.{KeyState};
-ghost use Rattle.check_sign.specs.States.{key_state};
+ghost use Rattle.desk_machine.specs.States.{key_state};
 ghost use Rattle.check_sign.specs.Marking.{count_active, IsMarked};
 
 use edge_kit::PubKey;

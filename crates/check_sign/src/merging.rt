@@ -1,17 +1,15 @@
 //! Files that are merged, and keys that are pruned.
-ghost use Rattle.std.specs.Prelude.{◌≡◌, ◌≢◌, ◌⊎◌, ◌+◌, ◌-◌, ◌<◌, ◌≤◌, ◌++◌, ◌∷◌, [], None, Some, max, Contains, length};
+ghost use Rattle.std.specs.Prelude.{◌≡◌, None};
 ghost use Rattle.edge_kit.specs.Causes.{Rose};
 ghost use Rattle.record_join.specs.BooksPasts.{EachOnce};
-ghost use Rattle.check_sign.specs.States.{State, DeskStands};
-ghost use Rattle.check_sign.specs.Machine.{Reply, after, noted, moment_limit, IsOpenIn, IsGrantFor};
+ghost use Rattle.check_sign.specs.Calls.{IsStep, Counted};
 ghost use Rattle.check_sign.specs.Writing.{Moved, journal_of};
-ghost use Rattle.check_sign.specs.declared.call.DeskCall.TheVariants as DeskCall;
+ghost use Rattle.desk_machine.specs.declared.call.DeskCall.TheVariants as DeskCall;
 
-use crate::call::DeskReply;
 use crate::desk::Desk;
-use crate::event::Event;
 use crate::room::{make_room, note, note_merge};
 use crate::writing::{refusal, write_book, write_file};
+use desk_machine::{DeskReply, Event};
 use edge_kit::{Disk, PubKey};
 use record_join::{MergeFault, prepared_law};
 use record_replay::{pruning_law, replay_laws};
@@ -22,13 +20,10 @@ impl<D: Disk> Desk<D> {
     /// Merges a file, and keeps each of its keys.
     pub(crate) fn merge_file(&mut self, file: File) -> DeskReply
         requires { EachOnce file.books }
-        ensures machine { (state : State) → DeskStands self.old.contents state → Reply state (DeskCall.Merge file) result × DeskStands self.new.contents (after state (DeskCall.Merge file) result) }
-        ensures events { self.new.contents.events ≡ self.old.contents.events ++ noted self.old.contents.latest (DeskCall.Merge file) result }
-        ensures is_open { IsOpenIn self.new.contents.grants result }
-        ensures granted { IsGrantFor (DeskCall.Merge file) result }
+        ensures machine { IsStep self.old.contents (DeskCall.Merge file) result self.new.contents }
+        ensures counted { Counted self.old.contents (DeskCall.Merge file) result self.new.contents }
         ensures rose { result ≡ DeskReply.Disk → self.old.contents.torn ≡ None → Rose (D.faults self.old.disk) (D.faults self.new.disk) }
         ensures moved { Moved D.moment D.leaves D.faults (journal_of self.old) (journal_of self.new) }
-        ensures genesis { self.new.contents.genesis ≡ self.old.contents.genesis }
         ensures second { self.new.second ≡ self.old.second }
     {
         if self.journal.failed() {
@@ -62,13 +57,10 @@ impl<D: Disk> Desk<D> {
 
     /// Prunes the record of a key, which gains a book of its own.
     pub(crate) fn prune_key(&mut self, key: PubKey) -> DeskReply
-        ensures machine { (state : State) → DeskStands self.old.contents state → Reply state (DeskCall.Prune key) result × DeskStands self.new.contents (after state (DeskCall.Prune key) result) }
-        ensures events { self.new.contents.events ≡ self.old.contents.events ++ noted self.old.contents.latest (DeskCall.Prune key) result }
-        ensures is_open { IsOpenIn self.new.contents.grants result }
-        ensures granted { IsGrantFor (DeskCall.Prune key) result }
+        ensures machine { IsStep self.old.contents (DeskCall.Prune key) result self.new.contents }
+        ensures counted { Counted self.old.contents (DeskCall.Prune key) result self.new.contents }
         ensures rose { result ≡ DeskReply.Disk → self.old.contents.torn ≡ None → Rose (D.faults self.old.disk) (D.faults self.new.disk) }
         ensures moved { Moved D.moment D.leaves D.faults (journal_of self.old) (journal_of self.new) }
-        ensures genesis { self.new.contents.genesis ≡ self.old.contents.genesis }
         ensures second { self.new.second ≡ self.old.second }
     {
         if self.journal.failed() {
@@ -80,7 +72,7 @@ impl<D: Disk> Desk<D> {
         let Ok(book) = record.pruning_book(self.alloc) else {
             return DeskReply::OutOfMemory;
         };
-        let Ok(noted) = record.pruning_book(self.alloc) else {
+        let Ok(noted) = book.copy(self.alloc) else {
             return DeskReply::OutOfMemory;
         };
         replay_laws();

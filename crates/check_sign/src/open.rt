@@ -1,14 +1,10 @@
 //! The opening of a desk.
-ghost use Rattle.std.specs.Prelude.{◌≡◌, ◌≤◌, [], ℕ, List, None, Some, false, IfOk, IfErr, MatchResult};
-ghost use Rattle.edge_kit.specs.Causes.{Rose};
-ghost use Rattle.record_journal.specs.Frames.{Keeps, begun, reading};
-ghost use Rattle.record_journal.specs.Opened.{Read};
-ghost use Rattle.check_sign.specs.States.{State, Lasting, DeskStands, MayOpen, Opens, reopened};
-ghost use Rattle.check_sign.specs.Machine.{moment_limit};
-ghost use Rattle.check_sign.specs.Opening.{IsBroughtBack, OpenFaultIs, open_fault_of};
-ghost use Rattle.record_journal.specs.declared.open.OpenFault.TheVariants as journal_fault;
+ghost use Rattle.std.specs.Prelude.{◌≡◌, ◌≤◌, false, IfOk, IfErr};
+ghost use Rattle.desk_machine.specs.Machine.{moment_limit};
+ghost use Rattle.check_sign.specs.Opening.{Opening, OpeningRefused, open_fault_of};
 
 use crate::desk::Desk;
+use desk_machine::OpenGrants;
 use edge_kit::{Disk, Disks, Root};
 use record_journal::Journal;
 use record_replay::{ReplayFault, Replayed, replay};
@@ -46,21 +42,8 @@ impl<D: Disk> Desk<D> {
     ) -> Result<Desk<D>, (OpenFault, Disks<D>)>
         requires watch { watch ≡ false }
         requires moment { now ≤ moment_limit }
-        // Whatever lasts by the bytes that were read, the desk stands for it, reopened.
-        ensures read { IfOk result (λ d. Read D.shows disks.first (λ bytes. (l : Lasting) → Opens genesis bytes l → DeskStands d.contents (reopened genesis l watch now))) }
-        // Whatever the bytes are, even where they stand for nothing that lasts: the desk has the payloads that they read as, and
-        // keeps what the items of these say.
-        ensures payloads { IfOk result (λ d. Read D.shows disks.first (λ bytes. begun (reading genesis.0 bytes) ≡ Some d.contents.payloads)) }
-        ensures brought_back { IfOk result (λ d. IsBroughtBack d.contents) }
-        ensures fresh { IfOk result (λ d. (d.contents.genesis ≡ genesis) × (d.contents.grants ≡ []) × (d.contents.latest ≡ now) × (d.contents.watch ≡ watch) × (d.contents.events ≡ []) × (d.contents.torn ≡ None)) }
-        // A crash at any moment leaves a file that opens as one that a crash before might have left, and from now on to what the
-        // desk stands for.
-        ensures any_moment { MatchResult result (λ d. Keeps D.moment D.leaves genesis.0 disks.first d.disk) (λ e. Keeps D.moment D.leaves genesis.0 disks.first e.1.first) }
-        ensures left { IfOk result (λ d. (state : State) → DeskStands d.contents state → (c : List ℕ) → D.leaves d.disk (D.moment d.disk) c → MayOpen genesis state c) }
-        ensures second { MatchResult result (λ d. d.second ≡ disks.second) (λ e. e.1.second ≡ disks.second) }
-        ensures fault { IfErr result (λ e. OpenFaultIs D.shows disks.first genesis e.0) }
-        ensures cause { IfErr result (λ e. e.0 ≡ OpenFault.Journal journal_fault.Disk → Rose (D.faults disks.first) (D.faults e.1.first)) }
-        ensures later { MatchResult result (λ d. D.faults disks.first ≤ D.faults d.disk) (λ e. D.faults disks.first ≤ D.faults e.1.first) }
+        ensures opened { IfOk result (λ d. Opening D.shows D.moment D.leaves D.faults disks.first disks.second genesis watch now d) }
+        ensures refused { IfErr result (λ e. OpeningRefused D.shows D.moment D.leaves D.faults disks.first genesis e.0 e.1.first × (e.1.second ≡ disks.second)) }
     {
         let Disks { first, second } = disks;
         let journal = match Journal::open(alloc, first, genesis) {
@@ -90,8 +73,7 @@ impl<D: Disk> Desk<D> {
             second,
             books,
             states,
-            grants: Vec::new(alloc),
-            next: 0,
+            grants: OpenGrants::new(alloc),
             latest: now,
             events,
             closable,

@@ -1,15 +1,10 @@
 //! Room that is made before the desk changes, and spent without refusal.
-ghost use Rattle.std.specs.Prelude.{◌≡◌, ◌+◌, ◌<◌, ◌≤◌, ◌⊎◌, ◌↔◌, ◌++◌, ◌∷◌, [], ℕ, false, Some, IsSome, IsTrue, vec_len, vec_capacity, length, remove, IfSome, IfNone, Contains};
-ghost use Rattle.std.specs.BTreeMap.{is_at};
-ghost use Rattle.record_join.specs.Keys.{key_cmp, kept_of};
+ghost use Rattle.std.specs.Prelude.{◌≡◌, ◌+◌, ◌-◌, ◌^◌, ◌<◌, ◌≤◌, ◌⊎◌, ◌↔◌, ◌++◌, ◌∷◌, [], false, Some, IsSome, IsTrue, vec_len, vec_capacity, length};
+ghost use Rattle.record_join.specs.Keys.{kept_of};
 ghost use Rattle.record_join.specs.BooksPasts.{key_limit};
-ghost use Rattle.check_sign.specs.Machine.{without, noted_merge};
-ghost use Rattle.check_sign.specs.States.{open_grants};
-ghost use Rattle.check_sign.specs.declared.open_grant.OpenGrant.{OpenGrant};
+ghost use Rattle.desk_machine.specs.Noted.{noted_merge};
 
-use crate::event::{DeskEvent, Event};
-use crate::grant::Grant;
-use crate::open_grant::OpenGrant;
+use desk_machine::{DeskEvent, Event, Grant, OpenGrants};
 use edge_kit::PubKey;
 use record_join::{Books, KEY_LIMIT};
 use slash_defs::{File, Message};
@@ -17,14 +12,15 @@ use slash_defs::{File, Message};
 /// Makes room for one more grant: for its event, for the event of its settling, and for itself, beside the
 /// events of settling those that are open and of beginning to close so many keys. Whether there is room; it
 /// fails only where there was too little.
-pub fn make_room(events: &mut Vec<DeskEvent>, grants: &mut Vec<OpenGrant>, closable: usize) -> bool
+pub fn make_room(events: &mut Vec<DeskEvent>, grants: &mut OpenGrants, closable: usize) -> bool
     ensures events { events.new.items ≡ events.old.items }
     ensures events_len { vec_len events.new ≡ vec_len events.old }
-    ensures kept { grants.new.items ≡ grants.old.items }
-    ensures kept_len { vec_len grants.new ≡ vec_len grants.old }
+    ensures kept { grants.new.grants ≡ grants.old.grants }
+    ensures kept_len { length grants.new.grants ≡ length grants.old.grants }
+    ensures next { grants.new.next ≡ grants.old.next }
     ensures no_less { vec_capacity events.old ≤ vec_capacity events.new }
-    ensures refused { result ≡ false → (vec_capacity events.old < vec_len events.old + vec_len grants.old + closable + 2) ⊎ (vec_capacity grants.old < vec_len grants.old + 1) }
-    ensures room { IsTrue result → (vec_len events.new + vec_len grants.new + closable + 2 ≤ vec_capacity events.new) × (vec_len grants.new < vec_capacity grants.new) }
+    ensures refused { result ≡ false → (vec_capacity events.old < vec_len events.old + length grants.old.grants + closable + 2) ⊎ (grants.old.room ≡ 0) }
+    ensures room { IsTrue result → (vec_len events.new + length grants.new.grants + closable + 2 ≤ vec_capacity events.new) × (0 < grants.new.room) }
 {
     let Some(settling) = grants.len().checked_add(2) else {
         return false;
@@ -35,7 +31,7 @@ pub fn make_room(events: &mut Vec<DeskEvent>, grants: &mut Vec<OpenGrant>, closa
     if events.reserve(wanted).is_err() {
         return false;
     }
-    grants.reserve(1).is_ok()
+    grants.reserve().is_ok()
 }
 
 /// Notes an event where there is room.
@@ -48,74 +44,33 @@ pub fn note(events: &mut Vec<DeskEvent>, event: Event, moment: u64)
     let _ = events.push(DeskEvent { event, moment });
 }
 
-/// Opens a grant where there is room.
-pub fn open_one(grants: &mut Vec<OpenGrant>, grant: OpenGrant)
-    requires { vec_len grants.old < vec_capacity grants.old }
-    ensures kept { grants.new.items ≡ grants.old.items ++ grant ∷ [] }
-    ensures len { vec_len grants.new ≡ vec_len grants.old + 1 }
-{
-    let _ = grants.push(grant);
-}
-
-/// Takes the grant of this number out, which is there.
-pub fn close_one(grants: &mut Vec<OpenGrant>, number: u64)
-    requires { (g : OpenGrant) × Contains grants.old.items g × (g.number ≡ number) }
-    ensures kept { grants.new.items ≡ without grants.old.items number }
-    ensures len { vec_len grants.new + 1 ≡ vec_len grants.old }
-{
-    if let Some(place) = place_of(grants.as_slice(), number) {
-        let _ = grants.remove(place);
-    }
-}
-
-/// Where the grant of this number stands.
-fn place_of(grants: &[OpenGrant], number: u64) -> Option<usize>
-    ensures found { IfSome result (λ i. (i < length grants.now) × (without grants.now number ≡ remove grants.now i)) }
-    ensures none { IfNone result ((g : OpenGrant) → Contains grants.now g → g.number ≡ number → ⊥) }
-{
-    for (i, grant) in grants.iter().enumerate() {
-        if grant.number == number {
-            return Some(i);
-        }
-    }
-    None
-}
-
-/// Opens a grant and notes it, where there is room.
+/// Gives a grant and notes it, where there is room.
 pub fn give(
     events: &mut Vec<DeskEvent>,
-    grants: &mut Vec<OpenGrant>,
-    granted: OpenGrant,
+    grants: &mut OpenGrants,
+    key: PubKey,
     message: Message,
     moment: u64,
 ) -> Grant
     requires events_room { vec_len events.old < vec_capacity events.old }
-    requires grant_room { vec_len grants.old < vec_capacity grants.old }
-    requires message { granted.message ≡ Some message }
-    ensures grant { result ≡ granted }
-    ensures events { events.new.items ≡ events.old.items ++ record { event = Event.Granted granted.key message granted.number; moment = moment } ∷ [] }
+    requires grant_room { 0 < grants.old.room }
+    requires next { grants.old.next < 2 ^ 64 - 1 }
+    ensures grant { result ≡ record { number = grants.old.next; key = key; message = Some message } }
+    ensures events { events.new.items ≡ events.old.items ++ record { event = Event.Granted key message result.number; moment = moment } ∷ [] }
     ensures events_len { vec_len events.new ≡ vec_len events.old + 1 }
     ensures no_less { vec_capacity events.old ≤ vec_capacity events.new }
-    ensures kept { grants.new.items ≡ grants.old.items ++ granted ∷ [] }
-    ensures kept_len { vec_len grants.new ≡ vec_len grants.old + 1 }
+    ensures kept { grants.new.grants ≡ grants.old.grants ++ result ∷ [] }
+    ensures kept_len { length grants.new.grants ≡ length grants.old.grants + 1 }
+    ensures next { grants.new.next ≡ grants.old.next + 1 }
 {
-    let OpenGrant {
-        number,
-        key,
-        message: _,
-    } = granted;
-    open_one(grants, granted);
+    let grant = grants.give(key, Some(message));
     let event = Event::Granted {
         key,
         message,
-        grant: number,
+        grant: grant.number(),
     };
     note(events, event, moment);
-    Grant {
-        number,
-        key,
-        message: Some(message),
-    }
+    grant
 }
 
 /// Notes that a file was merged, where there is room. One without keys is not noted.
@@ -138,30 +93,5 @@ pub fn fits_one(books: &Books, key: &PubKey) -> bool
     match books.get(key) {
         Some(_) => true,
         None => books.len() < KEY_LIMIT,
-    }
-}
-
-/// How many of the open grants are of this key.
-pub fn count_of(grants: &[OpenGrant], key: &PubKey) -> usize
-    ensures { result ≡ open_grants grants.now key.now }
-{
-    grants.iter().filter(|grant| is_of(grant, key)).count()
-}
-
-/// Whether the grant is of this key.
-fn is_of(grant: &OpenGrant, key: &PubKey) -> bool
-    ensures { result ≡ is_at (key_cmp key.now) grant.now.key }
-{
-    *key == grant.key
-}
-
-/// A grant to be opened.
-pub fn open_grant(number: u64, key: PubKey, message: Message) -> OpenGrant
-    ensures { result ≡ record { number = number; key = key; message = Some message } }
-{
-    OpenGrant {
-        number,
-        key,
-        message: Some(message),
     }
 }

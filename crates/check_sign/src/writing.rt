@@ -1,16 +1,16 @@
 //! What is written into the journal, before the desk changes.
-ghost use Rattle.std.specs.Prelude.{◌≡◌, ◌⊎◌, [], None, Some, IfOk};
+ghost use Rattle.std.specs.Prelude.{◌≡◌, ◌⊎◌, [], ◌∷◌, None, Some, IfOk, if◌then◌else◌};
 ghost use Rattle.edge_kit.specs.declared.bytes.Root.{Root};
 ghost use Rattle.slash_defs.specs.declared.book.File.{File};
 ghost use Rattle.interchange_io.specs.WrittenOrder.{canonical};
 ghost use Rattle.record_codec.specs.Spelling.{IsBatch};
 ghost use Rattle.record_join.specs.Repeats.{repeats};
-ghost use Rattle.record_replay.specs.Batches.{book_items, file_items};
+ghost use Rattle.record_replay.specs.Batches.{book_items, file_items, message_item};
 ghost use Rattle.protect_record.specs.Pasts.{Past};
-ghost use Rattle.check_sign.specs.Machine.{proposal_items};
+ghost use Rattle.desk_machine.specs.Written.{proposal_items};
 ghost use Rattle.check_sign.specs.Writing.{HoldsJournal, Moved, Wrote, refusal_of};
 
-use crate::call::DeskReply;
+use desk_machine::DeskReply;
 use edge_kit::{Disk, PubKey};
 use interchange_io::in_written_order;
 use record_codec::{JournalItem, encode};
@@ -105,6 +105,7 @@ pub fn write_message<D: Disk>(
     requires up { journal.old.torn ≡ None }
     requires held { (g : Root) × HoldsJournal D.moment D.leaves g journal.old }
     ensures wrote { (past : Past) → repeat ≡ repeats past message.now → Wrote D.faults journal.old (proposal_items (Some past) key message.now) journal.new result }
+    ensures wrote_own { Wrote D.faults journal.old (if repeat then [] else message_item key message.now ∷ []) journal.new result }
     ensures moved { Moved D.moment D.leaves D.faults journal.old journal.new }
     ensures holds { (g : Root) → HoldsJournal D.moment D.leaves g journal.old → HoldsJournal D.moment D.leaves g journal.new }
 {

@@ -4,6 +4,7 @@ use Rattle.std.specs.Str.{bytes_eq}
 use Rattle.edge_kit.specs.Texts.{hex_bytes}
 use Rattle.edge_kit.specs.declared.bytes.Root.{Root}
 use Rattle.phase0_types.specs.declared.fork.Fork.{Fork}
+use Rattle.service_url.specs.Services.{Service, service_at}
 use Rattle.clap.specs.Words.{Kinds, Row, Text, fault_of, first_of, subcommand_of}
 use Rattle.clap.specs.declared.error.kind.ErrorKind.{ErrorKind}
 use Rattle.clap.specs.declared.error.kind.ErrorKind.TheVariants.{DisplayHelp, DisplayVersion}
@@ -13,9 +14,9 @@ use Rattle.command_line.specs.declared.planned.Plan.{Plan}
 use Rattle.command_line.specs.declared.planned.Plan.TheVariants.{Session, Merge, Show, Shown}
 use Rattle.command_line.specs.declared.planned.Usage.{Usage}
 
--- what words ask for: a session, with its journal's path if any, a merge or a showing of a journal, the text of help or the version, or nothing that there is
+-- what words ask for: a session, with its journal's path and its signing service if any, a merge or a showing of a journal, the text of help or the version, or nothing that there is
 pub data Asked : Type 0 where
-  session : Root → Option (List ℕ) → Fork → Asked
+  session : Root → Option (List ℕ) → Fork → Option Service → Asked
   merge : Root → List ℕ → Asked
   show : Root → List ℕ → Asked
   shown : Asked
@@ -23,7 +24,7 @@ pub data Asked : Type 0 where
 
 -- what an answer takes the words to ask for
 abbrev pub taken_as : Result Plan Usage → Asked
-taken_as (Ok (Session genesis journal fork)) = session genesis journal fork
+taken_as (Ok (Session genesis journal fork signer)) = session genesis journal fork signer
 taken_as (Ok (Merge genesis journal)) = merge genesis journal
 taken_as (Ok (Show genesis journal)) = show genesis journal
 taken_as (Ok (Shown text)) = shown
@@ -50,15 +51,23 @@ path_at text = if length text == 0 then None else Some text
 abbrev pub journal_in : List Row → Option (List ℕ)
 journal_in options = option_and_then path_at (first_of (codes "journal") options)
 
--- the session of a chain and a fork with the value of `--journal`, if there is one
-abbrev pub session_with : Root → Fork → Option Text → Asked
-session_with genesis fork None = session genesis None fork
-session_with genesis fork (Some text) = or_nothing (option_map (λ path. session genesis (Some path) fork) (path_at text))
+-- what a text writes, where it is given: none where it is out of form
+abbrev pub at_most_one : {A : Type 0} → (Text → Option A) → Option Text → Option (Option A)
+at_most_one read None = Some None
+at_most_one read (Some text) = option_map Some (read text)
+
+-- the session of a chain, a fork and a journal, with the value of `--signer`, if there is one
+abbrev pub session_by : Root → Fork → Option (List ℕ) → Option Text → Asked
+session_by genesis fork journal signer = or_nothing (option_map (session genesis journal fork) (at_most_one service_at signer))
+
+-- the session of a chain and a fork with the values of `--journal` and `--signer`, if there are any
+abbrev pub session_with : Root → Fork → Option Text → Option Text → Asked
+session_with genesis fork journal signer = or_nothing (option_map (λ path. session_by genesis fork path signer) (at_most_one path_at journal))
 
 -- the session of these options
 abbrev pub session_in : List Row → Asked
 session_in options =
-    or_nothing (option_and_then (λ genesis. option_map (λ fork. session_with genesis fork (first_of (codes "journal") options)) (fork_in options)) (genesis_in options))
+    or_nothing (option_and_then (λ genesis. option_map (λ fork. session_with genesis fork (first_of (codes "journal") options) (first_of (codes "signer") options)) (fork_in options)) (genesis_in options))
 
 -- the merge of these options
 abbrev pub merge_in : List Row → Asked

@@ -21,6 +21,14 @@ journal_rule is_required = record (new_rule (codes "journal")) {
   required = is_required;
 }
 
+-- `--signer URL`
+abbrev pub signer_rule : Rule
+signer_rule = record (new_rule (codes "signer")) {
+  long = Some (codes "signer");
+  action = Some Set;
+  value_names = 1;
+}
+
 -- `--fork PREVIOUS:CURRENT:EPOCH`, both versions zero from epoch 0 on where it is absent
 abbrev pub fork_rule : Rule
 fork_rule = record (new_rule (codes "fork")) {
@@ -32,7 +40,7 @@ fork_rule = record (new_rule (codes "fork")) {
 
 -- the command `session` with its options
 abbrev pub session_shape : Shape
-session_shape = (with_rule (with_rule (with_rule (new_app (codes "session")) genesis_rule) (journal_rule false)) fork_rule).top
+session_shape = (with_rule (with_rule (with_rule (with_rule (new_app (codes "session")) genesis_rule) (journal_rule false)) signer_rule) fork_rule).top
 
 -- the command `merge` with its options
 abbrev pub merge_shape : Shape

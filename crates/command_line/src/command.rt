@@ -1,7 +1,7 @@
 //! The table of commands and options, as `clap` takes it.
 ghost use Rattle.std.specs.Prelude.{◌≡◌, IfOk, false};
 ghost use Rattle.clap.specs.Words.{app_of, rule_of, shape_of};
-ghost use Rattle.command_line.specs.Table.{table, session_shape, merge_shape, show_shape, help_shape, genesis_rule, journal_rule, fork_rule};
+ghost use Rattle.command_line.specs.Table.{table, session_shape, merge_shape, show_shape, help_shape, genesis_rule, journal_rule, fork_rule, signer_rule};
 
 use clap::{Arg, ArgAction, Command};
 use std::alloc::{AllocError, Global};
@@ -12,6 +12,9 @@ const SESSION_AT_A_GLANCE: &str = "Options of session:
           Genesis validators root of the chain: 0x and 64 hex digits [required]
       --journal <PATH>
           Remembers over restarts, in PATH.a and PATH.b; without it the record ends with the run
+      --signer <URL>
+          Signing service (Web3Signer), as http://127.0.0.1:9000; without it a stand-in signs,
+          whose signatures are no BLS signatures
       --fork <PREVIOUS:CURRENT:EPOCH>
           Fork of the signing domains: two versions, each 0x and 8 hex digits, and the epoch from
           which the second holds, in decimal [default: 0x00000000:0x00000000:0]
@@ -58,11 +61,13 @@ pub(crate) fn session<'a>(alloc: Global) -> Result<Command<'a>, AllocError>
         "Remembers over restarts, in PATH.a and PATH.b; without{n}it the record ends with the run",
         false,
     );
+    let signer = signer(alloc);
     let fork = fork(alloc);
     Command::new(alloc, "session")
         .about("Answers signing requests, one JSON object a line, from standard input")
         .arg(genesis)?
         .arg(journal)?
+        .arg(signer)?
         .arg(fork)
 }
 
@@ -113,6 +118,20 @@ fn journal<'a>(alloc: Global, about: &'a str, is_required: bool) -> Arg<'a>
         .value_name("PATH")
         .help(about)
         .required(is_required)
+        .action(ArgAction::Set)
+}
+
+/// The option `--signer`.
+fn signer<'a>(alloc: Global) -> Arg<'a>
+    ensures local { result.global ≡ false }
+    ensures rule { rule_of result ≡ signer_rule }
+{
+    Arg::new(alloc, "signer")
+        .long("signer")
+        .value_name("URL")
+        .help(
+            "Signing service (Web3Signer), as http://127.0.0.1:9000; without{n}it a stand-in signs, whose signatures are no BLS signatures",
+        )
         .action(ArgAction::Set)
 }
 

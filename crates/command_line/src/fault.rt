@@ -21,6 +21,9 @@ pub(crate) enum Fault<'a> {
     /// The value of `--journal` is empty.
     #[error("error: invalid value '' for '--journal <PATH>': a path is wanted")]
     Journal,
+    /// The value of `--signer` is no address of a service.
+    #[error("error: invalid value '{0}' for '--signer <URL>': a URL of scheme http with a host is wanted, without user, password, query or fragment")]
+    Signer(&'a str),
     /// The value of `--fork` is out of form.
     #[error("error: invalid value '{0}' for '--fork <PREVIOUS:CURRENT:EPOCH>': two versions, each 0x and 8 hex digits, and an epoch in decimal below 2^64 are wanted, joined by :")]
     Fork(&'a str),

@@ -4,6 +4,7 @@ ghost use Rattle.std.specs.Prelude.{◌≡◌, string_bytes};
 use crate::path_text::PathText;
 use edge_kit::Root;
 use phase0_types::Fork;
+use service_url::ServiceUrl;
 use std::fmt;
 use std::marker::Model;
 use thiserror::Error;
@@ -13,11 +14,13 @@ use thiserror::Error;
 pub enum Plan {
     /// A session over standard input and output, for the chain of this genesis validators root, whose
     /// signing domains are those of this fork. What it signs is kept in the journal of this path, and
-    /// where there is none, for the length of the run.
+    /// where there is none, for the length of the run. The signing service at this address signs, and
+    /// where there is none, a stand-in in memory, whose signatures are no BLS signatures.
     Session {
         genesis: Root,
         journal: Option<PathText>,
         fork: Fork,
+        signer: Option<ServiceUrl>,
     },
     /// The interchange file on standard input, of the chain of this genesis validators root, is merged
     /// into the journal of this path.

@@ -54,6 +54,7 @@ fn sessions_have_their_genesis_and_fork(rt: HostRuntime) -> Result<(), Fail> {
                 genesis,
                 journal: None,
                 fork,
+                signer: None,
             },
         ) = answer(rt.alloc(), words)?
         else {
@@ -93,9 +94,13 @@ fn journals_have_their_paths(rt: HostRuntime) -> Result<(), Fail> {
         let (command, root, path) = match planned {
             Plan::Session {
                 genesis,
-                journal: Some(path),
+                journal,
                 fork: _,
-            } => ("session", genesis, path),
+                signer: _signer,
+            } => match journal {
+                Some(path) => ("session", genesis, path),
+                None => return Err(Fail::from("no journal")),
+            },
             Plan::Merge { genesis, journal } => ("merge", genesis, journal),
             Plan::Show { genesis, journal } => ("show", genesis, journal),
             _ => return Err(Fail::from("no journal")),
@@ -108,7 +113,7 @@ fn journals_have_their_paths(rt: HostRuntime) -> Result<(), Fail> {
 }
 
 /// Words behind the program's name that are no command, each with a piece of what is told.
-const FAULTY: [(&[&str], &str); 22] = [
+const FAULTY: [(&[&str], &str); 23] = [
     (&[], "requires a subcommand"),
     (&["serve"], "unrecognized subcommand 'serve'"),
     (&["session"], "not provided:\n  --genesis <HEX32>"),
@@ -186,6 +191,10 @@ const FAULTY: [(&[&str], &str); 22] = [
         "for '--fork",
     ),
     (
+        &["session", GENESIS_IS_ROOT, "--signer", "https://signer"],
+        "value 'https://signer' for '--signer <URL>': a URL",
+    ),
+    (
         &["session", GENESIS_IS_ROOT, "--journal", ""],
         "value '' for '--journal <PATH>': a path",
     ),
@@ -252,6 +261,9 @@ Options of session:
           Genesis validators root of the chain: 0x and 64 hex digits [required]
       --journal <PATH>
           Remembers over restarts, in PATH.a and PATH.b; without it the record ends with the run
+      --signer <URL>
+          Signing service (Web3Signer), as http://127.0.0.1:9000; without it a stand-in signs,
+          whose signatures are no BLS signatures
       --fork <PREVIOUS:CURRENT:EPOCH>
           Fork of the signing domains: two versions, each 0x and 8 hex digits, and the epoch from
           which the second holds, in decimal [default: 0x00000000:0x00000000:0]
@@ -274,6 +286,8 @@ Options:
       --genesis <HEX32>                Genesis validators root of the chain: 0x and 64 hex digits
       --journal <PATH>                 Remembers over restarts, in PATH.a and PATH.b; without
                                        it the record ends with the run
+      --signer <URL>                   Signing service (Web3Signer), as http://127.0.0.1:9000; without
+                                       it a stand-in signs, whose signatures are no BLS signatures
       --fork <PREVIOUS:CURRENT:EPOCH>  Fork of the signing domains: two versions, each 0x and 8
                                        hex digits, and the epoch from which the second holds,
                                        in decimal [default: 0x00000000:0x00000000:0]

@@ -2,23 +2,25 @@
 ghost use Rattle.std.specs.Prelude.{◌≡◌, ◌≢◌, IfOk, map, option_map, string_bytes, if◌then◌else◌};
 ghost use Rattle.clap.specs.Words.{found_of, kind_of, rows_of, subcommand_rows_of};
 ghost use Rattle.clap.specs.declared.error.kind.ErrorKind.TheVariants.{OutOfMemory};
-ghost use Rattle.command_line.specs.Plans.{asked_at, asked_in, asked_of, help_on, is_display, merge_in, nothing, session_in, session_with, show_in, shown, taken_as};
+ghost use Rattle.command_line.specs.Plans.{asked_at, asked_in, asked_of, help_on, is_display, merge_in, nothing, session_by, session_in, session_with, show_in, shown, taken_as};
 
 use crate::command::{help, merge, program, session, show};
 use crate::fault::{Fault, refused};
 use crate::options::{fork_of, genesis_of, journal_of, text_of};
-use crate::path_text::read_path;
+use crate::path_text::{PathText, read_path};
 use crate::planned::{Plan, ShownText, Usage};
 use clap::error::ErrorKind;
 use clap::{ArgMatches, Command, Error};
 use edge_kit::Root;
 use phase0_types::Fork;
+use service_url::ServiceUrl;
 use std::alloc::{AllocError, Global};
 
 /// What the words ask the program to do, the first of which is the program's name:
 ///
-/// - `session` with `--genesis`, `0x` and 64 hex digits, maybe `--journal`, a path that is not empty, and
-///   maybe `--fork`, two versions and an epoch joined by `:`, each version `0x` and 8 hex digits, the
+/// - `session` with `--genesis`, `0x` and 64 hex digits, maybe `--journal`, a path that is not empty, maybe
+///   `--signer`, a URL of scheme http with a host and without user, password, query and fragment, and maybe
+///   `--fork`, two versions and an epoch joined by `:`, each version `0x` and 8 hex digits, the
 ///   epoch 1 to 20 decimal digits below 2^64; `0x00000000:0x00000000:0` where it is absent. Hex digits
 ///   are of either case.
 /// - `merge` and `show`, each with `--genesis` and `--journal`.
@@ -98,34 +100,56 @@ fn session_plan(alloc: Global, options: &ArgMatches<'_>) -> Result<Result<Plan, 
         let text = text_of(options, "fork").unwrap_or("");
         return refused(alloc, Fault::Fork(text));
     };
-    session_at(alloc, genesis, text_of(options, "journal"), fork)
+    let journal = text_of(options, "journal");
+    session_at(alloc, genesis, fork, journal, text_of(options, "signer"))
 }
 
-/// The answer to `session` for a chain and a fork, with the value of `--journal`, if there is one.
+/// The answer to `session` for a chain and a fork, with the values of `--journal` and `--signer`, if there
+/// are any.
 fn session_at(
     alloc: Global,
     genesis: Root,
-    path: Option<&str>,
     fork: Fork,
+    path: Option<&str>,
+    url: Option<&str>,
 ) -> Result<Result<Plan, Usage>, AllocError>
-    ensures { IfOk result (λ answer. taken_as answer ≡ session_with genesis fork (option_map (λ s. s.now) path.entry)) }
+    ensures { IfOk result (λ answer. taken_as answer ≡ session_with genesis fork (option_map (λ s. s.now) path.entry) (option_map (λ s. s.now) url.entry)) }
 {
     let Some(path) = path else {
-        let journal = None;
-        return Ok(Ok(Plan::Session {
-            genesis,
-            journal,
-            fork,
-        }));
+        return session_by(alloc, genesis, fork, None, url);
     };
     let Some(journal) = read_path(alloc, path)? else {
         return refused(alloc, Fault::Journal);
     };
-    let journal = Some(journal);
+    session_by(alloc, genesis, fork, Some(journal), url)
+}
+
+/// The answer to `session` for a chain, a fork and a journal, with the value of `--signer`, if there is one.
+fn session_by(
+    alloc: Global,
+    genesis: Root,
+    fork: Fork,
+    journal: Option<PathText>,
+    url: Option<&str>,
+) -> Result<Result<Plan, Usage>, AllocError>
+    ensures { IfOk result (λ answer. taken_as answer ≡ session_by genesis fork journal (option_map (λ s. s.now) url.entry)) }
+{
+    let Some(url) = url else {
+        return Ok(Ok(Plan::Session {
+            genesis,
+            journal,
+            fork,
+            signer: None,
+        }));
+    };
+    let Some(signer) = ServiceUrl::read(alloc, url)? else {
+        return refused(alloc, Fault::Signer(url));
+    };
     Ok(Ok(Plan::Session {
         genesis,
         journal,
         fork,
+        signer: Some(signer),
     }))
 }
 

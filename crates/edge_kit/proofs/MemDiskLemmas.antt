@@ -21,6 +21,11 @@ pub crashed-push : (how : Crash) (now : List ℕ) (steps : List DiskStep) (step 
 crashed-push how now [] step = refl
 crashed-push how now (s ∷ steps) step = crashed-push how (crashed_after how s now) steps step
 
+-- where each step stands as it was made
+pub crashed-written : (now : List ℕ) (steps : List DiskStep) → crashed crash.Written now steps ≡ content now steps
+crashed-written now [] = refl
+crashed-written now (s ∷ steps) = crashed-written (after s now) steps
+
 content-append : (now : List ℕ) (steps more : List DiskStep) → content now (steps ++ more) ≡ content (content now steps) more
 content-append now [] more = refl
 content-append now (s ∷ steps) more = content-append (after s now) steps more
@@ -176,9 +181,6 @@ left_synced first held steps n c current all durable left =
     durable c (subst (λ (k : ℕ). LeavesAt first steps k c) (sym all) left) ∙ ap (content first) (take_all n steps (omega arith)) ∙ sym current
 
 -- ---- one step more of a loop
-
-pub content_more : (first : List ℕ) (steps : List DiskStep) (i : ℕ) (step : DiskStep) → i < length steps → step ≡ get_or steps i step → content first (take (i + 1) steps) ≡ after step (content first (take i steps))
-content_more first steps i step lt is = ap (content first) (take_more steps i step lt) ∙ content-push first (take i steps) (get_or steps i step) ∙ ap (λ (s : DiskStep). after s (content first (take i steps))) (sym is)
 
 pub crashed_more : (how : Crash) (first : List ℕ) (steps : List DiskStep) (i : ℕ) (step : DiskStep) → i < length steps → step ≡ get_or steps i step → crashed how first (take (i + 1) steps) ≡ crashed_after how step (crashed how first (take i steps))
 crashed_more how first steps i step lt is = ap (crashed how first) (take_more steps i step lt) ∙ crashed-push how first (take i steps) (get_or steps i step) ∙ ap (λ (s : DiskStep). crashed_after how s (crashed how first (take i steps))) (sym is)

@@ -1,5 +1,5 @@
 -- A disk in memory, by the list of its writes, cuts and syncs.
-use Rattle.std.specs.Prelude.{◌≡◌, ℕ, ◌/◌, ◌==◌, nat_lt, Bool, true, false, List, [], ◌∷◌, length, take, Option, Some, None, if◌then◌else◌}
+use Rattle.std.specs.Prelude.{◌≡◌, ℕ, ◌/◌, ◌==◌, nat_lt, Bool, true, false, List, [], ◌∷◌, length, take, Option, Some, None, Result, Ok, Err, ◌⊎◌, if◌then◌else◌}
 use Rattle.std.specs.List.{list_any}
 use Rattle.edge_kit.specs.declared.mem_disk.DiskStep.{DiskStep}
 use Rattle.edge_kit.specs.declared.mem_disk.DiskStep.TheVariants.{Wrote, Shortened, Synced}
@@ -60,3 +60,13 @@ abbrev pub is_working : Turn → Bool
 is_working turn.Works = true
 is_working turn.Stops = false
 is_working turn.Fails = false
+
+-- A write or cut, by how its call goes and what it answers. Where the call works, or the disk stops at it, it is
+-- made, or lacks memory; where the disk stops at it, it fails all the same. Where the call fails it is not made.
+abbrev pub GoesBy : {T E : Type 0} → Turn → Result T E → (made unmade lacked : Type 0) → Type 0
+GoesBy turn.Works (Ok x) made unmade lacked = made
+GoesBy turn.Works (Err e) made unmade lacked = lacked
+GoesBy turn.Stops (Ok x) made unmade lacked = ⊥
+GoesBy turn.Stops (Err e) made unmade lacked = made ⊎ lacked
+GoesBy turn.Fails (Ok x) made unmade lacked = ⊥
+GoesBy turn.Fails (Err e) made unmade lacked = unmade

@@ -1,10 +1,18 @@
 -- What contracts see of a disk in memory.
-use Rattle.std.specs.Prelude.{◌≡◌, ℕ, ◌+◌, ◌-◌, ◌^◌, min, List, [], ◌∷◌, ◌++◌, length, take, drop, Option, Bool}
+use Rattle.std.specs.Prelude.{◌≡◌, ℕ, List, [], ◌∷◌, ◌++◌, length, take, drop, Option, Result}
 use Rattle.edge_kit.specs.declared.mem_disk.MemDisk.{MemDisk}
 use Rattle.edge_kit.specs.declared.mem_disk.DiskStep.{DiskStep}
 use Rattle.edge_kit.specs.declared.mem_disk.DiskStep.TheVariants.{Synced}
 use Rattle.edge_kit.specs.declared.mem_disk.Crash.{Crash}
-use Rattle.edge_kit.specs.MemDisks.{content, crashed, LeavesAt, turn_of, is_working}
+use Rattle.edge_kit.specs.MemDisks.{after, content, crashed, LeavesAt, turn_of}
+use Rattle.edge_kit.specs.declared.calls.Calls.{Calls}
+use Rattle.edge_kit.specs.declared.mem_disk.Turn.{Turn}
+use Rattle.edge_kit.specs.Causes.{next_count}
+use Rattle.edge_kit.specs.Calls.{IsCounted}
+
+-- the bytes that it was made of
+abbrev pub first_bytes : MemDisk → List ℕ
+first_bytes d = d.first.items
 
 -- the bytes that a read sees
 abbrev pub disk_bytes : MemDisk → List ℕ
@@ -14,25 +22,26 @@ disk_bytes d = d.held.items
 abbrev pub disk_steps : MemDisk → List DiskStep
 disk_steps d = d.steps.items
 
--- how many calls have come
-abbrev pub disk_calls : MemDisk → ℕ
+-- what it keeps of its calls
+abbrev pub disk_calls : MemDisk → Calls
 disk_calls d = d.calls
-
--- the numbers of the calls that fail
-abbrev pub disk_failing : MemDisk → List ℕ
-disk_failing d = d.failing.items
 
 -- the number of the call at which it stops
 abbrev pub disk_stop : MemDisk → Option ℕ
 disk_stop d = d.stop
 
--- how often it has failed
-abbrev pub disk_faults : MemDisk → ℕ
-disk_faults d = d.faults
+-- how often memory ran out at a write or cut
+abbrev pub disk_lacks : MemDisk → ℕ
+disk_lacks d = d.lacks
 
--- whether the next call works
-abbrev pub works : MemDisk → Bool
-works d = is_working (turn_of (disk_calls d) (disk_failing d) (disk_stop d))
+-- one call of this result has come, and the stop stays
+pub record IsCalled {T E : Type 0} (old new : MemDisk) (result : Result T E) : Type 0 where
+  pub calls : IsCounted (disk_calls old) (disk_calls new) result
+  pub stop : disk_stop new ≡ disk_stop old
+
+-- how its next call goes
+abbrev pub next_call : MemDisk → Turn
+next_call d = turn_of d.calls.count d.calls.failing.items d.stop
 
 -- what a crash now makes of the bytes of the last sync and the changes since
 abbrev pub image_of : Crash → MemDisk → List ℕ
@@ -58,10 +67,29 @@ Left d k c = LeavesAt d.first.items d.steps.items k c
 abbrev pub unsynced : MemDisk → List DiskStep
 unsynced d = drop d.synced d.steps.items
 
--- a change is kept behind the others
+-- everything that it holds stays
+pub record HoldsSame (old new : MemDisk) : Type 0 where
+  pub first : first_bytes new ≡ first_bytes old
+  pub bytes : disk_bytes new ≡ disk_bytes old
+  pub steps : disk_steps new ≡ disk_steps old
+  pub since : unsynced new ≡ unsynced old
+
+-- a change is made: a read sees it, and it is kept behind the others
 pub record KeepsChange (old new : MemDisk) (step : DiskStep) : Type 0 where
+  pub first : first_bytes new ≡ first_bytes old
+  pub bytes : disk_bytes new ≡ after step (disk_bytes old)
   pub steps : disk_steps new ≡ disk_steps old ++ step ∷ []
   pub since : unsynced new ≡ unsynced old ++ step ∷ []
+
+-- how a write or cut ends: made, or not made, with memory enough; or not made for want of memory
+abbrev pub MadeAt : MemDisk → MemDisk → DiskStep → Type 0
+MadeAt old new step = KeepsChange old new step × (disk_lacks new ≡ disk_lacks old)
+
+abbrev pub Unmade : MemDisk → MemDisk → Type 0
+Unmade old new = HoldsSame old new × (disk_lacks new ≡ disk_lacks old)
+
+abbrev pub Lacked : MemDisk → MemDisk → Type 0
+Lacked old new = HoldsSame old new × (disk_lacks new ≡ next_count (disk_lacks old))
 
 -- a sync is kept where something was changed since the last
 abbrev pub steps_with_sync : List DiskStep → List DiskStep → List DiskStep
@@ -69,11 +97,8 @@ steps_with_sync [] steps = steps
 steps_with_sync (change ∷ changes) steps = steps ++ Synced ∷ []
 
 pub record KeepsSync (old new : MemDisk) : Type 0 where
+  pub first : first_bytes new ≡ first_bytes old
+  pub bytes : disk_bytes new ≡ disk_bytes old
   pub steps : disk_steps new ≡ steps_with_sync (unsynced old) (disk_steps old)
   pub since : unsynced new ≡ []
-
--- one call has come, and the list of failing calls and the stop stay
-pub record IsCalled (old new : MemDisk) : Type 0 where
-  pub calls : disk_calls new ≡ min (disk_calls old + 1) (2 ^ 64 - 1)
-  pub failing : disk_failing new ≡ disk_failing old
-  pub stop : disk_stop new ≡ disk_stop old
+  pub lacks : disk_lacks new ≡ disk_lacks old

@@ -1,8 +1,10 @@
 //! A file of the system as a disk. It tells nothing of its content.
-ghost use Rattle.std.specs.Prelude.{◌≡◌, ◌≤◌, ◌<◌, length, IfOk, OnErr};
-ghost use Rattle.edge_kit.specs.Causes.{Rose};
+ghost use Rattle.std.specs.Prelude.{◌≡◌, ◌≤◌, ◌<◌, length, IfOk, OnOk};
+ghost use Rattle.std.specs.Result.{result_ok};
+ghost use Rattle.edge_kit.specs.Causes.{HasCause};
 
 use crate::disk::Disk;
+use crate::faults::{count_fault, counted};
 use crate::traits::Failed;
 use std::fs::{File, Files, OpenFile, OpenOptions};
 use std::io;
@@ -10,7 +12,8 @@ use std::io::{ErrorKind, Read, Seek, SeekFrom, Write};
 use std::path::Path;
 
 /// The file of a path, with a count of its failures. It is opened at the first call, created where it is
-/// absent, and its directory is synced then, so that a sync keeps its name too.
+/// absent, and its directory is synced then. Once it failed, each later call does: a system may forget what it
+/// could not write, and answer the next sync well.
 #[derive(Drop)]
 pub struct FileDisk<R: Files + Drop> {
     files: R,
@@ -94,20 +97,29 @@ fn cut_to<F: Seek + OpenFile>(file: &mut F, len: u64) -> io::Result<()> {
     Ok(())
 }
 
-// Counts a fault.
-fn fault(faults: &mut u64) -> Failed
-    ensures rose { Rose faults.old faults.new }
-    ensures later { faults.old ≤ faults.new }
-{
-    *faults = faults.saturating_add(1);
-    Failed
-}
+impl<R: Files + Drop> FileDisk<R> {
+    // The file for one call, opened where it isn't yet; none once a call has failed.
+    fn take(&mut self) -> Result<R::File, Failed>
+        ensures cause { HasCause self.old.faults self.new.faults result }
+        ensures unfailed { OnOk result (self.old.faults ≡ 0) }
+    {
+        if self.faults > 0 {
+            return Err(count_fault(&mut self.faults));
+        }
+        let file = match self.file.take() {
+            Some(file) => Ok(file),
+            None => open_file(&self.files, &self.path),
+        };
+        counted(file, &mut self.faults)
+    }
 
-// The file, opened where it isn't yet.
-fn taken<R: Files>(file: &mut Option<R::File>, files: &R, path: &str) -> io::Result<R::File> {
-    match file.take() {
-        Some(file) => Ok(file),
-        None => open_file(files, path),
+    // Puts the file back after a call, whose failure is counted.
+    fn give_back<T>(&mut self, file: R::File, done: io::Result<T>) -> Result<T, Failed>
+        ensures same { result_ok result ≡ result_ok done }
+        ensures cause { HasCause self.old.faults self.new.faults result }
+    {
+        self.file = Some(file);
+        counted(done, &mut self.faults)
     }
 }
 
@@ -121,63 +133,33 @@ impl<R: Files + Drop> Disk for FileDisk<R> {
     ghost faults = { λ d. d.faults };
 
     fn len(&mut self) -> Result<u64, Failed> {
-        let Ok(mut file) = taken(&mut self.file, &self.files, &self.path) else {
-            return Err(fault(&mut self.faults));
-        };
+        let mut file = self.take()?;
         let done = file.seek(SeekFrom::End(0));
-        self.file = Some(file);
-        match done {
-            Ok(value) => Ok(value),
-            Err(_) => Err(fault(&mut self.faults)),
-        }
+        self.give_back(file, done)
     }
 
     fn read(&mut self, at: u64, buf: &mut [u8]) -> Result<usize, Failed> {
-        let Ok(mut file) = taken(&mut self.file, &self.files, &self.path) else {
-            return Err(fault(&mut self.faults));
-        };
+        let mut file = self.take()?;
         let done = read_full(&mut file, at, buf);
-        self.file = Some(file);
-        match done {
-            Ok(value) => Ok(value),
-            Err(_) => Err(fault(&mut self.faults)),
-        }
+        self.give_back(file, done)
     }
 
     fn write_at(&mut self, at: u64, bytes: &[u8]) -> Result<(), Failed> {
-        let Ok(mut file) = taken(&mut self.file, &self.files, &self.path) else {
-            return Err(fault(&mut self.faults));
-        };
+        let mut file = self.take()?;
         let done = write_full(&mut file, at, bytes);
-        self.file = Some(file);
-        match done {
-            Ok(value) => Ok(value),
-            Err(_) => Err(fault(&mut self.faults)),
-        }
+        self.give_back(file, done)
     }
 
     fn cut(&mut self, len: u64) -> Result<(), Failed> {
-        let Ok(mut file) = taken(&mut self.file, &self.files, &self.path) else {
-            return Err(fault(&mut self.faults));
-        };
+        let mut file = self.take()?;
         let done = cut_to(&mut file, len);
-        self.file = Some(file);
-        match done {
-            Ok(value) => Ok(value),
-            Err(_) => Err(fault(&mut self.faults)),
-        }
+        self.give_back(file, done)
     }
 
     fn sync(&mut self) -> Result<(), Failed> {
-        let Ok(file) = taken(&mut self.file, &self.files, &self.path) else {
-            return Err(fault(&mut self.faults));
-        };
+        let file = self.take()?;
         let done = file.sync_all();
-        self.file = Some(file);
-        match done {
-            Ok(value) => Ok(value),
-            Err(_) => Err(fault(&mut self.faults)),
-        }
+        self.give_back(file, done)
     }
 }
 
@@ -192,25 +174,21 @@ mod tests {
         let name = "edge_kit_file_disk.tmp";
         let _ = fs::remove_file(&rt, name);
         let mut disk = FileDisk::new(&rt, String::from_str(rt.alloc(), name)?);
-        assert_eq!(rt; disk.len(), Ok(0));
         assert_eq!(rt; disk.write_at(0, b"abc"), Ok(()));
         assert_eq!(rt; disk.write_at(5, b"z"), Ok(()));
         assert_eq!(rt; disk.sync(), Ok(()));
         let mut buf = [9u8; 8];
         assert_eq!(rt; disk.read(0, &mut buf), Ok(6));
         assert_eq!(rt; buf, [97, 98, 99, 0, 0, 122, 9, 9]);
-        assert_eq!(rt; disk.cut(9), Ok(()));
         assert_eq!(rt; disk.cut(2), Ok(()));
         drop(disk);
         let mut again = FileDisk::new(&rt, String::from_str(rt.alloc(), name)?);
-        assert_eq!(rt; again.read(1, &mut buf), Ok(1));
-        assert_eq!(rt; buf[0], b'b');
         assert_eq!(rt; again.len(), Ok(2));
         fs::remove_file(&rt, name)?;
-        let nowhere = String::from_str(rt.alloc(), "no/such/directory/file")?;
-        let mut absent = FileDisk::new(&rt, nowhere);
+        let mut absent = FileDisk::new(&rt, String::from_str(rt.alloc(), "no/such/file")?);
         assert_eq!(rt; absent.sync(), Err(Failed));
-        assert_eq!(rt; absent.faults, 1);
+        assert_eq!(rt; absent.len(), Err(Failed));
+        assert_eq!(rt; absent.faults, 2);
         Ok(())
     }
 }

@@ -2,11 +2,13 @@
 //! crash may leave.
 ghost use Rattle.std.specs.Prelude.{◌≡◌, ◌<◌, ◌≤◌, ◌+◌, ◌-◌, [], ◌∷◌, ◌++◌, ◌^◌, List, ℕ, length, take, drop, true, is_ok, OnOk, OnErr, IfOk, Err, min, vec_len, vec_capacity};
 ghost use Rattle.std.specs.List.{list_all};
-ghost use Rattle.edge_kit.specs.Causes.{HasCause, Rose};
+ghost use Rattle.edge_kit.specs.Calls.{IsBegun, IsFailed};
+ghost use Rattle.edge_kit.specs.Causes.{next_count};
 ghost use Rattle.edge_kit.specs.Disks.{overwrite, Alike, Elapses, Follows, Same, Torn, Cut, ReadsAt};
-ghost use Rattle.edge_kit.specs.MemDisks.{is_change, after, crashed_after, content, crashed, LeavesAt, turn_of, is_working};
+ghost use Rattle.edge_kit.specs.MemDisks.{is_change, after, crashed_after, content, crashed, LeavesAt, turn_of, is_working, GoesBy};
 ghost use Rattle.edge_kit.specs.declared.mem_disk.DiskStep.TheVariants.{Wrote, Shortened, Synced};
 
+use crate::calls::Calls;
 use crate::disk::Disk;
 use crate::traits::Failed;
 use std::alloc::{AllocError, Global};
@@ -53,10 +55,9 @@ pub struct MemDisk {
     held: Vec<u8>,
     steps: Vec<DiskStep>,
     synced: usize,
-    calls: u64,
-    failing: Vec<u64>,
+    calls: Calls,
     stop: Option<u64>,
-    faults: u64,
+    lacks: u64,
     ghost current: { held.items ≡ content first.items steps.items },
     ghost within: { synced ≤ length steps.items },
     ghost durable: { (c : List ℕ) → LeavesAt first.items steps.items synced c → c ≡ content first.items (take synced steps.items) },
@@ -65,7 +66,8 @@ pub struct MemDisk {
 }
 
 impl MemDisk {
-    ghost use Rattle.edge_kit.specs.OnMemDisks.{disk_bytes, disk_steps, disk_calls, disk_failing, disk_stop, disk_faults, unsynced, image_of, Leaves};
+    ghost use Rattle.edge_kit.specs.Calls.{AreNew};
+    ghost use Rattle.edge_kit.specs.OnMemDisks.{first_bytes, disk_bytes, disk_steps, disk_calls, disk_stop, disk_lacks, unsynced, image_of, Leaves, HoldsSame};
 
     /// A disk of these bytes, all of them synced. The calls of these numbers fail. At the call `stop` it
     /// stops: a write or cut is still made and not synced, a sync isn't done; that call fails, and each later
@@ -77,11 +79,11 @@ impl MemDisk {
         stop: Option<u64>,
     ) -> Result<Self, AllocError>
         ensures bytes { IfOk result (λ d. disk_bytes d ≡ bytes.items) }
+        ensures first { IfOk result (λ d. first_bytes d ≡ bytes.items) }
         ensures synced { IfOk result (λ d. (disk_steps d ≡ []) × (unsynced d ≡ [])) }
-        ensures calls { IfOk result (λ d. disk_calls d ≡ 0) }
-        ensures failing { IfOk result (λ d. disk_failing d ≡ failing.items) }
+        ensures calls { IfOk result (λ d. AreNew (disk_calls d) failing.items) }
         ensures stop { IfOk result (λ d. disk_stop d ≡ stop) }
-        ensures faults { IfOk result (λ d. disk_faults d ≡ 0) }
+        ensures lacks { IfOk result (λ d. disk_lacks d ≡ 0) }
     {
         Ok(MemDisk {
             alloc,
@@ -89,10 +91,9 @@ impl MemDisk {
             held: bytes,
             steps: Vec::new(alloc),
             synced: 0,
-            calls: 0,
-            failing,
+            calls: Calls::new(failing),
             stop,
-            faults: 0,
+            lacks: 0,
         })
     }
 
@@ -112,19 +113,24 @@ impl MemDisk {
 
     /// How many calls have come.
     pub fn calls(&self) -> u64
-        ensures { result ≡ disk_calls self.now }
+        ensures { result ≡ (disk_calls self.now).count }
     {
-        self.calls
+        self.calls.count
+    }
+
+    /// At how many writes and cuts memory ran out. Each of these failed, and nothing was changed.
+    pub fn lacks(&self) -> u64
+        ensures { result ≡ disk_lacks self.now }
+    {
+        self.lacks
     }
 
     /// From here on it stops at the call of this number, or at none.
     pub fn stop_at(&mut self, stop: Option<u64>)
         ensures stop { disk_stop self.new ≡ stop }
-        ensures bytes { disk_bytes self.new ≡ disk_bytes self.old }
-        ensures steps { disk_steps self.new ≡ disk_steps self.old }
+        ensures holds { HoldsSame self.old self.new }
         ensures calls { disk_calls self.new ≡ disk_calls self.old }
-        ensures failing { disk_failing self.new ≡ disk_failing self.old }
-        ensures faults { disk_faults self.new ≡ disk_faults self.old }
+        ensures lacks { disk_lacks self.new ≡ disk_lacks self.old }
     {
         self.stop = stop;
     }
@@ -136,41 +142,34 @@ impl MemDisk {
     {
         let (done, unsynced) = self.steps.split_at(self.synced);
         let mut image = self.first.to_vec(alloc)?;
-        make_all(&mut image, done)?;
+        crash_all(&mut image, done, Crash::Written)?;
         crash_all(&mut image, unsynced, crash)?;
         Ok(image)
     }
 }
 
 // How the next call goes, which is counted.
-fn next_turn(calls: &mut u64, failing: &[u64], stop: Option<u64>) -> Turn
-    ensures turn { result ≡ turn_of calls.old failing.now stop }
-    ensures calls { calls.new ≡ min (calls.old + 1) (2 ^ 64 - 1) }
+fn next_turn(calls: &mut Calls, stop: Option<u64>) -> Turn
+    ensures turn { result ≡ turn_of calls.old.count calls.old.failing.items stop }
+    ensures begun { IsBegun calls.old calls.new }
 {
-    let call = *calls;
-    *calls = call.saturating_add(1);
-    if let Some(stop) = stop {
-        if call == stop {
-            return Turn::Stops;
-        }
-        if stop < call {
-            return Turn::Fails;
-        }
-    }
-    if failing.contains(&call) {
-        Turn::Fails
-    } else {
-        Turn::Works
+    let call = calls.count;
+    let is_listed = calls.begin();
+    match stop {
+        Some(stop) if call == stop => Turn::Stops,
+        Some(stop) if stop < call => Turn::Fails,
+        _ if is_listed => Turn::Fails,
+        _ => Turn::Works,
     }
 }
 
-// Counts a fault.
-fn fault(faults: &mut u64) -> Failed
-    ensures rose { Rose faults.old faults.new }
-    ensures later { faults.old ≤ faults.new }
+// Counts a change that fails for want of memory.
+fn lack(calls: &mut Calls, lacks: &mut u64) -> Failed
+    ensures lacks { lacks.new ≡ next_count lacks.old }
+    ensures calls { IsFailed calls.old calls.new }
 {
-    *faults = faults.saturating_add(1);
-    Failed
+    *lacks = lacks.saturating_add(1);
+    calls.fail()
 }
 
 // Writes bytes over the content.
@@ -228,15 +227,6 @@ fn crash_step(content: &mut Vec<u8>, step: &DiskStep, crash: Crash) -> Result<()
     Ok(())
 }
 
-fn make_all(image: &mut Vec<u8>, steps: &[DiskStep]) -> Result<(), AllocError>
-    ensures { OnOk result (image.new.items ≡ content image.old.items steps.now) }
-{
-    for step in steps {
-        make(image, step)?;
-    }
-    Ok(())
-}
-
 fn crash_all(image: &mut Vec<u8>, steps: &[DiskStep], crash: Crash) -> Result<(), AllocError>
     ensures { OnOk result (image.new.items ≡ crashed crash image.old.items steps.now) }
 {
@@ -270,7 +260,7 @@ fn change(steps: &mut Vec<DiskStep>, held: &mut Vec<u8>, step: DiskStep) -> Resu
 }
 
 impl Disk for MemDisk {
-    ghost use Rattle.edge_kit.specs.OnMemDisks.{works, Shows, moment as moment_of, Left, KeepsChange, KeepsSync, IsCalled};
+    ghost use Rattle.edge_kit.specs.OnMemDisks.{next_call, Shows, moment as moment_of, Left, IsCalled, Unmade, MadeAt, Lacked, KeepsSync};
 
     ghost shows = { λ d c. c ≡ d.held.items };
 
@@ -278,18 +268,18 @@ impl Disk for MemDisk {
 
     ghost leaves = { λ d k c. LeavesAt d.first.items d.steps.items k c };
 
-    ghost faults = { λ d. d.faults };
+    ghost faults = { λ d. d.calls.faults };
 
     fn len(&mut self) -> Result<u64, Failed>
         ensures len { IfOk result (λ n. (c : List ℕ) → Shows self.old c → n ≡ length c) }
         ensures shows { Alike (Shows self.old) (Shows self.new) }
         ensures time { Elapses Same (moment_of self.old) (moment_of self.new) (Left self.old) (Left self.new) }
-        ensures cause { HasCause self.old.faults self.new.faults result }
-        ensures works { is_ok result ≡ works self.old }
-        ensures called { IsCalled self.old self.new }
+        ensures same { Unmade self.old self.new }
+        ensures works { is_ok result ≡ is_working (next_call self.old) }
+        ensures called { IsCalled self.old self.new result }
     {
-        let Turn::Works = next_turn(&mut self.calls, &self.failing, self.stop) else {
-            return Err(fault(&mut self.faults));
+        let Turn::Works = next_turn(&mut self.calls, self.stop) else {
+            return Err(self.calls.fail());
         };
         Ok(self.held.len() as u64)
     }
@@ -300,12 +290,12 @@ impl Disk for MemDisk {
         ensures image { OnOk result ((c : List ℕ) → Shows self.old c → Left self.old (moment_of self.old) c) }
         ensures shows { Alike (Shows self.old) (Shows self.new) }
         ensures time { Elapses Same (moment_of self.old) (moment_of self.new) (Left self.old) (Left self.new) }
-        ensures cause { HasCause self.old.faults self.new.faults result }
-        ensures works { is_ok result ≡ works self.old }
-        ensures called { IsCalled self.old self.new }
+        ensures same { Unmade self.old self.new }
+        ensures works { is_ok result ≡ is_working (next_call self.old) }
+        ensures called { IsCalled self.old self.new result }
     {
-        let Turn::Works = next_turn(&mut self.calls, &self.failing, self.stop) else {
-            return Err(fault(&mut self.faults));
+        let Turn::Works = next_turn(&mut self.calls, self.stop) else {
+            return Err(self.calls.fail());
         };
         let from = at as usize;
         if from >= self.held.len() {
@@ -320,23 +310,21 @@ impl Disk for MemDisk {
     fn write_at(&mut self, at: u64, bytes: &[u8]) -> Result<(), Failed>
         ensures shows { OnOk result (Follows (λ d c. c ≡ overwrite at bytes.now d) (Shows self.old) (Shows self.new)) }
         ensures time { Elapses (Torn at (length bytes.now)) (moment_of self.old) (moment_of self.new) (Left self.old) (Left self.new) }
-        ensures cause { HasCause self.old.faults self.new.faults result }
-        ensures kept { OnOk result ((v : _) × (v.items ≡ bytes.now) × KeepsChange self.old self.new (Wrote at v)) }
-        ensures works { OnOk result (works self.old ≡ true) }
-        ensures called { IsCalled self.old self.new }
+        ensures goes { GoesBy (next_call self.old) result ((v : _) × (v.items ≡ bytes.now) × MadeAt self.old self.new (Wrote at v)) (Unmade self.old self.new) (Lacked self.old self.new) }
+        ensures called { IsCalled self.old self.new result }
     {
-        let turn = next_turn(&mut self.calls, &self.failing, self.stop);
+        let turn = next_turn(&mut self.calls, self.stop);
         if let Turn::Fails = turn {
-            return Err(fault(&mut self.faults));
+            return Err(self.calls.fail());
         }
         let Ok(kept) = bytes.to_vec(self.alloc) else {
-            return Err(fault(&mut self.faults));
+            return Err(lack(&mut self.calls, &mut self.lacks));
         };
         let Ok(()) = change(&mut self.steps, &mut self.held, DiskStep::Wrote(at, kept)) else {
-            return Err(fault(&mut self.faults));
+            return Err(lack(&mut self.calls, &mut self.lacks));
         };
         if let Turn::Stops = turn {
-            return Err(fault(&mut self.faults));
+            return Err(self.calls.fail());
         }
         Ok(())
     }
@@ -344,20 +332,18 @@ impl Disk for MemDisk {
     fn cut(&mut self, len: u64) -> Result<(), Failed>
         ensures shows { OnOk result (Follows (λ d c. c ≡ take len d) (Shows self.old) (Shows self.new)) }
         ensures time { Elapses (Cut len) (moment_of self.old) (moment_of self.new) (Left self.old) (Left self.new) }
-        ensures cause { HasCause self.old.faults self.new.faults result }
-        ensures kept { OnOk result (KeepsChange self.old self.new (Shortened len)) }
-        ensures works { OnOk result (works self.old ≡ true) }
-        ensures called { IsCalled self.old self.new }
+        ensures goes { GoesBy (next_call self.old) result (MadeAt self.old self.new (Shortened len)) (Unmade self.old self.new) (Lacked self.old self.new) }
+        ensures called { IsCalled self.old self.new result }
     {
-        let turn = next_turn(&mut self.calls, &self.failing, self.stop);
+        let turn = next_turn(&mut self.calls, self.stop);
         if let Turn::Fails = turn {
-            return Err(fault(&mut self.faults));
+            return Err(self.calls.fail());
         }
         let Ok(()) = change(&mut self.steps, &mut self.held, DiskStep::Shortened(len)) else {
-            return Err(fault(&mut self.faults));
+            return Err(lack(&mut self.calls, &mut self.lacks));
         };
         if let Turn::Stops = turn {
-            return Err(fault(&mut self.faults));
+            return Err(self.calls.fail());
         }
         Ok(())
     }
@@ -366,13 +352,13 @@ impl Disk for MemDisk {
         ensures durable { OnOk result ((c : List ℕ) → Left self.new (moment_of self.new) c → Shows self.old c) }
         ensures shows { Alike (Shows self.old) (Shows self.new) }
         ensures time { Elapses Same (moment_of self.old) (moment_of self.new) (Left self.old) (Left self.new) }
-        ensures cause { HasCause self.old.faults self.new.faults result }
         ensures kept { OnOk result (KeepsSync self.old self.new) }
-        ensures works { is_ok result ≡ works self.old }
-        ensures called { IsCalled self.old self.new }
+        ensures unmade { OnErr result (Unmade self.old self.new) }
+        ensures works { is_ok result ≡ is_working (next_call self.old) }
+        ensures called { IsCalled self.old self.new result }
     {
-        let Turn::Works = next_turn(&mut self.calls, &self.failing, self.stop) else {
-            return Err(fault(&mut self.faults));
+        let Turn::Works = next_turn(&mut self.calls, self.stop) else {
+            return Err(self.calls.fail());
         };
         if self.synced == self.steps.len() {
             return Ok(());

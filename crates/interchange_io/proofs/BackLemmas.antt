@@ -10,7 +10,7 @@ use Rattle.std.proofs.lemmas.Str.Parse.{digit_at}
 use Rattle.hex.proofs.HexLemmas.{decode_sized-encode_lower}
 use Rattle.serde_json.specs.Data.{Data}
 use Rattle.serde_json.specs.View.{items_of}
-use Rattle.edge_kit.specs.Texts.{is_quoted, quoted_number, hex_bytes}
+use Rattle.edge_kit.specs.Texts.{is_quoted, quoted_number, hex_bytes, hex_text}
 use Rattle.edge_kit.specs.declared.bytes.PubKey.{PubKey}
 use Rattle.edge_kit.specs.declared.bytes.Root.{Root}
 use Rattle.slash_defs.specs.declared.entry.BlockEntry.{BlockEntry}
@@ -22,7 +22,7 @@ use Rattle.interchange_io.specs.Steps.{each}
 use Rattle.interchange_io.specs.Reading.{block_in, vote_in, book_in, file_in}
 use Rattle.interchange_io.specs.Ranges.{AreBytes, RootFits, BlockFits, VoteFits, BookFits, FileFits}
 use Rattle.interchange_io.specs.United.{united}
-use Rattle.interchange_io.specs.Writing.{hex_text, block_data, vote_data, book_data, file_data}
+use Rattle.interchange_io.specs.Writing.{block_data, vote_data, book_data, file_data}
 
 -- ---- texts
 

@@ -1,4 +1,3 @@
-pub mod EachLemmas
 pub mod GatheredLemmas
 pub mod ResultLemmas
 pub mod TextLemmas
@@ -13,3 +12,5 @@ pub mod ReadsBackLemmas
 pub mod ContentLemmas
 pub mod UnitedLemmas
 pub mod FileLemmas
+mod HaltLemmas
+mod KeptLemmas

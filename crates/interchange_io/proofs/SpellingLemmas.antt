@@ -10,7 +10,8 @@ use Rattle.slash_defs.specs.declared.entry.BlockEntry.{BlockEntry}
 use Rattle.slash_defs.specs.declared.entry.VoteEntry.{VoteEntry}
 use Rattle.slash_defs.specs.declared.book.Book.{Book}
 use Rattle.slash_defs.specs.declared.book.File.{File}
-use Rattle.interchange_io.specs.Writing.{hex_text, block_data, vote_data, book_data, metadata_data, file_data}
+use Rattle.edge_kit.specs.Texts.{hex_text}
+use Rattle.interchange_io.specs.Writing.{block_data, vote_data, book_data, metadata_data, file_data}
 
 abbrev Bytes : Type 0
 Bytes = List ℕ

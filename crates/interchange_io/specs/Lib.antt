@@ -6,3 +6,5 @@ pub mod WrittenOrder
 pub mod Writing
 pub mod Ranges
 pub mod Contents
+pub mod Halts
+pub mod Found

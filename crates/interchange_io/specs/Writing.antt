@@ -1,6 +1,6 @@
 -- The one text of an interchange file (EIP-3076, JSON schema): compact JSON with its members in byte order.
-use Rattle.std.specs.Prelude.{ℕ, List, ◌++◌, map, Option, Some, None, codes, decimal}
-use Rattle.hex.specs.Hex.{encode_lower}
+use Rattle.std.specs.Prelude.{ℕ, List, map, Option, Some, None, codes, decimal}
+use Rattle.edge_kit.specs.Texts.{hex_text}
 use Rattle.serde_json.specs.Data.{Data, string, array, object, Members, no_members, member}
 use Rattle.serde_json.specs.View.{items_of}
 use Rattle.serde_json.specs.Written.{compact_text}
@@ -13,10 +13,6 @@ use Rattle.slash_defs.specs.declared.book.File.{File}
 use Rattle.interchange_io.specs.declared.member.Member.TheVariants as members
 use Rattle.interchange_io.specs.Members.{name_of}
 use Rattle.interchange_io.specs.WrittenOrder.{canonical}
-
--- `0x` and the digits in lower case
-abbrev pub hex_text : List ℕ → List ℕ
-hex_text bytes = codes "0x" ++ encode_lower bytes
 
 -- an absent root is left out
 abbrev pub with_root : Option Root → Members → Members

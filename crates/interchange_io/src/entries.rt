@@ -1,146 +1,195 @@
 //! The blocks and votes of a key.
-ghost use Rattle.std.specs.Prelude.{◌≡◌, option_map};
-ghost use Rattle.serde_json.specs.View.{view, items_view};
-ghost use Rattle.interchange_io.specs.Steps.{Gives, each};
-ghost use Rattle.interchange_io.specs.Reading.{text_of, object_in, number_in, root_of, signing_root_in, block_in, vote_in, blocks_in, votes_in};
+ghost use Rattle.std.specs.Prelude.{◌≡◌, ◌<◌, length, Some, OnOk};
+ghost use Rattle.serde_json.specs.Data.{object};
+ghost use Rattle.json_walk.specs.Walk.{Reads, value_at, items_at, members_at};
+ghost use Rattle.interchange_io.specs.Halts.{ReadsOrHalts};
+ghost use Rattle.interchange_io.specs.Steps.{each};
+ghost use Rattle.interchange_io.specs.Reading.{block_in, vote_in};
+ghost use Rattle.interchange_io.specs.Found.{block_from, vote_from, blocks_at, votes_at};
 
-use crate::fault::{ReadFault, Stop};
+use crate::fault::ReadFault;
+use crate::halt::Halt;
 use crate::member::Member;
-use edge_kit::{Items, Root, read_hex, read_quoted};
-use serde_json::Value;
+use crate::refusal::refuse_items;
+use crate::texts::{read_number, read_signing_root};
+use edge_kit::{Items, Root};
+use json::{Invalid, Reader};
+use json_walk::{Entered, enter_array, enter_object, skip};
 use slash_defs::{BlockEntry, VoteEntry};
 use std::alloc::Global;
 
-/// The text of a member, if it is one.
-pub(crate) fn text_of(value: &Value, member: Member) -> Option<&str>
-    ensures { option_map (λ text. text.now) result ≡ text_of member (view value.now) }
+fn block_of_parts(
+    slot: Result<u64, ReadFault>,
+    root: Result<Option<Root>, ReadFault>,
+) -> Result<BlockEntry, ReadFault>
+    ensures { result ≡ block_from slot root }
 {
-    value.get(member.name()).and_then(Value::as_str)
-}
-
-/// A value that has to be an object.
-pub(crate) fn want_object(value: &Value, member: Member) -> Result<(), ReadFault>
-    ensures { result ≡ object_in member (view value.now) }
-{
-    if value.is_object() {
-        Ok(())
-    } else {
-        Err(ReadFault::Missing(member))
+    match slot {
+        Ok(slot) => match root {
+            Ok(root) => Ok(BlockEntry { slot, root }),
+            Err(fault) => Err(fault),
+        },
+        Err(fault) => Err(fault),
     }
 }
 
-fn number_of(value: &Value, member: Member) -> Result<u64, ReadFault>
-    ensures { result ≡ number_in member (view value.now) }
+fn vote_of_parts(
+    source: Result<u64, ReadFault>,
+    target: Result<u64, ReadFault>,
+    root: Result<Option<Root>, ReadFault>,
+) -> Result<VoteEntry, ReadFault>
+    ensures { result ≡ vote_from source target root }
 {
-    let Some(text) = text_of(value, member) else {
-        return Err(ReadFault::Missing(member));
-    };
-    read_quoted(text).ok_or(ReadFault::BadNumber(member))
-}
-
-pub(crate) fn root_of(text: &str, member: Member) -> Result<Root, ReadFault>
-    ensures { result ≡ root_of member text.now }
-{
-    read_hex::<32>(text)
-        .map(Root)
-        .ok_or(ReadFault::BadHex(member))
-}
-
-fn signing_root_of(value: &Value) -> Result<Option<Root>, ReadFault>
-    ensures { result ≡ signing_root_in (view value.now) }
-{
-    let Some(member) = value.get(Member::SigningRoot.name()) else {
-        return Ok(None);
-    };
-    if member.is_null() {
-        return Ok(None);
+    match source {
+        Ok(source) => match target {
+            Ok(target) => match root {
+                Ok(root) => Ok(VoteEntry {
+                    target,
+                    source,
+                    root,
+                }),
+                Err(fault) => Err(fault),
+            },
+            Err(fault) => Err(fault),
+        },
+        Err(fault) => Err(fault),
     }
-    let Some(text) = member.as_str() else {
-        return Err(ReadFault::Missing(Member::SigningRoot));
-    };
-    let root = root_of(text, Member::SigningRoot)?;
-    Ok(Some(root))
 }
 
-fn block_of(value: &Value) -> Result<BlockEntry, ReadFault>
-    ensures { result ≡ block_in (view value.now) }
+fn read_block_members(
+    reader: &mut Reader<'_>,
+    depth: usize,
+) -> Result<Result<BlockEntry, ReadFault>, Invalid>
+    ensures value { Reads result (λ ms. block_in (object ms)) (members_at depth reader.old) reader.new }
+    ensures shorter { OnOk result (length reader.new < length reader.old) }
 {
-    want_object(value, Member::SignedBlocks)?;
-    let slot = number_of(value, Member::Slot)?;
-    let root = signing_root_of(value)?;
-    Ok(BlockEntry { slot, root })
+    let mut slot = Err(ReadFault::Missing(Member::Slot));
+    let mut root = Ok(None);
+    'members: while let Some(name) = reader.next_key()? {
+        if name == Member::Slot.name() {
+            slot = read_number(reader, depth, Member::Slot)?;
+        } else if name == Member::SigningRoot.name() {
+            root = read_signing_root(reader, depth)?;
+        } else {
+            skip(reader, depth)?;
+        }
+    }
+    Ok(block_of_parts(slot, root))
 }
 
-fn vote_of(value: &Value) -> Result<VoteEntry, ReadFault>
-    ensures { result ≡ vote_in (view value.now) }
+fn read_block(
+    reader: &mut Reader<'_>,
+    depth: usize,
+) -> Result<Result<BlockEntry, ReadFault>, Invalid>
+    ensures value { Reads result block_in (value_at depth reader.old) reader.new }
+    ensures shorter { OnOk result (length reader.new < length reader.old) }
 {
-    want_object(value, Member::SignedAttestations)?;
-    let source = number_of(value, Member::SourceEpoch)?;
-    let target = number_of(value, Member::TargetEpoch)?;
-    let root = signing_root_of(value)?;
-    Ok(VoteEntry {
-        target,
-        source,
-        root,
-    })
+    match enter_object(reader, depth)? {
+        Entered::Inside => read_block_members(reader, depth - 1),
+        Entered::Null => Ok(Err(ReadFault::Missing(Member::SignedBlocks))),
+        Entered::Other => Ok(Err(ReadFault::Missing(Member::SignedBlocks))),
+    }
 }
 
-fn block_list(alloc: Global, elements: &[Value]) -> Result<Items<BlockEntry>, Stop>
-    ensures { Gives result (each block_in (items_view elements.now)) }
+fn read_blocks(
+    alloc: Global,
+    reader: &mut Reader<'_>,
+    depth: usize,
+) -> Result<Result<Items<BlockEntry>, ReadFault>, Halt>
+    ensures value { ReadsOrHalts result (each block_in) (items_at depth (length reader.old) reader.old) reader.new }
+    ensures shorter { OnOk result (length reader.new < length reader.old) }
 {
     let mut blocks = Vec::new(alloc);
-    'elements: for element in elements {
-        let block = match block_of(element) {
-            Ok(block) => block,
-            Err(fault) => return Err(Stop::Fault(fault)),
-        };
-        blocks.push(block)?;
+    'items: while !reader.take_end_array() {
+        match read_block(reader, depth)? {
+            Ok(block) => blocks.push(block)?,
+            Err(fault) => return refuse_items(reader, depth, fault),
+        }
     }
-    Ok(Items::from_vec(blocks))
+    Ok(Ok(Items::from_vec(blocks)))
 }
 
-fn vote_list(alloc: Global, elements: &[Value]) -> Result<Items<VoteEntry>, Stop>
-    ensures { Gives result (each vote_in (items_view elements.now)) }
+/// The next value, the blocks of a key.
+pub(crate) fn read_block_list(
+    alloc: Global,
+    reader: &mut Reader<'_>,
+    depth: usize,
+) -> Result<Result<Items<BlockEntry>, ReadFault>, Halt>
+    ensures value { ReadsOrHalts result (λ d. blocks_at (Some d)) (value_at depth reader.old) reader.new }
+    ensures shorter { OnOk result (length reader.new < length reader.old) }
+{
+    match enter_array(reader, depth)? {
+        Entered::Inside => read_blocks(alloc, reader, depth - 1),
+        Entered::Null => Ok(Ok(Items::new(alloc))),
+        Entered::Other => Ok(Err(ReadFault::Missing(Member::SignedBlocks))),
+    }
+}
+
+fn read_vote_members(
+    reader: &mut Reader<'_>,
+    depth: usize,
+) -> Result<Result<VoteEntry, ReadFault>, Invalid>
+    ensures value { Reads result (λ ms. vote_in (object ms)) (members_at depth reader.old) reader.new }
+    ensures shorter { OnOk result (length reader.new < length reader.old) }
+{
+    let mut source = Err(ReadFault::Missing(Member::SourceEpoch));
+    let mut target = Err(ReadFault::Missing(Member::TargetEpoch));
+    let mut root = Ok(None);
+    'members: while let Some(name) = reader.next_key()? {
+        if name == Member::SourceEpoch.name() {
+            source = read_number(reader, depth, Member::SourceEpoch)?;
+        } else if name == Member::TargetEpoch.name() {
+            target = read_number(reader, depth, Member::TargetEpoch)?;
+        } else if name == Member::SigningRoot.name() {
+            root = read_signing_root(reader, depth)?;
+        } else {
+            skip(reader, depth)?;
+        }
+    }
+    Ok(vote_of_parts(source, target, root))
+}
+
+fn read_vote(reader: &mut Reader<'_>, depth: usize) -> Result<Result<VoteEntry, ReadFault>, Invalid>
+    ensures value { Reads result vote_in (value_at depth reader.old) reader.new }
+    ensures shorter { OnOk result (length reader.new < length reader.old) }
+{
+    match enter_object(reader, depth)? {
+        Entered::Inside => read_vote_members(reader, depth - 1),
+        Entered::Null => Ok(Err(ReadFault::Missing(Member::SignedAttestations))),
+        Entered::Other => Ok(Err(ReadFault::Missing(Member::SignedAttestations))),
+    }
+}
+
+fn read_votes(
+    alloc: Global,
+    reader: &mut Reader<'_>,
+    depth: usize,
+) -> Result<Result<Items<VoteEntry>, ReadFault>, Halt>
+    ensures value { ReadsOrHalts result (each vote_in) (items_at depth (length reader.old) reader.old) reader.new }
+    ensures shorter { OnOk result (length reader.new < length reader.old) }
 {
     let mut votes = Vec::new(alloc);
-    'elements: for element in elements {
-        let vote = match vote_of(element) {
-            Ok(vote) => vote,
-            Err(fault) => return Err(Stop::Fault(fault)),
-        };
-        votes.push(vote)?;
+    'items: while !reader.take_end_array() {
+        match read_vote(reader, depth)? {
+            Ok(vote) => votes.push(vote)?,
+            Err(fault) => return refuse_items(reader, depth, fault),
+        }
     }
-    Ok(Items::from_vec(votes))
+    Ok(Ok(Items::from_vec(votes)))
 }
 
-/// The blocks of an element of `data`.
-pub(crate) fn blocks_of(alloc: Global, value: &Value) -> Result<Items<BlockEntry>, Stop>
-    ensures { Gives result (blocks_in (view value.now)) }
+/// The next value, the votes of a key.
+pub(crate) fn read_vote_list(
+    alloc: Global,
+    reader: &mut Reader<'_>,
+    depth: usize,
+) -> Result<Result<Items<VoteEntry>, ReadFault>, Halt>
+    ensures value { ReadsOrHalts result (λ d. votes_at (Some d)) (value_at depth reader.old) reader.new }
+    ensures shorter { OnOk result (length reader.new < length reader.old) }
 {
-    let Some(member) = value.get(Member::SignedBlocks.name()) else {
-        return Ok(Items::new(alloc));
-    };
-    if member.is_null() {
-        return Ok(Items::new(alloc));
+    match enter_array(reader, depth)? {
+        Entered::Inside => read_votes(alloc, reader, depth - 1),
+        Entered::Null => Ok(Ok(Items::new(alloc))),
+        Entered::Other => Ok(Err(ReadFault::Missing(Member::SignedAttestations))),
     }
-    let Some(list) = member.as_array() else {
-        return Err(Stop::Fault(ReadFault::Missing(Member::SignedBlocks)));
-    };
-    block_list(alloc, list.as_slice())
-}
-
-/// The votes of an element of `data`.
-pub(crate) fn votes_of(alloc: Global, value: &Value) -> Result<Items<VoteEntry>, Stop>
-    ensures { Gives result (votes_in (view value.now)) }
-{
-    let Some(member) = value.get(Member::SignedAttestations.name()) else {
-        return Ok(Items::new(alloc));
-    };
-    if member.is_null() {
-        return Ok(Items::new(alloc));
-    }
-    let Some(list) = member.as_array() else {
-        return Err(Stop::Fault(ReadFault::Missing(Member::SignedAttestations)));
-    };
-    vote_list(alloc, list.as_slice())
 }

@@ -1,14 +1,19 @@
 //! EIP-3076 interchange files of format version 5, read and written.
 #![tactic(auto)]
 
+mod books;
 mod entries;
 mod fault;
 mod gathered;
+mod halt;
 mod in_order;
 mod laws;
 mod member;
+mod metadata;
 mod reading;
+mod refusal;
 mod sorted;
+mod texts;
 mod writing;
 
 pub use fault::{ReadFault, VersionText};

@@ -1,20 +1,29 @@
-//! Reading an interchange file.
-ghost use Rattle.std.specs.Prelude.{◌≡◌, IfOk};
-ghost use Rattle.serde_json.specs.View.{view, items_view};
+//! Reading an interchange file, in one pass over its text.
+ghost use Rattle.std.specs.Prelude.{◌≡◌, ◌<◌, length, IfOk, OnOk};
+ghost use Rattle.serde_json.specs.Data.{object};
+ghost use Rattle.serde_json.specs.Read.{read};
+ghost use Rattle.json_walk.specs.Walk.{value_at, members_at};
+ghost use Rattle.interchange_io.specs.Halts.{ReadsOrHalts};
 ghost use Rattle.interchange_io.specs.Steps.{Gives};
-ghost use Rattle.interchange_io.specs.Reading.{key_in, book_in, version_in, genesis_in, metadata_in, united_in, books_in, file_in, of_text, file_of};
+ghost use Rattle.interchange_io.specs.Reading.{file_in, of_data, of_text, file_of};
+ghost use Rattle.interchange_io.specs.Found.{file_from};
 
-use crate::entries::{blocks_of, root_of, text_of, votes_of, want_object};
-use crate::fault::{ReadFault, Stop, VersionText};
-use crate::gathered::Gathered;
+use crate::books::read_data;
+use crate::fault::{ReadFault, Stop};
+use crate::halt::Halt;
 use crate::member::Member;
-use edge_kit::{Items, PubKey, Root, read_hex};
-use serde_json::Value;
+use crate::metadata::read_metadata;
+use edge_kit::{Items, PubKey, Root};
+use json::{Reader, Scratch};
+use json_walk::{Entered, enter_object, skip};
 use slash_defs::{Book, File};
 use std::alloc::{AllocError, Global};
 
 /// The most bytes that an interchange file may have.
 pub const FILE_LIMIT: usize = 268_435_456;
+
+/// How deep arrays and objects may nest.
+const MAX_DEPTH: usize = 127;
 
 /// The file that the bytes are (EIP-3076, format version 5), or the first refusal in the order of the
 /// file. A key that is listed more than once stands at its first place with its lists one after another.
@@ -35,105 +44,88 @@ pub fn read(alloc: Global, bytes: &[u8]) -> Result<Result<File, ReadFault>, Allo
 fn read_text(alloc: Global, bytes: &[u8]) -> Result<File, Stop>
     ensures { Gives result (of_text bytes.now) }
 {
-    let Ok(text) = std::str::from_utf8(bytes) else {
+    let Ok(text) = simdutf8::basic::from_utf8(bytes) else {
         return Err(Stop::Fault(ReadFault::NotUtf8));
     };
-    match Value::from_str(alloc, text) {
-        Ok(value) => file_of(alloc, &value),
-        Err(error) => {
-            if error.is_memory() {
-                Err(Stop::Memory)
-            } else {
-                Err(Stop::Fault(ReadFault::Json))
-            }
+    file_of_text(alloc, text)
+}
+
+/// The file that a text is.
+fn file_of_text(alloc: Global, text: &str) -> Result<File, Stop>
+    ensures { Gives result (of_data (read text.now)) }
+{
+    let mut scratch = Scratch::new(alloc);
+    let Ok(mut reader) = Reader::new(text, &mut scratch) else {
+        return Err(Stop::Memory);
+    };
+    match read_file(alloc, &mut reader, MAX_DEPTH) {
+        Ok(file) => if reader.next().is_some() {
+            Err(Stop::Fault(ReadFault::Json))
+        } else {
+            stop_of(file)
+        },
+        Err(Halt::Memory) => Err(Stop::Memory),
+        Err(Halt::Json) => Err(Stop::Fault(ReadFault::Json)),
+    }
+}
+
+fn stop_of(file: Result<File, ReadFault>) -> Result<File, Stop>
+    ensures { Gives result file }
+{
+    match file {
+        Ok(file) => Ok(file),
+        Err(fault) => Err(Stop::Fault(fault)),
+    }
+}
+
+fn read_file_members(
+    alloc: Global,
+    reader: &mut Reader<'_>,
+    depth: usize,
+) -> Result<Result<File, ReadFault>, Halt>
+    ensures value { ReadsOrHalts result (λ ms. file_in (object ms)) (members_at depth reader.old) reader.new }
+    ensures shorter { OnOk result (length reader.new < length reader.old) }
+{
+    let mut metadata = Err(ReadFault::Missing(Member::Metadata));
+    let mut books = Err(ReadFault::Missing(Member::Data));
+    'members: while let Some(name) = reader.next_key()? {
+        if name == Member::Metadata.name() {
+            metadata = read_metadata(alloc, reader, depth)?;
+        } else if name == Member::Data.name() {
+            books = read_data(alloc, reader, depth)?;
+        } else {
+            skip(reader, depth)?;
         }
     }
+    Ok(file_of_parts(metadata, books))
 }
 
-fn file_of(alloc: Global, value: &Value) -> Result<File, Stop>
-    ensures { Gives result (file_in (view value.now)) }
+fn read_file(
+    alloc: Global,
+    reader: &mut Reader<'_>,
+    depth: usize,
+) -> Result<Result<File, ReadFault>, Halt>
+    ensures value { ReadsOrHalts result file_in (value_at depth reader.old) reader.new }
+    ensures shorter { OnOk result (length reader.new < length reader.old) }
 {
-    want_object(value, Member::File)?;
-    let genesis = metadata_of(alloc, value)?;
-    let books = books_of(alloc, value)?;
-    Ok(File { genesis, books })
-}
-
-fn metadata_of(alloc: Global, value: &Value) -> Result<Root, Stop>
-    ensures { Gives result (metadata_in (view value.now)) }
-{
-    let Some(metadata) = value.get(Member::Metadata.name()) else {
-        return Err(Stop::Fault(ReadFault::Missing(Member::Metadata)));
-    };
-    want_object(metadata, Member::Metadata)?;
-    want_version(alloc, metadata)?;
-    let genesis = genesis_of(metadata)?;
-    Ok(genesis)
-}
-
-fn want_version(alloc: Global, metadata: &Value) -> Result<(), Stop>
-    ensures { Gives result (version_in (view metadata.now)) }
-{
-    let Some(text) = text_of(metadata, Member::InterchangeFormatVersion) else {
-        return Err(Stop::Fault(ReadFault::Missing(Member::InterchangeFormatVersion)));
-    };
-    if text == "5" {
-        return Ok(());
+    match enter_object(reader, depth)? {
+        Entered::Inside => read_file_members(alloc, reader, depth - 1),
+        Entered::Null => Ok(Err(ReadFault::Missing(Member::File))),
+        Entered::Other => Ok(Err(ReadFault::Missing(Member::File))),
     }
-    let version = VersionText::new(String::from_str(alloc, text)?);
-    Err(Stop::Fault(ReadFault::Version(version)))
 }
 
-fn genesis_of(metadata: &Value) -> Result<Root, ReadFault>
-    ensures { result ≡ genesis_in (view metadata.now) }
+fn file_of_parts(
+    metadata: Result<Root, ReadFault>,
+    books: Result<Items<(PubKey, Book)>, ReadFault>,
+) -> Result<File, ReadFault>
+    ensures { result ≡ file_from metadata books }
 {
-    let Some(text) = text_of(metadata, Member::GenesisValidatorsRoot) else {
-        return Err(ReadFault::Missing(Member::GenesisValidatorsRoot));
-    };
-    root_of(text, Member::GenesisValidatorsRoot)
-}
-
-fn books_of(alloc: Global, value: &Value) -> Result<Items<(PubKey, Book)>, Stop>
-    ensures { Gives result (books_in (view value.now)) }
-{
-    let list = value.get(Member::Data.name()).and_then(Value::as_array);
-    let Some(elements) = list else {
-        return Err(Stop::Fault(ReadFault::Missing(Member::Data)));
-    };
-    book_list(alloc, elements.as_slice())
-}
-
-fn book_list(alloc: Global, elements: &[Value]) -> Result<Items<(PubKey, Book)>, Stop>
-    ensures { Gives result (united_in (items_view elements.now)) }
-{
-    let mut gathered = Gathered::new(alloc);
-    'elements: for element in elements {
-        let (key, book) = match book_of(alloc, element) {
-            Ok(read) => read,
-            Err(stop) => return Err(stop),
-        };
-        gathered.add(alloc, key, book)?;
+    match metadata {
+        Ok(genesis) => match books {
+            Ok(books) => Ok(File { genesis, books }),
+            Err(fault) => Err(fault),
+        },
+        Err(fault) => Err(fault),
     }
-    Ok(Items::from_vec(gathered.books))
-}
-
-fn book_of(alloc: Global, element: &Value) -> Result<(PubKey, Book), Stop>
-    ensures { Gives result (book_in (view element.now)) }
-{
-    want_object(element, Member::Data)?;
-    let key = key_of(element)?;
-    let blocks = blocks_of(alloc, element)?;
-    let votes = votes_of(alloc, element)?;
-    Ok((key, Book { blocks, votes }))
-}
-
-fn key_of(element: &Value) -> Result<PubKey, ReadFault>
-    ensures { result ≡ key_in (view element.now) }
-{
-    let Some(text) = text_of(element, Member::Pubkey) else {
-        return Err(ReadFault::Missing(Member::Pubkey));
-    };
-    read_hex::<48>(text)
-        .map(PubKey)
-        .ok_or(ReadFault::BadHex(Member::Pubkey))
 }

@@ -8,7 +8,8 @@ ghost use Rattle.hex.specs.Hex.{IsBytes};
 ghost use Rattle.interchange_io.specs.Ranges.{AreBytes, BlockFits, VoteFits, BookFits};
 ghost use Rattle.interchange_io.specs.Reading.{file_limit, file_of};
 ghost use Rattle.interchange_io.specs.WrittenOrder.{canonical};
-ghost use Rattle.interchange_io.specs.Writing.{hex_text, block_data, vote_data, book_data, metadata_data, file_text};
+ghost use Rattle.edge_kit.specs.Texts.{hex_text};
+ghost use Rattle.interchange_io.specs.Writing.{block_data, vote_data, book_data, metadata_data, file_text};
 
 use crate::sorted::{SortedBook, sorted_books};
 use edge_kit::{PubKey, Root};

@@ -1,6 +1,5 @@
 pub mod PieceLemmas
-pub mod ImageLemmas
 pub mod WholeLemmas
-pub mod ClosingLemmas
+pub mod OpeningLemmas
 pub mod MergeLemmas
 pub mod ShowLemmas

@@ -1,4 +1,5 @@
 pub mod Whole
-pub mod Unopened
+pub mod Views
+pub mod Openings
 pub mod Merging
 pub mod Showing

@@ -1,28 +1,36 @@
--- What `show` writes of a key.
+-- What `show` writes of a journal's keys.
 use Rattle.std.specs.Prelude.{◌≡◌, ◌⊎◌, ℕ, List, [], ◌++◌, flat_map, length, take, Option, Some, None, option_map, codes, decimal}
+use Rattle.std.specs.Map.{keys_of}
 use Rattle.std.specs.Io.KnownBytes.{Appends}
-use Rattle.hex.specs.Hex.{encode_lower}
 use Rattle.edge_kit.specs.Causes.{Rose}
+use Rattle.edge_kit.specs.Texts.{hex_text}
 use Rattle.edge_kit.specs.declared.bytes.PubKey.{PubKey}
 use Rattle.edge_kit.specs.declared.bytes.Root.{Root}
+use Rattle.edge_kit.specs.declared.disk.Disks.{Disks}
 use Rattle.protect_record.specs.Parts.{Parts}
 use Rattle.protect_record.specs.declared.floors.Floors.{Floors}
 use Rattle.record_replay.specs.declared.state.KeyState.{KeyState}
 use Rattle.record_replay.specs.declared.state.KeyState.TheVariants as state
 use Rattle.record_join.specs.Keys.{kept_of}
-use Rattle.check_sign.specs.Contents.{Contents}
-use Rattle.check_sign.specs.States.{State, DeskStands, MayOpen, key_state}
-use Rattle.check_sign.specs.declared.event.DeskEvent.{DeskEvent}
-use Rattle.session_run.specs.declared.status.Status.{Status}
-use Rattle.session_run.specs.declared.status.Status.TheVariants as status
+use Rattle.desk_machine.specs.States.{key_state}
+use Rattle.desk_machine.specs.declared.call.DeskCall.TheVariants as call
+use Rattle.desk_machine.specs.declared.call.DeskReply.{DeskReply}
+use Rattle.desk_machine.specs.declared.event.DeskEvent.{DeskEvent}
+use Rattle.check_sign.specs.Contents.{Contents, Seen}
+use Rattle.check_sign.specs.Standing.{MayOpen}
+use Rattle.check_sign.specs.Calls.{IsCallOf}
+use Rattle.program_end.specs.declared.limit.Limit.TheVariants as limit
+use Rattle.program_end.specs.declared.status.Status.{Status}
+use Rattle.program_end.specs.declared.status.Status.TheVariants as status
 use Rattle.command_line.specs.declared.planned.Plan.{Plan}
 use Rattle.command_line.specs.declared.planned.Plan.TheVariants as plan
-use Rattle.journal_commands.specs.Unopened.{NotOpened, HadDesk}
+use Rattle.journal_commands.specs.Views.{Output}
+use Rattle.journal_commands.specs.Openings.{EachImage, HadDesk, NotOpened}
 
 -- the plan is a showing's
 abbrev pub IsShow : Plan → Type 0
 IsShow (plan.Show genesis journal) = Unit {0}
-IsShow (plan.Session genesis journal fork) = ⊥
+IsShow (plan.Session genesis journal fork signer) = ⊥
 IsShow (plan.Merge genesis journal) = ⊥
 IsShow (plan.Shown text) = ⊥
 
@@ -32,10 +40,6 @@ state_word state.Known = codes "known"
 state_word state.Active = codes "active"
 state_word state.Closing = codes "closing"
 state_word state.Closed = codes "closed"
-
--- `0x` and the digits in lower case
-abbrev pub hex_text : List ℕ → List ℕ
-hex_text bytes = codes "0x" ++ encode_lower bytes
 
 -- a floor in decimal, `-` where there is none
 abbrev pub floor_text : Option ℕ → List ℕ
@@ -79,34 +83,39 @@ listed_text keys listed = flat_map (λ one. kept_text one.0 one.1 (kept_of keys 
 
 -- the lines of the keys of a desk, in key order
 abbrev pub show_text : Contents → List ℕ
-show_text desk = flat_map (λ kept. key_text kept.0 (key_state desk.states kept.0) kept.1) desk.keys
+show_text desk = flat_map (λ key. kept_text key (key_state desk.states key) (kept_of desk.keys key)) (keys_of desk.keys)
 
--- the desk stands for what it stood for, and has noted no more
-pub record StandsStill (before now : Contents) : Type 0 where
-  pub stands : (state : State) → DeskStands before state → DeskStands now state
-  pub unnoted : now.events ≡ before.events
+-- the output failed, or memory ran out
+abbrev pub IsCutShort : Output → Output → Status → Type 0
+IsCutShort before now status.WriteFault = Rose before.failed now.failed
+IsCutShort before now status.OutOfMemory = Unit {0}
+IsCutShort before now s = ⊥
 
--- a front of the lines of the desk's keys was written
-abbrev pub ShowsFront : Option (List ℕ) → Option (List ℕ) → Contents → Contents → Type 0
-ShowsFront held_before held_now before now = (state : State) → DeskStands before state → (n : ℕ) × Appends held_before held_now (take n (show_text now))
+-- the lines of these keys were all written; or a front of them, where it was cut short
+abbrev pub WritesLines : List ℕ → Output → Output → Status → Type 0
+WritesLines lines before now result =
+    ((result ≡ status.Done) × Appends before.held now.held lines)
+    ⊎ (IsCutShort before now result × ((n : ℕ) × Appends before.held now.held (take n lines)))
 
--- How the showing of a desk ends, status by status: its lines were written, or a front of them, where the output failed or memory
--- ran out.
-abbrev pub DeskShowEnds : Option (List ℕ) → Option (List ℕ) → ℕ → ℕ → Contents → Contents → Status → Type 0
-DeskShowEnds held_before held_now failed_before failed_now before now status.Done = (state : State) → DeskStands before state → Appends held_before held_now (show_text now)
-DeskShowEnds held_before held_now failed_before failed_now before now status.Usage = ⊥
-DeskShowEnds held_before held_now failed_before failed_now before now status.ReadFault = ⊥
-DeskShowEnds held_before held_now failed_before failed_now before now status.WriteFault = Rose failed_before failed_now × ShowsFront held_before held_now before now
-DeskShowEnds held_before held_now failed_before failed_now before now status.DiskFault = ⊥
-DeskShowEnds held_before held_now failed_before failed_now before now status.Damaged = ⊥
-DeskShowEnds held_before held_now failed_before failed_now before now status.GenesisDiffers = ⊥
-DeskShowEnds held_before held_now failed_before failed_now before now status.OutOfMemory = ShowsFront held_before held_now before now
-DeskShowEnds held_before held_now failed_before failed_now before now (status.InputTooLong l) = ⊥
-DeskShowEnds held_before held_now failed_before failed_now before now status.FileRefused = ⊥
+-- The desk was asked for its keys, and their lines were written.
+pub record DeskShowEnds {D : Type 0} (moment : D → ℕ) (leaves : D → ℕ → List ℕ → Type 0) (faults : D → ℕ) (before now : Output) (opened ended : Seen D) (result : Status) : Type 0 where
+  pub reply_is : DeskReply
+  pub called : IsCallOf moment leaves faults opened ended call.Keys reply_is
+  pub done_or_short : (result ≡ status.Done) ⊎ IsCutShort before now result
+  pub writes : WritesLines (show_text ended.contents) before now result
 
 -- how a showing ends: no desk was opened, or one was
-abbrev pub ShowEnds : {D : Type 0} → (D → List ℕ → Type 0) → (D → ℕ) → (D → ℕ → List ℕ → Type 0) → (D → ℕ) → Root → D → D → Option (List ℕ) → Option (List ℕ) → ℕ → ℕ → List DeskEvent → Status → Type 0
-ShowEnds shows moment leaves faults genesis first last held_before held_now failed_before failed_now events result =
-    NotOpened shows moment leaves faults genesis first last held_before held_now failed_before failed_now events result
-    ⊎ HadDesk shows moment leaves genesis first last events (MayOpen genesis)
-    (λ before now. StandsStill before now × DeskShowEnds held_before held_now failed_before failed_now before now result)
+abbrev pub ShowEnds : {D : Type 0} → (D → List ℕ → Type 0) → (D → ℕ) → (D → ℕ → List ℕ → Type 0) → (D → ℕ) → Root → Disks D → Disks D → Output → Output → List DeskEvent → Status → Type 0
+ShowEnds shows moment leaves faults genesis disks_before disks_now before now events result =
+    NotOpened shows moment leaves faults genesis disks_before disks_now before now events result
+    ⊎ HadDesk shows moment leaves faults genesis disks_before disks_now events
+    (λ opened ended. DeskShowEnds moment leaves faults before now opened ended result × EachImage moment leaves genesis disks_before disks_now (MayOpen genesis) opened)
+
+-- a showing in which nothing failed is done, or ends for want of memory or by what the journal holds
+abbrev pub IsShowComplete : Status → Type 0
+IsShowComplete status.Done = Unit {0}
+IsShowComplete status.OutOfMemory = Unit {0}
+IsShowComplete status.Damaged = Unit {0}
+IsShowComplete status.GenesisDiffers = Unit {0}
+IsShowComplete (status.InputTooLong limit.Keys) = Unit {0}
+IsShowComplete s = ⊥

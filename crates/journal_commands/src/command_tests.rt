@@ -2,7 +2,7 @@
 use crate::{run_merge, run_show};
 use command_line::{PathText, Plan};
 use edge_kit::{Disks, MemDisk, MemSink, MemSource, Root};
-use session_run::Status;
+use program_end::Status;
 use std::alloc::Global;
 use std::test::Fail;
 

@@ -1,22 +1,18 @@
 //! The keys of a journal, a line each.
-ghost use Rattle.std.specs.Prelude.{◌≡◌, ◌≢◌, ◌≤◌, ℕ, List, OnOk, OnErr, length, take, IfSome};
+ghost use Rattle.std.specs.Prelude.{◌≡◌, ◌≢◌, ◌≤◌, ℕ, List, OnOk, OnErr, length, take};
 ghost use Rattle.std.specs.Io.KnownBytes.{Appends};
 ghost use Rattle.edge_kit.specs.Causes.{Rose};
 ghost use Rattle.edge_kit.specs.declared.bytes.Root.{Root};
 ghost use Rattle.record_join.specs.Keys.{kept_of};
-ghost use Rattle.check_sign.specs.States.{State, DeskStands, MayOpen};
-ghost use Rattle.check_sign.specs.Machine.{IsGrantFor, Reply, key_states};
-ghost use Rattle.check_sign.specs.declared.call.DeskCall.{DeskCall};
-ghost use Rattle.session_run.specs.Images.{Leaves};
-ghost use Rattle.journal_commands.specs.Showing.{DeskShowEnds, IsShow, ShowEnds, StandsStill, kept_text, listed_text};
+ghost use Rattle.journal_commands.specs.Views.{output_of};
+ghost use Rattle.journal_commands.specs.Showing.{DeskShowEnds, IsShow, IsShowComplete, ShowEnds, kept_text, listed_text};
 
-use crate::closing::close_unopened;
 use crate::showing::key_line;
-use check_sign::{Desk, DeskReply, Events, KeyStates, Outcome};
+use crate::unopened::close_unopened;
+use check_sign::{Desk, DeskReply, Events, KeyState, Outcome};
 use command_line::Plan;
-use edge_kit::{Disk, Disks, Failed, PubKey, Root, Sink};
-use record_replay::KeyState;
-use session_run::{Status, write_all};
+use edge_kit::{Disk, Disks, Failed, PubKey, Sink};
+use program_end::{Status, write_all};
 use std::alloc::Global;
 
 /// Why not all lines are written.
@@ -42,29 +38,18 @@ pub fn run_show<D: Disk, O: Sink>(
     out: &mut O,
 ) -> (Status, Disks<D>, Events)
     requires { IsShow plan.now }
-    ensures ends { (genesis : Root) (journal : List ℕ) → plan.now ≡ Plan.Show genesis journal → ShowEnds D.shows D.moment D.leaves D.faults genesis disks.first result.1.first (O.held out.old) (O.held out.new) (O.faults out.old) (O.faults out.new) result.2 result.0 }
+    ensures ends { (genesis : Root) (journal : List ℕ) → plan.now ≡ Plan.Show genesis journal → ShowEnds D.shows D.moment D.leaves D.faults genesis disks result.1
+        (output_of O.held O.faults out.old) (output_of O.held O.faults out.new) result.2 result.0 }
     ensures second { result.1.second ≡ disks.second }
     ensures read_fault { result.0 ≢ Status.ReadFault }
     ensures write_fault { result.0 ≡ Status.WriteFault → Rose (O.faults out.old) (O.faults out.new) }
     ensures disk_fault { result.0 ≡ Status.DiskFault → Rose (D.faults disks.first) (D.faults result.1.first) }
+    ensures complete { ¬ (Rose (O.faults out.old) (O.faults out.new)) → ¬ (Rose (D.faults disks.first) (D.faults result.1.first)) → IsShowComplete result.0 }
 {
     let Plan::Show { genesis, .. } = plan else {
         unreachable!()
     };
-    show_into(alloc, *genesis, disks, out)
-}
-
-/// Opens the desk, and writes its keys.
-fn show_into<D: Disk, O: Sink>(
-    alloc: Global,
-    genesis: Root,
-    disks: Disks<D>,
-    out: &mut O,
-) -> (Status, Disks<D>, Events)
-    ensures ends { ShowEnds D.shows D.moment D.leaves D.faults genesis disks.first result.1.first (O.held out.old) (O.held out.new) (O.faults out.old) (O.faults out.new) result.2 result.0 }
-    ensures second { result.1.second ≡ disks.second }
-{
-    let mut desk = match Desk::open(alloc, disks, genesis, false, 0) {
+    let mut desk = match Desk::open(alloc, disks, *genesis, false, 0) {
         Ok(desk) => desk,
         Err((fault, disks)) => {
             let status = close_unopened(alloc, out, fault);
@@ -78,34 +63,14 @@ fn show_into<D: Disk, O: Sink>(
 
 /// Writes the keys of a desk.
 fn show_desk<D: Disk, O: Sink>(alloc: Global, desk: &mut Desk<D>, out: &mut O) -> Status
-    ensures ends { DeskShowEnds (O.held out.old) (O.held out.new) (O.faults out.old) (O.faults out.new) desk.old.contents desk.new.contents result }
-    ensures still { StandsStill desk.old.contents desk.new.contents }
-    // A crash at any moment leaves a file that opens to what lasts.
-    ensures moments { Leaves D.moment D.leaves (MayOpen desk.old.contents.genesis) desk.old desk.new }
-    ensures second { desk.new.second ≡ desk.old.second }
+    ensures ends { DeskShowEnds D.moment D.leaves D.faults (output_of O.held O.faults out.old) (output_of O.held O.faults out.new) desk.old desk.new result }
 {
-    let Some(listed) = list_keys(desk) else {
-        return Status::OutOfMemory;
-    };
-    match show_keys(alloc, desk, listed.as_slice(), out) {
-        Ok(()) => Status::Done,
-        Err(Unshown::Memory) => Status::OutOfMemory,
-        Err(Unshown::Write) => Status::WriteFault,
-    }
-}
-
-/// The keys with their states, where memory did not run out. Other replies do not come.
-fn list_keys<D: Disk>(desk: &mut Desk<D>) -> Option<KeyStates>
-    ensures listed { IfSome result (λ listed. (state : State) → DeskStands desk.old.contents state → listed ≡ key_states state) }
-    ensures still { StandsStill desk.old.contents desk.new.contents }
-    ensures moments { Leaves D.moment D.leaves (MayOpen desk.old.contents.genesis) desk.old desk.new }
-    ensures second { desk.new.second ≡ desk.old.second }
-{
-    match ask_keys(desk) {
-        DeskReply::Keys(listed) => Some(listed),
+    let listed = match desk.keys() {
+        DeskReply::Keys(listed) => listed,
+        DeskReply::OutOfMemory => return Status::OutOfMemory,
         DeskReply::Granted(grant) => {
             desk.settle(grant, Outcome::Dropped);
-            None
+            unreachable!()
         }
         DeskReply::Active
         | DeskReply::Already
@@ -115,31 +80,24 @@ fn list_keys<D: Disk>(desk: &mut Desk<D>) -> Option<KeyStates>
         | DeskReply::Unknown
         | DeskReply::NotActive
         | DeskReply::Closing
-        | DeskReply::Disk
-        | DeskReply::OutOfMemory => None,
-        DeskReply::Merged { keys: _ } => None,
-        DeskReply::Closed(_) => None,
-        DeskReply::Exported(_) => None,
-        DeskReply::Pruned(_) => None,
-        DeskReply::HasFailed(_) => None,
-        DeskReply::GenesisDiffers { kept: _, given: _ } => None,
-        DeskReply::NotClosing(_) => None,
-        DeskReply::Busy { grants: _ } => None,
-        DeskReply::Refused(_) => None,
-        DeskReply::TooManyKeys { have: _, new: _ } => None,
-        DeskReply::Full { size: _, wanted: _ } => None,
+        | DeskReply::Disk => unreachable!(),
+        DeskReply::Merged { keys: _ } => unreachable!(),
+        DeskReply::GenesisDiffers { kept: _, given: _ } => unreachable!(),
+        DeskReply::Busy { grants: _ } => unreachable!(),
+        DeskReply::TooManyKeys { have: _, new: _ } => unreachable!(),
+        DeskReply::Full { size: _, wanted: _ } => unreachable!(),
+        DeskReply::Closed(_) => unreachable!(),
+        DeskReply::Exported(_) => unreachable!(),
+        DeskReply::Pruned(_) => unreachable!(),
+        DeskReply::HasFailed(_) => unreachable!(),
+        DeskReply::NotClosing(_) => unreachable!(),
+        DeskReply::Refused(_) => unreachable!(),
+    };
+    match show_keys(alloc, desk, listed.as_slice(), out) {
+        Ok(()) => Status::Done,
+        Err(Unshown::Memory) => Status::OutOfMemory,
+        Err(Unshown::Write) => Status::WriteFault,
     }
-}
-
-/// Asks the desk for its keys.
-fn ask_keys<D: Disk>(desk: &mut Desk<D>) -> DeskReply
-    ensures reply { (state : State) → DeskStands desk.old.contents state → Reply state DeskCall.Keys result }
-    ensures granted { IsGrantFor DeskCall.Keys result }
-    ensures still { StandsStill desk.old.contents desk.new.contents }
-    ensures moments { Leaves D.moment D.leaves (MayOpen desk.old.contents.genesis) desk.old desk.new }
-    ensures second { desk.new.second ≡ desk.old.second }
-{
-    desk.keys()
 }
 
 /// Writes the lines of these keys in these states.

@@ -1,7 +1,6 @@
 //! Commands on a journal: a file that is merged into it, and what is written of each of its keys.
 #![tactic(auto)]
 
-mod closing;
 #[cfg(test)]
 mod command_tests;
 mod keys;
@@ -9,10 +8,11 @@ mod merge;
 mod showing;
 #[cfg(test)]
 mod tests;
+mod unopened;
 mod whole;
 
-pub use closing::{close_unopened, open_fault_line};
 pub use keys::run_show;
 pub use merge::run_merge;
 pub use showing::key_line;
+pub use unopened::close_unopened;
 pub use whole::{WholeFault, read_whole};

@@ -1,8 +1,8 @@
 //! One line of what a journal has of a key.
 ghost use Rattle.std.specs.Prelude.{◌≡◌, ◌++◌, length, OnOk, IfOk, decimal, string_bytes};
-ghost use Rattle.journal_commands.specs.Showing.{key_text, state_word, hex_text, floor_text, source_floor, target_floor, counts_text, floors_text};
+ghost use Rattle.journal_commands.specs.Showing.{key_text, state_word, floor_text, source_floor, target_floor, counts_text, floors_text};
 
-use edge_kit::PubKey;
+use edge_kit::{PubKey, push_hex};
 use protect_record::{Floors, Record};
 use record_replay::KeyState;
 use std::alloc::{AllocError, Global};
@@ -42,14 +42,6 @@ fn state_name(state: KeyState) -> &'static str
         KeyState::Closing => "closing",
         KeyState::Closed => "closed",
     }
-}
-
-/// `0x` and the digits of the bytes.
-fn push_hex(alloc: Global, out: &mut String, bytes: &[u8]) -> Result<(), AllocError>
-    ensures { OnOk result (string_bytes out.new ≡ string_bytes out.old ++ hex_text bytes.now) }
-{
-    let digits = hex::encode(alloc, bytes)?;
-    push_two(out, "0x", digits.as_str())
 }
 
 /// How many blocks and votes are kept.

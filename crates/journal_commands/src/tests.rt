@@ -42,7 +42,7 @@ fn a_key_has_its_line(rt: HostRuntime) -> Result<(), Fail> {
             root: None,
         })?;
     }
-    let kept = Record::of_parts(floors, blocks, votes);
+    let kept = Record::of_parts(floors, blocks, votes)?;
     let counted = "blocks 1 votes 2 floor_slot 100 floor_source 7 floor_target 9\n";
     for (state, word) in [
         (KeyState::Active, " active "),

@@ -12,7 +12,7 @@ use Rattle.hex.proofs.HexLemmas.{decode_of-encode_lower}
 use Rattle.ssz_roots.specs.Packing.{bits_value, bit_bytes}
 use Rattle.ssz_roots.specs.PackingLaws.{bit_bytes-more, get_or-bit_bytes}
 use Rattle.phase0_types.specs.Reading.{bits_of, with_first, before_last_set, ends_in_a_bit, bits_of_bytes, bits_of_text}
-use Rattle.phase0_types.specs.Writing.{hex_text}
+use Rattle.edge_kit.specs.Texts.{hex_text}
 
 -- ---- the bits of a byte
 

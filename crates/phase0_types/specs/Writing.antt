@@ -1,16 +1,12 @@
 -- The JSON that writes a value of a shape (Beacon API).
 use Rattle.std.specs.Prelude.{ℕ, List, [], ◌∷◌, ◌++◌, map, true, codes, decimal}
-use Rattle.hex.specs.Hex.{encode_lower}
+use Rattle.edge_kit.specs.Texts.{hex_text}
 use Rattle.serde_json.specs.Data.{Data, string, array, object, Members, no_members, put}
 use Rattle.serde_json.specs.View.{items_of}
 use Rattle.ssz_roots.specs.Packing.{bit_bytes}
 use Rattle.phase0_types.specs.Shapes.{Shape, byte_vector, uint64, bit_list, uint64_list, list, vector, container, Fields, no_fields, field}
 use Rattle.phase0_types.specs.Values.{ValueOf, FieldsOf}
 use Rattle.phase0_types.specs.Members.{member_name}
-
--- bytes as hex
-abbrev pub hex_text : List ℕ → List ℕ
-hex_text bytes = codes "0x" ++ encode_lower bytes
 
 unfoldable mutual
   pub write : (shape : Shape) → ValueOf shape → Data

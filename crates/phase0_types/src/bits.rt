@@ -6,11 +6,11 @@ ghost use Rattle.phase0_types.specs.Reading.{before_last_set, bits_of, bits_of_b
 ghost use Rattle.phase0_types.specs.Shapes.{bit_list};
 
 use crate::fault::{ReadFault, bad_hex, too_long};
-use crate::leaves::{hex_of, read_text};
+use crate::leaves::read_text;
 use crate::list::BoundedList;
 use crate::member::Member;
 use crate::shaped::{ReadResult, Shaped};
-use edge_kit::Root;
+use edge_kit::{Root, hex_text};
 use hex::FromHexError;
 use serde_json::Value;
 use ssz_roots::{bits_root, mix_length, pack_bits};
@@ -46,7 +46,7 @@ impl<const LIMIT: usize> Shaped for BoundedList<bool, LIMIT> {
         let mut bits = Vec::from_slice(alloc, self.as_slice())?;
         bits.push(true)?;
         let bytes = pack_bits(alloc, bits.as_slice())?;
-        Ok(Value::String(hex_of(alloc, bytes.as_slice())?))
+        Ok(Value::String(hex_text(alloc, bytes.as_slice())?))
     }
 
     ghost names = { bit_list_names LIMIT };

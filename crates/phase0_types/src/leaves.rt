@@ -1,18 +1,16 @@
 //! Numbers and byte arrays as values of their shapes.
 ghost use Rattle.std.specs.Prelude.{◌≡◌, IfOk, option_map, string_bytes};
-ghost use Rattle.hex.specs.Hex.{IsBytes};
 ghost use Rattle.serde_json.specs.View.{view};
 ghost use Rattle.phase0_types.specs.Shapes.{byte_vector, uint64};
 ghost use Rattle.phase0_types.specs.Names.{bytes_names, uint64_names};
 ghost use Rattle.phase0_types.specs.Faults.{read_as};
 ghost use Rattle.phase0_types.specs.Roots.{root_of};
 ghost use Rattle.phase0_types.specs.Reading.{text_at, number_at, bytes_at};
-ghost use Rattle.phase0_types.specs.Writing.{hex_text};
 
 use crate::fault::{ReadFault, bad_hex, bad_number, missing};
 use crate::member::Member;
 use crate::shaped::{ReadResult, Shaped};
-use edge_kit::{PubKey, Root, Sig, read_hex, read_quoted};
+use edge_kit::{PubKey, Root, Sig, hex_text, read_hex, read_quoted};
 use serde_json::Value;
 use ssz_roots::{bytes_root, number_root};
 use std::alloc::{AllocError, Global};
@@ -54,7 +52,7 @@ impl<const N: usize> Shaped for [u8; N] {
     }
 
     fn to_json(&self, alloc: Global) -> Result<Value, AllocError> {
-        Ok(Value::String(hex_of(alloc, self.as_slice())?))
+        Ok(Value::String(hex_text(alloc, self.as_slice())?))
     }
 
     ghost names = { bytes_names N };
@@ -160,15 +158,4 @@ fn read_bytes<const N: usize>(place: Option<Member>, json: &Value) -> Result<[u8
         Some(bytes) => Ok(bytes),
         None => Err(bad_hex(place)),
     }
-}
-
-/// Bytes as `0x` and hex digits.
-pub fn hex_of(alloc: Global, bytes: &[u8]) -> Result<String, AllocError>
-    ensures text { IfOk result (λ text. string_bytes text ≡ hex_text bytes.now) }
-    ensures bytes { IsBytes bytes.now }
-{
-    let digits = hex::encode(alloc, bytes)?;
-    let mut text = String::from_str(alloc, "0x")?;
-    text.push_str(digits.as_str())?;
-    Ok(text)
 }

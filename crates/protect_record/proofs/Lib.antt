@@ -12,3 +12,4 @@ pub mod GainLemmas
 pub mod ExportLemmas
 pub mod PruneLemmas
 pub mod PlaceLemmas
+pub mod MergeLemmas

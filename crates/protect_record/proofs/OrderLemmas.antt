@@ -1,14 +1,16 @@
 -- Lists in an order: the first that passes, and one element more at its place.
 use Rattle.std.proofs.Common.{◌≡◌, ◌≢◌, ℕ, ◌+◌, ◌-◌, ◌<◌, ◌≤◌, ◌⊎◌, inl, inr, Bool, true, cond, List, length, get_or, sym, ◌∙◌, ap, subst, arith, Contains}
 use Rattle.std.specs.Prelude.{insert}
-use Rattle.std.specs.List.Sorted.{IsPartitionPoint, IsNonDecreasingBy, IsSortedBy}
+use Rattle.std.specs.List.{remove}
+use Rattle.std.specs.List.Sorted.{IsPartitionPoint, IsNonDecreasingBy, IsSorted}
 use Rattle.std.specs.Ordering.{ordering_reverse, ordering_index, is_lt}
 use Rattle.std.specs.declared.cmp.Ordering.{Ordering}
 use Rattle.std.specs.declared.cmp.Ordering.TheVariants.{Less, Equal, Greater}
 use Rattle.std.specs.Cmp.{IsTotalOrder}
 use Rattle.std.proofs.lemmas.Bool.{cases_order, cases_lt}
 use Rattle.std.proofs.lemmas.Cmp.{tied_itself}
-use Rattle.std.proofs.lemmas.List.Edits.{length-insert, get_or-insert_below, get_or-insert_at, get_or-insert_above}
+use Rattle.std.proofs.lemmas.List.{ext_get_or}
+use Rattle.std.proofs.lemmas.List.Edits.{length-insert, length-remove, get_or-insert_below, get_or-insert_at, get_or-insert_above, get_or-remove_below, get_or-remove_above}
 use Rattle.std.proofs.lemmas.List.Sorted.{searchable_from_sorted}
 use Rattle.protect_record.specs.Order.{IsInOrder, IsFirst}
 use Rattle.protect_record.specs.Changes.{HasJoined}
@@ -43,12 +45,14 @@ first_found {X} cmp total P xs up i x within at none here = record {
       let back : cmp other x ≡ Greater = greater_from_less cmp total x other after in
       cc
 
+-- in order is sorted
+pub sorted_in_order : {X : Type 0} (cmp : X → X → Ordering) → IsTotalOrder cmp → (xs : List X) → IsInOrder cmp xs → IsSorted cmp xs
+sorted_in_order cmp total xs up k d low within = ap is_lt (greater_from_less cmp total (get_or xs k d) (get_or xs (k + 1) d) (up k (k + 1) d (omega arith) within))
+
 -- in order, a search by the order has what it asks for
 pub searchable : {X : Type 0} (cmp : X → X → Ordering) → IsTotalOrder cmp → (xs : List X) (x : X) → IsInOrder cmp xs
     → IsNonDecreasingBy (λ y. ordering_index (cmp y x)) xs
-searchable {X} cmp total xs x up = searchable_from_sorted total (λ y. y) xs x sorted where
-  sorted : IsSortedBy (λ a b. is_lt (cmp a b)) xs
-  sorted k d low within = ap is_lt (greater_from_less cmp total (get_or xs k d) (get_or xs (k + 1) d) (up k (k + 1) d (omega arith) within))
+searchable {X} cmp total xs x up = searchable_from_sorted total (λ y. y) xs x (sorted_in_order cmp total xs up)
 
 -- an element that goes between those before it and those behind it
 pub joined : {X : Type 0} (cmp : X → X → Ordering) → IsTotalOrder cmp → (xs ys : List X) (i : ℕ) (x : X) → IsInOrder cmp xs → i ≤ length xs
@@ -116,3 +120,26 @@ joined_already {X} cmp xs ys x up has is = subst (λ (zs : List X). HasJoined cm
   back : (e : X) → Contains xs e ⊎ (e ≡ x) → Contains xs e
   back e (inl h) = h
   back e (inr same) = subst (λ (y : X). Contains xs y) (sym same) has
+
+-- without what was put in the list is what it was
+removed_again : {X : Type 0} (xs : List X) (i : ℕ) (x : X) → i ≤ length xs → remove (insert xs i x) i ≡ xs
+removed_again {X} xs i x le = ext_get_or x (remove (insert xs i x) i) xs (omega (arith, grown, shorter)) (λ k lt. at k (cases_lt k i)) where
+  grown : length (insert xs i x) ≡ length xs + 1
+  grown = length-insert xs i x le
+
+  within : i < length (insert xs i x)
+  within = omega (arith, grown)
+
+  shorter : length (remove (insert xs i x) i) + 1 ≡ length (insert xs i x)
+  shorter = length-remove (insert xs i x) i within
+
+  at : (k : ℕ) → (k < i) ⊎ (i ≤ k) → get_or (remove (insert xs i x) i) k x ≡ get_or xs k x
+  at k (inl below) = get_or-remove_below (insert xs i x) i x k below within ∙ get_or-insert_below xs i x x k below le
+  at k (inr above) = get_or-remove_above (insert xs i x) i x k above within ∙ get_or-insert_above xs i x x k above le
+
+-- the place of what was put in, where the search went over a lent part that is the whole list
+pub put_at : {X : Type 0} (xs zs ys : List X) (i : ℕ) (x : X) → zs ≡ xs → i ≤ length zs → (b : Bool) → b ≡ true → ys ≡ cond b (insert xs i x) xs → (i < length ys) × (remove ys i ≡ xs)
+put_at {X} xs zs ys i x same within b ok is =
+    let le : i ≤ length xs = subst (λ (ws : List X). i ≤ length ws) same within in
+    let put : ys ≡ insert xs i x = is ∙ ap (λ c. cond c (insert xs i x) xs) ok in
+    (omega (arith, ap length put, length-insert xs i x le), ap (λ ws. remove ws i) put ∙ removed_again xs i x le)

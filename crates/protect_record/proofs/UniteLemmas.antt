@@ -1,5 +1,5 @@
 -- Lists in order with more elements, and without some.
-use Rattle.std.proofs.Common.{◌≡◌, ℕ, suc, ◌+◌, ◌<◌, ◌≤◌, ◌⊎◌, inl, inr, Bool, true, false, not, cond, List, [], ◌∷◌, ◌++◌, length, get_or, take, refl, sym, ◌∙◌, ap, subst, arith, All, Contains, filter}
+use Rattle.std.proofs.Common.{◌≡◌, ℕ, suc, ◌+◌, ◌⊎◌, inl, inr, Bool, true, false, not, cond, List, [], ◌∷◌, ◌++◌, length, take, drop, length-append, append_assoc, ◌↔◌, refl, sym, ◌∙◌, ap, subst, arith, All, Contains, filter}
 use Rattle.std.specs.List.{dedup}
 use Rattle.std.specs.List.Sorted.{IsPermutation, IsSorted, IsStrictlySortedBy}
 use Rattle.std.specs.Ordering.{eq_by_cmp}
@@ -9,13 +9,13 @@ use Rattle.std.specs.Cmp.{IsTotalOrder, IsEquivalence}
 use Rattle.std.proofs.lemmas.Bool.{cases_Bool}
 use Rattle.std.proofs.lemmas.Map.Lookups.{CmpEqualImpliesEq}
 use Rattle.std.proofs.lemmas.Map.Views.{tells_apart}
-use Rattle.std.proofs.lemmas.List.{take_more, take_all}
-use Rattle.std.proofs.lemmas.List.Elements.{All-contains, All-filter, All-contains_itself, filter_passes, All-from_recursion, Contains-append_left, Contains-append_right, Contains-append_cases, Contains-push, Contains-push_cases}
+use Rattle.std.proofs.Math.Seq.{take-append_seam, drop-append_seam}
+use Rattle.std.proofs.lemmas.List.Elements.{All-contains, All-filter, All-contains_itself, filter_passes, All-from_recursion}
 use Rattle.std.proofs.lemmas.List.Kept.{AllPairs-cons, AllPairs-filter, Contains-dedup, Contains-from_dedup, IsStrictlySortedBy-dedup}
 use Rattle.std.proofs.lemmas.List.Sorted.{Contains-permutation, IsPermutation-sym}
 use Rattle.protect_record.specs.Order.{IsInOrder}
-use Rattle.protect_record.specs.Changes.{HasJoined}
 use Rattle.protect_record.specs.Gathering.{HasUnited, HasDropped, HasGathered}
+use Rattle.protect_record.specs.Merging.{HasMerged}
 use Rattle.protect_record.proofs.MemberLemmas.{contains_first, contains_later, contains_cases, contains_none}
 use Rattle.protect_record.proofs.OrderLemmas.{not_before_itself}
 
@@ -83,32 +83,6 @@ united_none {X} cmp xs up = record {
   back e (inl has) = has
   back e (inr has) = contains_none e has
 
--- united with one more
-pub united_more : {X : Type 0} (cmp : X → X → Ordering) (old more mid new : List X) (i : ℕ) (x : X) → i < length more → x ≡ get_or more i x
-    → HasUnited cmp old (take i more) mid → HasJoined cmp mid new x → HasUnited cmp old (take (i + 1) more) new
-united_more {X} cmp old more mid new i x lt at united joins = subst (λ (xs : List X). HasUnited cmp old xs new) (sym (take_more more i x lt ∙ ap (λ y. take i more ++ y ∷ []) (sym at))) (record {
-  elements = λ e. (λ has. forth e ((joins.elements e).0 has), λ h. (joins.elements e).1 (back e h));
-  in_order = joins.in_order;
-}) where
-  kept : (e : X) → Contains old e ⊎ Contains (take i more) e → Contains old e ⊎ Contains (take i more ++ x ∷ []) e
-  kept e (inl h) = inl h
-  kept e (inr h) = inr (Contains-append_left (take i more) (x ∷ []) e h)
-
-  forth : (e : X) → Contains mid e ⊎ (e ≡ x) → Contains old e ⊎ Contains (take i more ++ x ∷ []) e
-  forth e (inl h) = kept e ((united.elements e).0 h)
-  forth e (inr same) = inr (subst (λ (y : X). Contains (take i more ++ x ∷ []) y) (sym same) (Contains-push (take i more) x))
-
-  split : (e : X) → Contains (take i more) e ⊎ (x ≡ e) → Contains mid e ⊎ (e ≡ x)
-  split e (inl h) = inl ((united.elements e).1 (inr h))
-  split e (inr same) = inr (sym same)
-
-  back : (e : X) → Contains old e ⊎ Contains (take i more ++ x ∷ []) e → Contains mid e ⊎ (e ≡ x)
-  back e (inl h) = inl ((united.elements e).1 (inl h))
-  back e (inr h) = split e (Contains-push_cases (take i more) x e h)
-
-pub united_all : {X : Type 0} (cmp : X → X → Ordering) (old more new : List X) (i : ℕ) → length more ≤ i → HasUnited cmp old (take i more) new → HasUnited cmp old more new
-united_all {X} cmp old more new i past united = subst (λ (xs : List X). HasUnited cmp old xs new) (take_all i more past) united
-
 -- strictly sorted by recursion is in order by places
 in_order_from_strict : {X : Type 0} (cmp : X → X → Ordering) (xs : List X) → IsStrictlySortedBy cmp xs → IsInOrder cmp xs
 unfolding IsStrictlySortedBy
@@ -116,18 +90,53 @@ in_order_from_strict cmp [] h = λ i j d lt within. absurd (omega arith)
 in_order_from_strict cmp (x ∷ xs) h = AllPairs-cons (λ a b. cmp a b ≡ Less) x xs (All-from_recursion (λ y. cmp x y ≡ Less) xs h.0) (in_order_from_strict cmp xs h.1)
 
 -- sorted and without repeats
-pub united_sorted : {X : Type 0} (cmp : X → X → Ordering) → IsTotalOrder cmp → CmpEqualImpliesEq cmp → (E : X → X → Bool) → IsEquivalence E → ((x y : X) → E x y ≡ eq_by_cmp cmp x y)
-    → (old more both moved new : List X) → both ≡ old ++ more → IsPermutation both moved → IsSorted cmp moved → new ≡ dedup E moved → HasUnited cmp old more new
-united_sorted {X} cmp total exact E laws ties old more both moved new appended permuted sorted is = subst (λ (xs : List X). HasUnited cmp old more xs) (sym is) (record {
-  elements = λ e. (λ has. Contains-append_cases old more e (subst (λ (xs : List X). Contains xs e) appended (Contains-permutation moved both e (IsPermutation-sym both moved permuted) (Contains-from_dedup E moved e has))), λ h. Contains-dedup laws same moved e (Contains-permutation both moved e permuted (subst (λ (xs : List X). Contains xs e) (sym appended) (back e h))));
-  in_order = in_order_from_strict cmp (dedup E moved) (IsStrictlySortedBy-dedup total ties moved sorted);
+united_once : {X : Type 0} (cmp : X → X → Ordering) → IsTotalOrder cmp → CmpEqualImpliesEq cmp → (E : X → X → Bool) → IsEquivalence E → ((x y : X) → E x y ≡ eq_by_cmp cmp x y)
+    → (old more both new : List X) → ((e : X) → Contains both e ↔ (Contains old e ⊎ Contains more e)) → IsSorted cmp both → new ≡ dedup E both → HasUnited cmp old more new
+united_once {X} cmp total exact E laws ties old more both new elements sorted is = subst (λ (xs : List X). HasUnited cmp old more xs) (sym is) (record {
+  elements = λ e. (λ has. (elements e).0 (Contains-from_dedup E both e has), λ h. Contains-dedup laws same both e ((elements e).1 h));
+  in_order = in_order_from_strict cmp (dedup E both) (IsStrictlySortedBy-dedup total ties both sorted);
 }) where
   same : (x y : X) → E x y ≡ true → x ≡ y
   same x y e = tells_apart exact x y (sym (ties x y) ∙ e)
 
-  back : (e : X) → Contains old e ⊎ Contains more e → Contains (old ++ more) e
-  back e (inl h) = Contains-append_left old more e h
-  back e (inr h) = Contains-append_right old more e h
+-- one list, sorted and without repeats
+pub united_sorted : {X : Type 0} (cmp : X → X → Ordering) → IsTotalOrder cmp → CmpEqualImpliesEq cmp → (E : X → X → Bool) → IsEquivalence E → ((x y : X) → E x y ≡ eq_by_cmp cmp x y)
+    → (more moved new : List X) → IsPermutation more moved → IsSorted cmp moved → new ≡ dedup E moved → HasUnited cmp [] more new
+united_sorted {X} cmp total exact E laws ties more moved new permuted sorted is = united_once cmp total exact E laws ties [] more moved new (λ e. (λ has. inr (Contains-permutation moved more e (IsPermutation-sym more moved permuted) has), back e)) sorted is where
+  back : (e : X) → Contains [] e ⊎ Contains more e → Contains moved e
+  back e (inl h) = contains_none e h
+  back e (inr h) = Contains-permutation more moved e permuted h
+
+-- a list, and more items behind it twice
+pub front_is : {X : Type 0} (old more twice : List X) (count : ℕ) → count ≡ length old → twice ≡ old ++ more ++ more → take count twice ≡ old
+front_is old more twice count count_is is =
+    let whole : twice ≡ old ++ (more ++ more) = is ∙ append_assoc old more more in
+    ap (λ xs. take count xs) whole ∙ ap (λ n. take n (old ++ (more ++ more))) count_is ∙ take-append_seam old (more ++ more)
+
+back_is : {X : Type 0} (old more twice : List X) (end : ℕ) → end ≡ length old + length more → twice ≡ old ++ more ++ more → drop end twice ≡ more
+back_is old more twice end end_is is =
+    let here : end ≡ length (old ++ more) = omega (arith, length-append old more) in
+    ap (λ xs. drop end xs) is ∙ ap (λ n. drop n (old ++ more ++ more)) here ∙ drop-append_seam (old ++ more) more
+
+-- they are merged, and without repeats
+pub united_merged : {X : Type 0} (cmp : X → X → Ordering) → IsTotalOrder cmp → CmpEqualImpliesEq cmp → (E : X → X → Bool) → IsEquivalence E → ((x y : X) → E x y ≡ eq_by_cmp cmp x y)
+    → (old more twice both new : List X) (count : ℕ) → count ≡ length old → twice ≡ old ++ more ++ more → HasMerged cmp (take count twice) (drop (count + length more) twice) both → new ≡ dedup E both
+    → HasUnited cmp old more new
+united_merged {X} cmp total exact E laws ties old more twice both new count count_is is merges new_is =
+    united_once cmp total exact E laws ties old more both new (λ e. (λ has. forth e ((merges.elements e).0 has), λ h. (merges.elements e).1 (back e h))) merges.sorted new_is where
+      one : take count twice ≡ old
+      one = front_is old more twice count count_is is
+
+      other : drop (count + length more) twice ≡ more
+      other = back_is old more twice (count + length more) (omega arith) is
+
+      forth : (e : X) → Contains (take count twice) e ⊎ Contains (drop (count + length more) twice) e → Contains old e ⊎ Contains more e
+      forth e (inl h) = inl (subst (λ (xs : List X). Contains xs e) one h)
+      forth e (inr h) = inr (subst (λ (xs : List X). Contains xs e) other h)
+
+      back : (e : X) → Contains old e ⊎ Contains more e → Contains (take count twice) e ⊎ Contains (drop (count + length more) twice) e
+      back e (inl h) = inl (subst (λ (xs : List X). Contains xs e) (sym one) h)
+      back e (inr h) = inr (subst (λ (xs : List X). Contains xs e) (sym other) h)
 
 -- two lists in order with the same elements are one
 pub same_in_order : {X : Type 0} (cmp : X → X → Ordering) → IsTotalOrder cmp → (xs ys : List X) → IsInOrder cmp xs → IsInOrder cmp ys
@@ -157,5 +166,14 @@ same_in_order {X} cmp total (x ∷ xs) (y ∷ ys) up down f g =
           let itself : cmp a a ≡ Less = subst (λ (z : X). cmp a z ≡ Less) (sym same ∙ sym heads) (before a rest rises e has) in
           absurd (not_before_itself cmp total a itself)
 
-pub when_done : {X : Type 0} (b : Bool) (new done kept : List X) → b ≡ true → new ≡ cond b done kept → new ≡ done
+pub when_done : {A : Type 0} (b : Bool) (new done kept : A) → b ≡ true → new ≡ cond b done kept → new ≡ done
 when_done b new done kept ok is = is ∙ ap (λ c. cond c done kept) ok
+
+-- what was lent as a whole
+pub lent_whole : {X : Type 0} (n : ℕ) (xs rest : List X) → n ≡ length xs → take n (xs ++ rest) ≡ xs
+lent_whole n xs rest is = ap (λ k. take k (xs ++ rest)) is ∙ take-append_seam xs rest
+
+-- more items were put behind a list, and once more
+pub extended_twice : {X : Type 0} (old more once twice : List X) (first second : Bool) → first ≡ true → once ≡ cond first (old ++ more) old → second ≡ true → twice ≡ cond second (once ++ more) once
+    → twice ≡ old ++ more ++ more
+extended_twice old more once twice first second one once_is two twice_is = when_done second twice (once ++ more) once two twice_is ∙ ap (λ xs. xs ++ more) (when_done first once (old ++ more) old one once_is)

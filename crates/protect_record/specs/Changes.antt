@@ -20,3 +20,8 @@ HasAdded old new (message.Block slot root) =
 HasAdded old new (message.Vote source target root) =
     HasJoined vote_cmp old.votes new.votes (record { target = target; source = source; root = Some root })
     × (new.blocks ≡ old.blocks) × (new.floors ≡ old.floors) × (old.vote_room ≤ new.vote_room + 1) × (new.block_room ≡ old.block_room)
+
+-- the message's entry is among those of its kind, root and all
+abbrev pub IsKept : Parts → Message → Type 0
+IsKept parts (message.Block slot root) = Contains parts.blocks (record { slot = slot; root = Some root })
+IsKept parts (message.Vote source target root) = Contains parts.votes (record { target = target; source = source; root = Some root })

@@ -10,3 +10,5 @@ pub mod Gathering
 pub mod Exporting
 pub mod Iterating
 pub mod PastLaws
+pub mod Counting
+pub mod Merging

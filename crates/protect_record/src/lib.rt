@@ -8,11 +8,10 @@ mod floors;
 mod kept;
 mod laws;
 mod living;
+mod merging;
 mod pruning;
 mod record;
 mod sorted;
-#[cfg(test)]
-mod tests;
 mod verdict;
 mod walk;
 
@@ -21,4 +20,5 @@ pub use floors::Floors;
 pub use kept::Kept;
 pub use laws::{covers_own, join_laws, passes_less};
 pub use record::Record;
+pub use sorted_search::Steps;
 pub use verdict::Verdict;

@@ -1,5 +1,5 @@
 //! Which kept entries still count.
-ghost use Rattle.std.specs.Prelude.{◌≡◌, ◌+◌, ◌≤◌, ◌↔◌, IsTrue, All, not, filter, length, vec_len, vec_capacity};
+ghost use Rattle.std.specs.Prelude.{◌≡◌, ◌+◌, ◌*◌, ◌≤◌, ◌↔◌, IsTrue, All, not, filter, length, vec_len, vec_capacity};
 ghost use Rattle.std.specs.Bool.{OnFalse};
 ghost use Rattle.slash_defs.specs.FileOrder.{block_cmp, vote_cmp};
 ghost use Rattle.protect_record.specs.Order.{IsInOrder};
@@ -13,8 +13,9 @@ use slash_defs::{BlockEntry, VoteEntry};
 /// Unites kept blocks with more of them, in the room that was reserved, and drops those that are dead.
 pub fn gather_blocks(list: &mut Vec<BlockEntry>, more: &[BlockEntry], floors: Floors)
     requires in_order { IsInOrder block_cmp list.old.items }
-    requires room { vec_len list.old + length more.now ≤ vec_capacity list.old }
-    ensures { HasGathered block_cmp (IsDeadBlock floors) list.old.items more.now list.new.items }
+    requires room { vec_len list.old + 2 * length more.now ≤ vec_capacity list.old }
+    ensures gathered { HasGathered block_cmp (IsDeadBlock floors) list.old.items more.now list.new.items }
+    ensures len { vec_len list.new ≤ vec_len list.old + length more.now }
 {
     unite(list, more);
     if !has_dead_block(list.as_slice(), floors) {
@@ -26,8 +27,9 @@ pub fn gather_blocks(list: &mut Vec<BlockEntry>, more: &[BlockEntry], floors: Fl
 /// Unites kept votes with more of them, in the room that was reserved, and drops those that are dead.
 pub fn gather_votes(list: &mut Vec<VoteEntry>, more: &[VoteEntry], floors: Floors)
     requires in_order { IsInOrder vote_cmp list.old.items }
-    requires room { vec_len list.old + length more.now ≤ vec_capacity list.old }
-    ensures { HasGathered vote_cmp (IsDeadVote floors) list.old.items more.now list.new.items }
+    requires room { vec_len list.old + 2 * length more.now ≤ vec_capacity list.old }
+    ensures gathered { HasGathered vote_cmp (IsDeadVote floors) list.old.items more.now list.new.items }
+    ensures len { vec_len list.new ≤ vec_len list.old + length more.now }
 {
     unite(list, more);
     if !has_dead_vote(list.as_slice(), floors) {
@@ -84,14 +86,16 @@ fn has_dead_vote(votes: &[VoteEntry], floors: Floors) -> bool
 
 /// Drops the blocks that are dead.
 fn drop_dead_blocks(list: &mut Vec<BlockEntry>, floors: Floors)
-    ensures { list.new.items ≡ filter (λ e. not (is_dead_block floors e)) list.old.items }
+    ensures items { list.new.items ≡ filter (λ e. not (is_dead_block floors e)) list.old.items }
+    ensures len { vec_len list.new ≤ vec_len list.old }
 {
     list.retain(|entry| !is_dead_block(floors, entry));
 }
 
 /// Drops the votes that are dead.
 fn drop_dead_votes(list: &mut Vec<VoteEntry>, floors: Floors)
-    ensures { list.new.items ≡ filter (λ e. not (is_dead_vote floors e)) list.old.items }
+    ensures items { list.new.items ≡ filter (λ e. not (is_dead_vote floors e)) list.old.items }
+    ensures len { vec_len list.new ≤ vec_len list.old }
 {
     list.retain(|entry| !is_dead_vote(floors, entry));
 }

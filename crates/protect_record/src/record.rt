@@ -1,12 +1,13 @@
 //! The record of one key.
-ghost use Rattle.std.specs.Prelude.{◌≡◌, ◌≤◌, ◌↔◌, [], List, OnOk, OnErr, IfOk, length, map};
+ghost use Rattle.std.specs.Prelude.{◌≡◌, ◌≤◌, ◌<◌, ◌-◌, ◌↔◌, [], List, IsTrue, OnOk, OnErr, IfOk, length, map};
 ghost use Rattle.slash_defs.specs.declared.entry.Entry.TheVariants as entry;
 ghost use Rattle.protect_record.specs.Parts.{no_floors, SameParts, HasRoom};
 ghost use Rattle.protect_record.specs.Pasts.{Past, no_past, with_own, with_book, then_past};
 ghost use Rattle.protect_record.specs.Passing.{Passes, BookRefuses};
 ghost use Rattle.protect_record.specs.Standing.{Stands};
 ghost use Rattle.protect_record.specs.Verdicts.{IsVerdict};
-ghost use Rattle.protect_record.specs.Changes.{HasAdded};
+ghost use Rattle.protect_record.specs.Counting.{TakesFewSteps};
+ghost use Rattle.protect_record.specs.Changes.{HasAdded, IsKept};
 ghost use Rattle.std.specs.Option.{option_to_list};
 ghost use Rattle.protect_record.specs.Floors.{book_floors, IsDeadBlock, IsDeadVote};
 ghost use Rattle.protect_record.specs.Gathering.{Gathers, HasDropped, IsJoin, IsMerge, IsWellKept};
@@ -26,8 +27,10 @@ use crate::verdict::Verdict;
 use crate::walk::{block_verdict, vote_verdict};
 use edge_kit::Items;
 use slash_defs::{BlockEntry, Book, Message, VoteEntry};
+use sorted_search::{SourceBounds, Steps};
 use std::alloc::{AllocError, Global};
-use std::marker::Model;
+use std::marker::{Brand, Model};
+use std::sync::ledger::{Blank, Ledger};
 
 /// The protection record of one key: the floors that its imported books set (EIP-3076), and the entries
 /// that still count, in file order, each once.
@@ -36,12 +39,14 @@ pub struct Record {
     floors: Floors,
     blocks: Vec<BlockEntry>,
     votes: Vec<VoteEntry>,
+    sources: SourceBounds,
 }
 
 impl Model for Record {
-    ghost use Rattle.std.specs.Prelude.{◌-◌, vec_len, vec_capacity};
+    ghost use Rattle.std.specs.Prelude.{◌-◌, ◌/◌, min, vec_len, vec_capacity};
     ghost use Rattle.protect_record.specs.Parts.{Parts};
     ghost use Rattle.protect_record.specs.Gathering.{IsWellKept};
+    ghost use Rattle.sorted_search.specs.Sources.{AreBounds};
 
     ghost Value = { Parts };
 
@@ -49,11 +54,11 @@ impl Model for Record {
       floors = r.floors;
       blocks = r.blocks.items;
       votes = r.votes.items;
-      block_room = vec_capacity r.blocks - vec_len r.blocks;
-      vote_room = vec_capacity r.votes - vec_len r.votes;
+      block_room = (vec_capacity r.blocks - vec_len r.blocks) / 2;
+      vote_room = min ((vec_capacity r.votes - vec_len r.votes) / 2) (r.sources.capacity - vec_len r.votes);
     } };
 
-    ghost invariant = { λ r. IsWellKept r.floors r.blocks.items r.votes.items };
+    ghost invariant = { λ r. IsWellKept r.floors r.blocks.items r.votes.items × AreBounds r.votes.items r.sources };
 }
 
 impl Record {
@@ -69,23 +74,35 @@ impl Record {
             },
             blocks: Vec::new(alloc),
             votes: Vec::new(alloc),
+            sources: SourceBounds::new(alloc),
         }
     }
 
-    /// The record of these floors and of those of these entries that still count under them, each once. Takes
-    /// no memory.
-    pub fn of_parts(floors: Floors, mut blocks: Vec<BlockEntry>, mut votes: Vec<VoteEntry>) -> Self
-        ensures floors { result.floors ≡ floors }
-        ensures blocks { HasDropped block_cmp (IsDeadBlock floors) blocks.items result.blocks }
-        ensures votes { HasDropped vote_cmp (IsDeadVote floors) votes.items result.votes }
+    /// The record of these floors and of those of these entries that still count under them, each once.
+    ///
+    /// # Errors
+    ///
+    /// `AllocError` where memory was wanted.
+    pub fn of_parts(
+        floors: Floors,
+        mut blocks: Vec<BlockEntry>,
+        mut votes: Vec<VoteEntry>,
+    ) -> Result<Self, AllocError>
+        ensures floors { IfOk result (λ r. r.floors ≡ floors) }
+        ensures blocks { IfOk result (λ r. HasDropped block_cmp (IsDeadBlock floors) blocks.items r.blocks) }
+        ensures votes { IfOk result (λ r. HasDropped vote_cmp (IsDeadVote floors) votes.items r.votes) }
     {
         keep_live_blocks(&mut blocks, floors);
         keep_live_votes(&mut votes, floors);
-        Record {
+        let mut sources = SourceBounds::new(*votes.allocator());
+        sources.reserve(votes.len())?;
+        sources.rebuild(votes.as_slice());
+        Ok(Record {
             floors,
             blocks,
             votes,
-        }
+            sources,
+        })
     }
 
     /// The first verdict that holds (EIP-3076, conditions 1 to 5). It is `Pass` exactly where the past that
@@ -95,10 +112,26 @@ impl Record {
         ensures passes { (past : Past) → Stands self.now past
             → ((result ≡ Verdict.Pass) ↔ Passes past message.now) }
     {
+        self.check_uncounted::<Brand>(message, Blank::new(1))
+    }
+
+    /// The verdict of `check`, with the kept entries that are looked at counted, each look as a step. Takes no
+    /// memory.
+    pub fn check_counted<L: Ledger>(&self, message: &Message, steps: &mut Steps<L>) -> Verdict
+        ensures verdict { IsVerdict self.now message.now result }
+        ensures passes { (past : Past) → Stands self.now past
+            → ((result ≡ Verdict.Pass) ↔ Passes past message.now) }
+        ensures counts { steps.old ≤ steps.new }
+        ensures few { TakesFewSteps self.now message.now result (steps.new - steps.old) }
+    {
         match *message {
-            Message::Block { slot, root } => {
-                block_verdict(self.floors.block, self.blocks.as_slice(), slot, root)
-            }
+            Message::Block { slot, root } => block_verdict(
+                self.floors.block,
+                self.blocks.as_slice(),
+                slot,
+                root,
+                steps,
+            ),
             Message::Vote {
                 source,
                 target,
@@ -106,10 +139,39 @@ impl Record {
             } => vote_verdict(
                 self.floors.vote,
                 self.votes.as_slice(),
+                &self.sources,
                 source,
                 target,
                 root,
+                steps,
             ),
+        }
+    }
+
+    /// Whether the message is kept, with its root. Takes no memory.
+    pub fn keeps(&self, message: &Message) -> bool
+        ensures { IsTrue result ↔ IsKept self.now message.now }
+    {
+        match *message {
+            Message::Block { slot, root } => {
+                let entry = BlockEntry {
+                    slot,
+                    root: Some(root),
+                };
+                self.blocks.as_slice().binary_search(&entry).is_ok()
+            }
+            Message::Vote {
+                source,
+                target,
+                root,
+            } => {
+                let entry = VoteEntry {
+                    target,
+                    source,
+                    root: Some(root),
+                };
+                self.votes.as_slice().binary_search(&entry).is_ok()
+            }
         }
     }
 
@@ -123,8 +185,12 @@ impl Record {
         ensures room { OnOk result ((blocks ≤ self.new.block_room) × (votes ≤ self.new.vote_room)) }
         ensures same { SameParts self.old self.new }
     {
-        self.blocks.reserve(blocks)?;
-        self.votes.reserve(votes)
+        // A merge sorts its entries behind the place where they go.
+        self.blocks
+            .reserve(blocks.checked_mul(2).ok_or(AllocError)?)?;
+        self.votes.reserve(votes.checked_mul(2).ok_or(AllocError)?)?;
+        let wanted = self.votes.len().checked_add(votes).ok_or(AllocError)?;
+        self.sources.reserve(wanted)
     }
 
     /// Records a message that `check` lets pass, in the room that was reserved. A repeat changes nothing.
@@ -141,7 +207,7 @@ impl Record {
                     slot,
                     root: Some(root),
                 };
-                insert_once(&mut self.blocks, entry);
+                let _ = insert_once(&mut self.blocks, entry);
             }
             Message::Vote {
                 source,
@@ -153,7 +219,9 @@ impl Record {
                     source,
                     root: Some(root),
                 };
-                insert_once(&mut self.votes, entry);
+                if let Some(place) = insert_once(&mut self.votes, entry) {
+                    self.sources.insert(place, self.votes.as_slice());
+                }
             }
         }
     }
@@ -339,5 +407,19 @@ impl Record {
         self.floors = join_floors(&self.floors, &floors);
         gather_blocks(&mut self.blocks, blocks, self.floors);
         gather_votes(&mut self.votes, votes, self.floors);
+        self.sources.rebuild(self.votes.as_slice());
+    }
+
+    /// The verdict of `check_counted` where nobody reads the count.
+    fn check_uncounted<L: Ledger>(&self, message: &Message, blank: Blank) -> Verdict
+        requires name { blank.name ≡ L.name }
+        requires parts { blank.parts ≡ L.parts }
+        requires some { 0 < blank.parts }
+        ensures verdict { IsVerdict self.now message.now result }
+        ensures passes { (past : Past) → Stands self.now past
+            → ((result ≡ Verdict.Pass) ↔ Passes past message.now) }
+    {
+        let mut steps = Steps::<L>::new(blank);
+        self.check_counted(message, &mut steps)
     }
 }

@@ -1,5 +1,5 @@
 -- A key that was made fresh, at the pasts.
-use Rattle.std.proofs.Common.{◌≡◌, inl, inr, Bool, true, false, cond, List, [], sym, ap, subst}
+use Rattle.std.proofs.Common.{◌≡◌, ℕ, ◌<◌, ◌≤◌, length, None, arith, inl, inr, Bool, true, false, cond, List, [], sym, ap, subst}
 use Rattle.std.specs.Prelude.{is_some}
 use Rattle.edge_kit.specs.declared.bytes.PubKey.{PubKey}
 use Rattle.protect_record.specs.Parts.{Parts, SameParts}
@@ -9,9 +9,14 @@ use Rattle.record_join.specs.Keys.{kept_of, with_key, EachKey}
 use Rattle.record_join.specs.BooksPasts.{BooksStand}
 use Rattle.record_join.specs.Preparing.{no_parts, AreTaken, Knows}
 use Rattle.record_join.proofs.KeyLemmas.{each_new, each_none, each_present, each_self}
+use Rattle.record_join.proofs.OrderLemmas.{length_new}
 use Rattle.record_join.proofs.BooksLemmas.{same_itself, same_stands}
 use Rattle.record_join.proofs.FreshLemmas.{known_same}
 use Rattle.record_join.proofs.FileLemmas.{no_parts_stand}
+
+pub known_within : (old new : List (PubKey × Parts)) (key : PubKey) (fresh more : List PubKey) (n : ℕ) → Knows old new key fresh more → (kept_of old key ≡ None → length old < n) → length old ≤ n → length new ≤ n
+known_within old new key fresh more n (inl h) room within = rw h.1 within
+known_within old new key fresh more n (inr h) room within = let one = length_new old key h.1.0 h.0 in let below = room h.0 in rw h.1.2 (omega (arith, one, below))
 
 pub known_taken : (old new : List (PubKey × Parts)) (key : PubKey) (fresh : List PubKey) → Knows old new key [] fresh → AreTaken old fresh new
 known_taken old new key fresh knows =

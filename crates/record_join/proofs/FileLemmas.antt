@@ -4,17 +4,14 @@ use Rattle.std.specs.Prelude.{IsSome, IsSomeAnd, is_some}
 use Rattle.std.specs.Ordering.{eq_by_cmp, match_ordering, ordering_reverse, is_eq}
 use Rattle.std.specs.declared.cmp.Ordering.{Ordering}
 use Rattle.std.specs.declared.cmp.Ordering.TheVariants.{Less, Equal, Greater}
-use Rattle.std.specs.Bool.{Decides}
 use Rattle.std.specs.BTreeMap.{is_at}
 use Rattle.std.specs.List.{IsDistinct, slice_get}
 use Rattle.std.specs.List.Sorted.{IsStrictlySortedBy}
 use Rattle.std.specs.Map.{keys_of}
 use Rattle.std.proofs.lemmas.List.{take_more, take_all, take-append-drop}
 use Rattle.std.proofs.lemmas.Option.{slice_get_within, get_or_from_slice_get}
-use Rattle.std.proofs.lemmas.Map.Keys.{IsDistinct-from_sorted}
 use Rattle.std.proofs.lemmas.List.Sums.{fold_push}
 use Rattle.std.proofs.lemmas.List.Elements.{All-head, All-tail, All-weaker}
-use Rattle.std.proofs.lemmas.Map.Made.{IsDistinct-from_AllPairs}
 use Rattle.edge_kit.specs.declared.bytes.PubKey.{PubKey}
 use Rattle.slash_defs.specs.declared.entry.BlockEntry.{BlockEntry}
 use Rattle.slash_defs.specs.declared.entry.VoteEntry.{VoteEntry}
@@ -23,22 +20,19 @@ use Rattle.protect_record.specs.Parts.{Parts, SameParts, no_floors}
 use Rattle.protect_record.specs.Pasts.{Past, no_past, then_past, IsPastBlock, IsPastVote}
 use Rattle.protect_record.specs.Standing.{Stands}
 use Rattle.record_join.specs.Keys.{key_cmp, kept_of, with_key, with_kept, EachKey}
-use Rattle.record_join.specs.BooksPasts.{BooksStand, EachOnce, IsMergeFault, IsOverLimit, KeepsOthers, gain, joined, known_past, new_keys}
+use Rattle.record_join.specs.BooksPasts.{BooksStand, IsMergeFault, IsOverLimit, KeepsOthers, gain, joined, known_past, new_keys}
 use Rattle.record_join.specs.declared.fault.MergeFault.{MergeFault}
 use Rattle.record_join.specs.declared.fault.MergeFault.TheVariants as merge_fault
 use Rattle.record_join.specs.Preparing.{no_parts, with_each, AreFresh, HasRoomFor, HaveRoomFor, ArePrepared, IsReady, MakesRoom, parts_size}
+pub use Rattle.record_join.specs.KeyLaws.{distinct_once, distinct_ordered, same_keys}
 use Rattle.record_join.proofs.KeyLemmas.{each_found, each_keys, each_length, each_none, each_new, each_changed, each_present}
-use Rattle.record_join.proofs.OrderLemmas.{key_total, key_exact, at_itself, same_key, apart_back, kept_here, kept_apart, put_twice, put_kept, changed, none_in_both, apart_from_first, once_before}
+use Rattle.record_join.proofs.OrderLemmas.{key_total, key_exact, at_itself, same_key, apart_back, kept_here, kept_apart, put_twice, put_kept, once_before}
 use Rattle.record_join.proofs.BooksLemmas.{all_same_stand}
+use Rattle.record_join.specs.KeyByKey.{EachTakes, Takes, TakesRecord}
+use Rattle.record_join.proofs.TakeLemmas.{takes_more, takes_none}
 use Rattle.record_join.proofs.FreshLemmas.{prepared_more, prepared_wider, ready_more, length_fresh}
 
 -- ---- a list at a place
-
-pub same_keys : (a b : PubKey) → Decides (eq_by_cmp key_cmp a b) (a ≡ b)
-same_keys a b = (same_key a b, λ e. subst (λ (k : PubKey). eq_by_cmp key_cmp a k ≡ true) e (at_itself a))
-
-pub distinct_once : {X : Type 0} (listed : List (PubKey × X)) → EachOnce listed → IsDistinct (eq_by_cmp key_cmp) (keys_of listed)
-distinct_once listed once = IsDistinct-from_AllPairs same_keys (keys_of listed) once
 
 next_at : {X : Type 0} (xs : List X) (i : ℕ) (x : X) → i < length xs → x ≡ get_or xs i x → take (i + 1) xs ≡ take i xs ++ x ∷ []
 next_at xs i x lt is = take_more xs i x lt ∙ ap (λ y. take i xs ++ y ∷ []) (sym is)
@@ -91,42 +85,36 @@ gains_at f old new pasts key x parts after sorted is_kept is stands each =
     let F : List (PubKey × Past) → Type 0 = λ l. EachKey Stands (with_kept old key after) l in
     subst E (sym is) (subst F (sym put) (each_changed Stands old pasts key after (f past x) each (stands past found.2)))
 
--- what is kept of another key, where one record has changed
-pub others_at : (old new : List (PubKey × Parts)) (key other : PubKey) (after : Parts) → IsSome (kept_of old key) → new ≡ with_kept old key after → is_at (key_cmp key) other ≡ false → kept_of new other ≡ kept_of old other
-others_at old new key other after found is apart = rw (is, changed old key other after found, apart) refl
-
 -- so far the front of what is listed was taken in
-pub record GoesOn {X : Type 0} (f : Past → X → Past) (start : List (PubKey × Parts)) (front : List (PubKey × X)) (now : List (PubKey × Parts)) : Type 0 where
+pub record GoesOn {X : Type 0} (T : Parts → X → Parts → Type 0) (f : Past → X → Past) (start : List (PubKey × Parts)) (front : List (PubKey × X)) (now : List (PubKey × Parts)) : Type 0 where
   pub stands : (pasts : List (PubKey × Past)) → BooksStand start pasts → BooksStand now (fold (gain f) pasts front)
   pub len : length now ≡ length start
-  pub others : KeepsOthers front start now
+  pub takes : EachTakes T front start now
 
-pub goes_none : {X : Type 0} (f : Past → X → Past) (start : List (PubKey × Parts)) → GoesOn {X = X} f start [] start
-goes_none f start = record { stands = λ pasts stand. stand; len = refl; others = λ key none. refl }
+pub goes_none : {X : Type 0} (T : Parts → X → Parts → Type 0) (f : Past → X → Past) (start : List (PubKey × Parts)) → GoesOn {X = X} T f start [] start
+goes_none T f start = record { stands = λ pasts stand. stand; len = refl; takes = takes_none T start }
 
 -- one more is taken in
-pub goes_more : {X : Type 0} (f : Past → X → Past) (start now new : List (PubKey × Parts)) (xs : List (PubKey × X)) (i : ℕ) (x : PubKey × X) → i < length xs → x ≡ get_or xs i x → GoesOn f start (take i xs) now
-    → ((pasts : List (PubKey × Past)) → BooksStand now pasts → BooksStand new (gain f pasts x)) → length new ≡ length now → ((other : PubKey) → is_at (key_cmp x.0) other ≡ false → kept_of new other ≡ kept_of now other)
-    → GoesOn f start (take (i + 1) xs) new
-goes_more {X} f start now new xs i x lt is so_far stands len others =
-    let P : List (PubKey × X) → Type 0 = λ l. GoesOn f start l new in
+pub goes_more : {X : Type 0} (T : Parts → X → Parts → Type 0) (f : Past → X → Past) → ((p : Parts) (x : X) (q : Parts) → T p x q → (past : Past) → Stands p past → Stands q (f past x)) → (start now new : List (PubKey × Parts)) (xs : List (PubKey × X)) (i : ℕ)
+    (x : PubKey × X) → IsDistinct (eq_by_cmp key_cmp) (keys_of xs) → i < length xs → x ≡ get_or xs i x → GoesOn T f start (take i xs) now → Takes T now new x.0 x.1 → IsStrictlySortedBy key_cmp (keys_of now) → length new ≡ length now
+    → GoesOn T f start (take (i + 1) xs) new
+goes_more {X} T f gives start now new xs i x distinct lt is so_far takes sorted len =
+    let P : List (PubKey × X) → Type 0 = λ l. GoesOn T f start l new in
     subst P (sym (next_at xs i x lt is)) (record {
       stands = λ pasts stand.
           let E : List (PubKey × Past) → Type 0 = λ l. BooksStand new l in
-          subst E (sym (fold_push (gain f) pasts (take i xs) x)) (stands (fold (gain f) pasts (take i xs)) (so_far.stands pasts stand));
+          subst E (sym (fold_push (gain f) pasts (take i xs) x)) (gains_at f now new (fold (gain f) pasts (take i xs)) x.0 x.1 takes.parts takes.after sorted takes.is_kept takes.is (gives takes.parts x.1 takes.after takes.taken) (so_far.stands pasts stand));
       len = len ∙ so_far.len;
-      others = λ key none.
-          let parts = none_in_both (take i xs) (x ∷ []) key none in
-          others key (apart_back key x.0 (apart_from_first x [] key parts.1)) ∙ so_far.others key parts.0;
+      takes = takes_more T start now new (take i xs) x (none_before xs i x distinct lt is) takes so_far.takes;
     })
 
 -- the room of the next is still as it was made
-pub room_next : {X : Type 0} (f : Past → X → Past) (size : X → ℕ × ℕ) (start now : List (PubKey × Parts)) (xs : List (PubKey × X)) (i : ℕ) (x : PubKey × X) → IsDistinct (eq_by_cmp key_cmp) (keys_of xs) → i < length xs
-    → x ≡ get_or xs i x → GoesOn f start (take i xs) now → HaveRoomFor size start xs → IsSomeAnd (kept_of now x.0) (λ parts. HasRoomFor parts (size x.1))
-room_next {X} f size start now xs i x distinct lt is so_far room =
+pub room_next : {X : Type 0} (T : Parts → X → Parts → Type 0) (f : Past → X → Past) (size : X → ℕ × ℕ) (start now : List (PubKey × Parts)) (xs : List (PubKey × X)) (i : ℕ) (x : PubKey × X) → IsDistinct (eq_by_cmp key_cmp) (keys_of xs) → i < length xs
+    → x ≡ get_or xs i x → GoesOn T f start (take i xs) now → HaveRoomFor size start xs → IsSomeAnd (kept_of now x.0) (λ parts. HasRoomFor parts (size x.1))
+room_next {X} T f size start now xs i x distinct lt is so_far room =
     let P : Option Parts → Type 0 = λ o. IsSomeAnd o (λ parts. HasRoomFor parts (size x.1)) in
     let Q : PubKey × X → Type 0 = λ y. IsSomeAnd (kept_of start y.0) (λ parts. HasRoomFor parts (size y.1)) in
-    subst P (sym (so_far.others x.0 (none_before xs i x distinct lt is))) (subst Q (sym is) (room i x lt))
+    subst P (sym (so_far.takes.others x.0 (none_before xs i x distinct lt is))) (subst Q (sym is) (room i x lt))
 
 -- ---- the fresh keys are taken out, or their records stay
 
@@ -261,6 +249,18 @@ pub length_after : {X : Type 0} (size : X → ℕ × ℕ) (old mid new : List (P
 length_after size old mid new listed fresh ready len =
     len ∙ sym (each_length SameParts (with_each no_parts old fresh) mid ready.prepared.same) ∙ length_fresh no_parts old fresh ready.prepared.absent ∙ ap (λ n. length old + n) ready.count
 
+-- so many keys are within the limit
+pub within_after : {X : Type 0} (size : X → ℕ × ℕ) (old mid new : List (PubKey × Parts)) (listed : List (PubKey × X)) (fresh : List PubKey) (n : ℕ) → IsReady size old listed fresh mid → length new ≡ length mid → length old + new_keys old listed ≤ n
+    → length new ≤ n
+within_after size old mid new listed fresh n ready same within = let len = length_after size old mid new listed fresh ready same in omega (arith, within, len)
+
+-- all that is listed is ready
+pub ready_whole : {X : Type 0} (size : X → ℕ × ℕ) (old new : List (PubKey × Parts)) (listed : List (PubKey × X)) (fresh : List PubKey) (n : ℕ) → IsReady size old (take n listed) fresh new → length listed ≤ n → IsReady size old listed fresh new
+ready_whole {X} size old new listed fresh n ready all = let P : List (PubKey × X) → Type 0 = λ l. IsReady size old l fresh new in subst P (take_all n listed all) ready
+
+pub within_same : (old new : List (PubKey × Parts)) (n : ℕ) → EachKey SameParts old new → length old ≤ n → length new ≤ n
+within_same old new n same within = let len = each_length SameParts old new same in omega (arith, within, len)
+
 -- a fault of numbers is one of what is kept and listed
 pub over_is : {X : Type 0} (kept : List (PubKey × Parts)) (listed : List (PubKey × X)) (have new : ℕ) (fault : MergeFault) → have ≡ length kept → new ≡ new_keys kept listed → IsOverLimit have new fault → IsMergeFault kept listed fault
 over_is kept listed have new (merge_fault.TooManyKeys n m) h k over = (over.0 ∙ h, over.1 ∙ k, over.2)
@@ -272,7 +272,7 @@ over_is kept listed have new merge_fault.OutOfMemory h k over = absurd over
 pub record JoinsOn (start joining : List (PubKey × Parts)) (n : ℕ) (now : List (PubKey × Parts)) : Type 0 where
   pub stands : (pasts more : List (PubKey × Past)) → BooksStand start pasts → BooksStand joining more → BooksStand now (fold (gain then_past) pasts (take n more))
   pub len : length now ≡ length start
-  pub others : KeepsOthers (take n joining) start now
+  pub takes : EachTakes TakesRecord (take n joining) start now
 
 -- what is at a place of the one fits what is there in the other
 each_at : {X Y : Type 0} (R : X → Y → Type 0) (xs : List (PubKey × X)) (ys : List (PubKey × Y)) (i : ℕ) (x : PubKey × X) (y : PubKey × Y) → EachKey R xs ys → i < length xs
@@ -283,25 +283,25 @@ each_at R (a ∷ more) (b ∷ bs) zero x y h lt = (omega arith, h.0, h.1)
 each_at R (a ∷ more) (b ∷ bs) (suc i) x y h lt = let rest = each_at R more bs i x y h.2 (omega arith) in (omega (arith, rest.0), rest.1, rest.2)
 
 -- one more is joined
-pub joins_more : (start others now new : List (PubKey × Parts)) (i : ℕ) (x : PubKey × Parts) → i < length others → x ≡ get_or others i x → JoinsOn start others i now
-    → ((pasts : List (PubKey × Past)) (past : Past) → BooksStand now pasts → Stands x.1 past → BooksStand new (gain then_past pasts (x.0, past))) → length new ≡ length now
-    → ((other : PubKey) → is_at (key_cmp x.0) other ≡ false → kept_of new other ≡ kept_of now other) → JoinsOn start others (i + 1) new
-joins_more start others now new i x lt is so_far stands len kept = record {
+pub joins_more : (start others now new : List (PubKey × Parts)) (i : ℕ) (x : PubKey × Parts) → IsDistinct (eq_by_cmp key_cmp) (keys_of others) → i < length others → x ≡ get_or others i x → JoinsOn start others i now → Takes TakesRecord now new x.0 x.1
+    → IsStrictlySortedBy key_cmp (keys_of now) → length new ≡ length now → JoinsOn start others (i + 1) new
+joins_more start others now new i x distinct lt is so_far takes sorted len = record {
   stands = λ pasts more stand each.
       let y : PubKey × Past = (x.0, no_past) in
       let at = each_at Stands others more i x y each lt in
       let q = get_or more i y in
       let key : x.0 ≡ q.0 = ap (λ (z : PubKey × Parts). z.0) is ∙ at.1 in
       let S : PubKey × Parts → Type 0 = λ z. Stands z.1 q.1 in
+      let fits : Stands x.1 q.1 = subst S (sym is) at.2 in
       let G : PubKey → Type 0 = λ k. BooksStand new (gain then_past (fold (gain then_past) pasts (take i more)) (k, q.1)) in
       let E : List (PubKey × Past) → Type 0 = λ l. BooksStand new l in
-      let after = stands (fold (gain then_past) pasts (take i more)) q.1 (so_far.stands pasts more stand each) (subst S (sym is) at.2) in
+      let after = gains_at then_past now new (fold (gain then_past) pasts (take i more)) x.0 q.1 takes.parts takes.after sorted takes.is_kept takes.is (λ p s. takes.taken.stands p q.1 s fits) (so_far.stands pasts more stand each) in
       let whole = ap (λ l. fold (gain then_past) pasts l) (take_more more i y at.0) ∙ fold_push (gain then_past) pasts (take i more) q in
       subst E (sym whole) (subst G key after);
   len = len ∙ so_far.len;
-  others = λ key none.
-      let parts = none_in_both (take i others) (x ∷ []) key (ap (λ l. kept_of l key) (sym (next_at others i x lt is)) ∙ none) in
-      kept key (apart_back key x.0 (apart_from_first x [] key parts.1)) ∙ so_far.others key parts.0;
+  takes =
+      let E : List (PubKey × Parts) → Type 0 = λ l. EachTakes TakesRecord l start new in
+      subst E (sym (next_at others i x lt is)) (takes_more TakesRecord start now new (take i others) x (none_before others i x distinct lt is) takes so_far.takes);
 }
 
 -- the room of the next is still as it was made
@@ -310,25 +310,21 @@ pub room_next_join : (start others now : List (PubKey × Parts)) (i : ℕ) (x : 
 room_next_join start others now i x distinct lt is so_far room =
     let P : Option Parts → Type 0 = λ o. IsSomeAnd o (λ parts. HasRoomFor parts (parts_size x.1)) in
     let Q : PubKey × Parts → Type 0 = λ y. IsSomeAnd (kept_of start y.0) (λ parts. HasRoomFor parts (parts_size y.1)) in
-    subst P (sym (so_far.others x.0 (none_before others i x distinct lt is))) (subst Q (sym is) (room i x lt))
+    subst P (sym (so_far.takes.others x.0 (none_before others i x distinct lt is))) (subst Q (sym is) (room i x lt))
 
 pub joins_none : (start others : List (PubKey × Parts)) → JoinsOn start others 0 start
-joins_none start others = record { stands = λ pasts more stand each. stand; len = refl; others = λ key none. refl }
+joins_none start others = record { stands = λ pasts more stand each. stand; len = refl; takes = takes_none TakesRecord start }
 
 -- all are joined
 pub joins_all : (start others now : List (PubKey × Parts)) (n : ℕ) → n ≡ length others → JoinsOn start others n now
-    → ((pasts more : List (PubKey × Past)) → BooksStand start pasts → BooksStand others more → BooksStand now (joined pasts more)) × KeepsOthers others start now
+    → ((pasts more : List (PubKey × Past)) → BooksStand start pasts → BooksStand others more → BooksStand now (joined pasts more)) × EachTakes TakesRecord others start now
 joins_all start others now n all so_far = (
   λ pasts more stand each.
       let E : List (PubKey × Past) → Type 0 = λ l. BooksStand now (fold (gain then_past) pasts l) in
       let past : length more ≤ n = let e = each_length Stands others more each in omega (arith, e, all) in
       subst E (take_all n more past) (so_far.stands pasts more stand each),
-  let K : List (PubKey × Parts) → Type 0 = λ l. KeepsOthers l start now in subst K (take_all n others (omega (arith, all))) so_far.others,
+  let K : List (PubKey × Parts) → Type 0 = λ l. EachTakes TakesRecord l start now in subst K (take_all n others (omega (arith, all))) so_far.takes,
 )
-
--- keys in order are distinct
-pub distinct_ordered : {X : Type 0} (xs : List (PubKey × X)) → IsStrictlySortedBy key_cmp (keys_of xs) → IsDistinct (eq_by_cmp key_cmp) (keys_of xs)
-distinct_ordered xs sorted = IsDistinct-from_sorted key_cmp (keys_of xs) sorted
 
 -- what is read at a place stands there
 pub read_at : {X : Type 0} (xs : List X) (i : ℕ) (x : X) → slice_get xs i ≡ Some x → (i < length xs) × (x ≡ get_or xs i x)

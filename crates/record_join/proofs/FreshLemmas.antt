@@ -1,6 +1,7 @@
 -- Keys that become known with empty records, and are taken out again.
 use Rattle.std.proofs.Common.{◌≡◌, ℕ, ◌+◌, ◌⊎◌, inl, inr, true, false, Bool, cond, List, [], ◌∷◌, ◌++◌, length, None, Some, Option, refl, sym, ◌∙◌, ap, subst, arith, All}
-use Rattle.std.specs.Prelude.{IsSome, IsSomeAnd, is_some, not}
+use Rattle.std.specs.Prelude.{IsSome, IsSomeAnd, OnErr, OnOk, Result, Ok, Err, is_some, not}
+use Rattle.std.proofs.lemmas.List.{length-append}
 use Rattle.std.specs.BTreeMap.{is_at}
 use Rattle.std.specs.Map.{remove_entry}
 use Rattle.std.specs.List.{AllByRecursion as ByRecursion}
@@ -10,10 +11,10 @@ use Rattle.edge_kit.specs.declared.bytes.PubKey.{PubKey}
 use Rattle.protect_record.specs.Parts.{Parts, SameParts}
 use Rattle.record_join.specs.Keys.{key_cmp, kept_of, with_key, EachKey}
 use Rattle.record_join.specs.BooksPasts.{new_keys}
-use Rattle.record_join.specs.Preparing.{no_parts, with_each, AreFresh, HasRoomFor, ArePrepared, IsReady, Knows, IsRoomier, MakesRoom}
+use Rattle.record_join.specs.Preparing.{no_parts, with_each, AreFresh, HasRoomFor, ArePrepared, IsReady, Knows, MakesRoom}
 use Rattle.record_join.proofs.KeyLemmas.{each_flip, each_none, each_new, each_removed, each_self}
-use Rattle.record_join.proofs.OrderLemmas.{kept_here, kept_apart, at_itself, apart_back, taken_out, changed, length_new, none_in_both, some_in_first, some_in_second, apart_from_first}
-use Rattle.record_join.proofs.BooksLemmas.{roomier_same, same_itself}
+use Rattle.record_join.proofs.OrderLemmas.{kept_apart, at_itself, apart_back, taken_out, changed, length_new, none_in_both, some_in_first, some_in_second, apart_from_first}
+use Rattle.record_join.proofs.BooksLemmas.{IsRoomier, roomier_same, same_itself}
 
 -- one more fresh key
 with_each_push : {X : Type 0} (x : X) (kept : List (PubKey × X)) (keys : List PubKey) (key : PubKey) → with_each x kept (keys ++ key ∷ []) ≡ with_key (with_each x kept keys) key x
@@ -44,11 +45,6 @@ one_out before now old keys key is fresh each =
     let removed = each_removed SameParts (with_key (with_each no_parts before keys) key no_parts) now key (subst G (with_each_push no_parts before keys key) (subst E is each)) in
     (front.0, subst H (taken_out (with_each no_parts before keys) key no_parts front.1) removed)
 
--- where the key is known, there is something kept of it
-pub known_some : (old new : List (PubKey × Parts)) (key : PubKey) (fresh more : List PubKey) → Knows old new key fresh more → IsSome (kept_of new key)
-known_some old new key fresh more (inl h) = rw h.1 h.0
-known_some old new key fresh more (inr h) = rw (h.1.2, kept_here old key h.1.0) refl
-
 known_others : (old new : List (PubKey × Parts)) (key : PubKey) (fresh more : List PubKey) → Knows old new key fresh more → (other : PubKey) → is_at (key_cmp key) other ≡ false → kept_of new other ≡ kept_of old other
 known_others old new key fresh more (inl h) other apart = rw h.1 refl
 known_others old new key fresh more (inr h) other apart = rw h.1.2 (kept_apart old key other h.1.0 apart)
@@ -75,13 +71,38 @@ known_same old new key fresh more (inr h) before are each =
 roomier_others : (old new : List (PubKey × Parts)) (key : PubKey) → IsRoomier old new key → (other : PubKey) → is_at (key_cmp key) other ≡ false → kept_of new other ≡ kept_of old other
 roomier_others old new key is other apart = rw (is.others, changed old key other is.roomy (rw is.is_kept refl), apart) refl
 
--- the key becomes known, and then its record roomier
-pub makes_room : (old mid new : List (PubKey × Parts)) (key : PubKey) (fresh more : List PubKey) → Knows old mid key fresh more → IsRoomier mid new key → MakesRoom old new key fresh more
-makes_room old mid new key fresh more knows roomier = record {
-  noted = known_noted old mid key fresh more knows;
-  same = λ before are each. let at = known_same old mid key fresh more knows before are each in (at.0, roomier_same (with_each no_parts before more) mid new key roomier at.1);
-  others = λ other apart. roomier_others mid new key roomier other apart ∙ known_others old mid key fresh more knows other apart;
+-- the key is kept already, and its record becomes roomier
+pub makes_roomier : (old new : List (PubKey × Parts)) (key : PubKey) (fresh : List PubKey) → IsRoomier old new key → MakesRoom old new key fresh fresh
+makes_roomier old new key fresh roomier = record {
+  noted = inl refl;
+  same = λ before are each. (are, roomier_same (with_each no_parts before fresh) old new key roomier each);
+  others = λ other apart. roomier_others old new key roomier other apart;
 }
+
+-- the key becomes known, or nothing changes
+pub makes_known : {A E : Type 0} (r : Result A E) (old new : List (PubKey × Parts)) (key : PubKey) (fresh more : List PubKey) → OnOk r (Knows old new key fresh more) → OnErr r ((new ≡ old) × (more ≡ fresh)) → MakesRoom old new key fresh more
+makes_known (Ok x) old new key fresh more knows err = record {
+  noted = known_noted old new key fresh more knows;
+  same = known_same old new key fresh more knows;
+  others = known_others old new key fresh more knows;
+}
+makes_known (Err x) old new key fresh more knows err = record {
+  noted = inl err.1;
+  same = λ before are each.
+      let F : List PubKey → Type 0 = λ ks. AreFresh no_parts before ks × EachKey SameParts (with_each no_parts before ks) new in
+      let E : List (PubKey × Parts) → Type 0 = λ l. EachKey SameParts (with_each no_parts before fresh) l in
+      subst F (sym err.1) (are, subst E (sym err.0) each);
+  others = λ other apart. ap (λ l. kept_of l other) err.0;
+}
+
+-- one is noted where the key was not kept
+known_count : (old new : List (PubKey × Parts)) (key : PubKey) (fresh more : List PubKey) → Knows old new key fresh more → length more ≡ length fresh + cond (is_some (kept_of old key)) 0 1
+known_count old new key fresh more (inl h) = rw (h.2, h.0) (omega arith)
+known_count old new key fresh more (inr h) = rw (h.2, h.0, length-append fresh) refl
+
+pub known_noted_one : {A E : Type 0} (r : Result A E) (old new : List (PubKey × Parts)) (key : PubKey) (fresh more : List PubKey) → OnOk r (Knows old new key fresh more) → OnOk r (length more ≡ length fresh + cond (is_some (kept_of old key)) 0 1)
+known_noted_one (Ok x) old new key fresh more knows = known_count old new key fresh more knows
+known_noted_one (Err x) old new key fresh more knows = knows
 
 -- some of the fresh keys are taken out, and these are left
 pub record IsOnTheWay (start_keys : List PubKey) (start : List (PubKey × Parts)) (keys : List PubKey) (now : List (PubKey × Parts)) : Type 0 where

@@ -2,6 +2,9 @@ pub mod KeyLemmas
 pub mod OrderLemmas
 pub mod BooksLemmas
 pub mod FreshLemmas
+pub mod CopyLemmas
+pub mod TakeLemmas
+pub mod OneKeyLemmas
 pub mod FileLemmas
 pub mod LawLemmas
 pub mod RepeatLemmas

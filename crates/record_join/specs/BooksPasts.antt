@@ -13,8 +13,8 @@ use Rattle.protect_record.specs.declared.verdict.Verdict.{Verdict}
 use Rattle.protect_record.specs.declared.verdict.Verdict.TheVariants as verdict
 use Rattle.record_join.specs.Keys.{kept_of, with_key, with_kept, EachKey}
 use Rattle.record_join.specs.Repeats.{repeats}
-use Rattle.record_join.specs.declared.judged.Judged.{Judged}
-use Rattle.record_join.specs.declared.judged.Judged.TheVariants as judged
+use Rattle.record_join.specs.declared.judgement.Judged.{Judged}
+use Rattle.record_join.specs.declared.judgement.Judged.TheVariants as judged
 use Rattle.record_join.specs.declared.fault.BeginFault.{BeginFault}
 use Rattle.record_join.specs.declared.fault.BeginFault.TheVariants as begin_fault
 use Rattle.record_join.specs.declared.fault.MergeFault.{MergeFault}
@@ -91,12 +91,16 @@ pub record IsRefusal (past : Past) (m : Message) (v : Verdict) : Type 0 where
   pub is_no_pass : v ≢ verdict.Pass
   pub forbids : ¬ (Passes past m)
 
+-- what the past of a key says of a message; of a key that is not kept there is none
+abbrev pub JudgesPast : Option Past → Message → Judged → Type 0
+JudgesPast past m judged.Unknown = past ≡ None
+JudgesPast past m (judged.Refused v) = IsSomeAnd past (λ p. IsRefusal p m v)
+JudgesPast past m judged.NoRoom = IsSomeAnd past (λ p. Passes p m)
+JudgesPast past m (judged.Ready repeat) = IsSomeAnd past (λ p. Passes p m × (repeat ≡ repeats p m))
+
 -- what the key's past says of the message
 abbrev pub Judges : List (PubKey × Past) → PubKey → Message → Judged → Type 0
-Judges pasts key m judged.Unknown = kept_of pasts key ≡ None
-Judges pasts key m (judged.Refused v) = IsSomeAnd (kept_of pasts key) (λ past. IsRefusal past m v)
-Judges pasts key m judged.NoRoom = IsSomeAnd (kept_of pasts key) (λ past. Passes past m)
-Judges pasts key m (judged.Ready repeat) = IsSomeAnd (kept_of pasts key) (λ past. Passes past m × (repeat ≡ repeats past m))
+Judges pasts key m j = JudgesPast (kept_of pasts key) m j
 
 -- a key begins nowhere but where it is not kept, and fails by its number only where the limit is reached
 abbrev pub IsBeginFault : List (PubKey × Parts) → PubKey → BeginFault → Type 0

@@ -3,3 +3,8 @@ pub mod Repeats
 pub mod Taking
 pub mod BooksPasts
 pub mod Preparing
+pub mod KeyByKey
+pub mod KeyLaws
+pub mod EachKeyLaws
+pub mod RepeatLaws
+pub mod BooksPastsLaws

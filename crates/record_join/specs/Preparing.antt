@@ -1,10 +1,10 @@
 -- Records that are made ready for what is listed, so that it can be taken in without refusal.
-use Rattle.std.specs.Prelude.{◌≡◌, ℕ, ◌≤◌, ◌⊎◌, false, List, [], ◌∷◌, ◌++◌, All, Some, None, IsSome, IsSomeAnd, fold, length}
+use Rattle.std.specs.Prelude.{◌≡◌, ℕ, ◌≤◌, ◌⊎◌, false, List, [], ◌∷◌, ◌++◌, All, None, IsSome, IsSomeAnd, fold, length}
 use Rattle.std.specs.BTreeMap.{is_at}
 use Rattle.edge_kit.specs.declared.bytes.PubKey.{PubKey}
 use Rattle.slash_defs.specs.declared.book.Book.{Book}
 use Rattle.protect_record.specs.Parts.{Parts, SameParts, no_floors}
-use Rattle.record_join.specs.Keys.{key_cmp, kept_of, with_key, with_kept, EachKey}
+use Rattle.record_join.specs.Keys.{key_cmp, kept_of, with_key, EachKey}
 use Rattle.record_join.specs.BooksPasts.{new_keys, KeepsOthers}
 
 -- what a record without a past keeps
@@ -63,14 +63,6 @@ abbrev pub Knows : List (PubKey × Parts) → List (PubKey × Parts) → PubKey 
 Knows old new key fresh more =
     (IsSome (kept_of old key) × (new ≡ old) × (more ≡ fresh))
     ⊎ ((kept_of old key ≡ None) × ((parts : Parts) × SameParts no_parts parts × (new ≡ with_key old key parts)) × (more ≡ fresh ++ key ∷ []))
-
--- the record of the key keeps what it kept, with more room maybe
-pub record IsRoomier (old new : List (PubKey × Parts)) (key : PubKey) : Type 0 where
-  pub parts : Parts
-  pub is_kept : kept_of old key ≡ Some parts
-  pub roomy : Parts
-  pub same : SameParts parts roomy
-  pub others : new ≡ with_kept old key roomy
 
 -- of all keys but this one nothing has changed, and the key may have become a fresh one
 pub record MakesRoom (old new : List (PubKey × Parts)) (key : PubKey) (fresh more : List PubKey) : Type 0 where

@@ -1,17 +1,16 @@
 -- Messages that a past has already, root and all.
-use Rattle.std.specs.Prelude.{ℕ, ◌==◌, ◌&&◌, ◌||◌, Bool, false, Option, Some, None, Contains}
+use Rattle.std.specs.Prelude.{ℕ, ◌==◌, ◌&&◌, ◌||◌, Bool, false, Option, Some, None}
 use Rattle.std.specs.List.{list_any}
 use Rattle.std.specs.Str.{bytes_eq}
 use Rattle.edge_kit.specs.declared.bytes.Root.{Root}
 use Rattle.slash_defs.specs.declared.entry.BlockEntry.{BlockEntry}
 use Rattle.slash_defs.specs.declared.entry.VoteEntry.{VoteEntry}
-use Rattle.slash_defs.specs.declared.entry.Entry.{Entry}
-use Rattle.slash_defs.specs.declared.entry.Entry.TheVariants as entry
 use Rattle.slash_defs.specs.declared.book.Book.{Book}
 use Rattle.slash_defs.specs.declared.message.Message.{Message}
 use Rattle.slash_defs.specs.declared.message.Message.TheVariants as message
 use Rattle.protect_record.specs.Parts.{Parts}
 use Rattle.protect_record.specs.Pasts.{Past, IsPastBlock, IsPastVote}
+use Rattle.protect_record.specs.Changes.{IsKept}
 
 -- a block as it is kept, with its root
 abbrev pub block_entry : ℕ → Root → BlockEntry
@@ -28,8 +27,7 @@ IsRepeat past (message.Vote source target root) = IsPastVote past (vote_entry so
 
 -- the record keeps the message, root and all
 abbrev pub IsKeptIn : Parts → Message → Type 0
-IsKeptIn parts (message.Block slot root) = Contains parts.blocks (block_entry slot root)
-IsKeptIn parts (message.Vote source target root) = Contains parts.votes (vote_entry source target root)
+IsKeptIn parts m = IsKept parts m
 
 -- the root is known, and is this one
 abbrev pub is_root : Root → Option Root → Bool
@@ -43,13 +41,6 @@ is_block slot root e = e.slot == slot && is_root root e.root
 -- the entry is of this vote, root and all
 abbrev pub is_vote : ℕ → ℕ → Root → VoteEntry → Bool
 is_vote source target root e = e.target == target && (e.source == source && is_root root e.root)
-
--- the entry is of this message, root and all
-abbrev pub is_entry : Message → Entry → Bool
-is_entry (message.Block slot root) (entry.Block e) = is_block slot root e
-is_entry (message.Vote source target root) (entry.Vote e) = is_vote source target root e
-is_entry (message.Block slot root) (entry.Vote e) = false
-is_entry (message.Vote source target root) (entry.Block e) = false
 
 -- the second message is the first
 abbrev pub is_message : Message → Message → Bool

@@ -1,5 +1,5 @@
 -- How the kept records judge a message.
-use Rattle.std.specs.Prelude.{◌≡◌, ◌≢◌, ◌↔◌, Bool, List, None, Some, IsTrue, IsSomeAnd}
+use Rattle.std.specs.Prelude.{◌≡◌, ◌≢◌, ◌↔◌, Bool, List, Option, None, Some, IsTrue, IsSomeAnd}
 use Rattle.edge_kit.specs.declared.bytes.PubKey.{PubKey}
 use Rattle.slash_defs.specs.declared.message.Message.{Message}
 use Rattle.protect_record.specs.Parts.{Parts, SameParts, HasRoom}
@@ -11,8 +11,8 @@ use Rattle.protect_record.specs.declared.verdict.Verdict.{Verdict}
 use Rattle.protect_record.specs.declared.verdict.Verdict.TheVariants as verdict
 use Rattle.record_join.specs.Keys.{kept_of, with_kept}
 use Rattle.record_join.specs.Repeats.{IsKeptIn}
-use Rattle.record_join.specs.declared.judged.Judged.{Judged}
-use Rattle.record_join.specs.declared.judged.Judged.TheVariants as judged
+use Rattle.record_join.specs.declared.judgement.Judged.{Judged}
+use Rattle.record_join.specs.declared.judgement.Judged.TheVariants as judged
 
 -- the key's record keeps what it kept, with more room maybe, and judges the message so
 pub record HasJudged (old new : List (PubKey × Parts)) (key : PubKey) (m : Message) (v : Verdict) : Type 0 where
@@ -40,3 +40,10 @@ JudgesKept old new key m judged.Unknown = (kept_of old key ≡ None) × (new ≡
 JudgesKept old new key m (judged.Refused v) = (v ≢ verdict.Pass) × HasJudged old new key m v
 JudgesKept old new key m judged.NoRoom = HasJudged old new key m verdict.Pass
 JudgesKept old new key m (judged.Ready repeat) = IsFoundReady old new key m repeat
+
+-- what the key's own record says of the message: the table's verdict (EIP-3076, conditions 1 to 5), and whether the message is kept; a key is unknown where it is not kept
+abbrev pub JudgesBy : Option Parts → Message → Judged → Type 0
+JudgesBy kept m judged.Unknown = kept ≡ None
+JudgesBy kept m (judged.Refused v) = IsSomeAnd kept (λ parts. IsVerdict parts m v × (v ≢ verdict.Pass))
+JudgesBy kept m judged.NoRoom = IsSomeAnd kept (λ parts. IsVerdict parts m verdict.Pass)
+JudgesBy kept m (judged.Ready repeat) = IsSomeAnd kept (λ parts. IsVerdict parts m verdict.Pass × (IsTrue repeat ↔ IsKeptIn parts m))

@@ -1,21 +1,23 @@
 //! The records of many keys.
-ghost use Rattle.std.specs.Prelude.{Bool, ◌≡◌, ◌+◌, ◌≤◌, ◌<◌, ◌↔◌, List, [], None, IsSome, IsTrue, OnOk, OnErr, IfOk, IfErr, is_some, length, option_copied, if◌then◌else◌};
+ghost use Rattle.std.specs.Prelude.{Bool, ◌≡◌, ◌+◌, ◌≤◌, ◌<◌, ◌↔◌, List, [], false, All, Option, None, IsSome, IsTrue, OnOk, OnErr, IfOk, IfErr, is_some, length, option_copied, if◌then◌else◌};
+ghost use Rattle.std.specs.BTreeMap.{is_at};
 ghost use Rattle.std.specs.Map.{keys_of};
 ghost use Rattle.edge_kit.specs.declared.bytes.PubKey.{PubKey};
 ghost use Rattle.protect_record.specs.Parts.{Parts, SameParts};
 ghost use Rattle.protect_record.specs.Pasts.{Past, no_past};
-ghost use Rattle.record_join.specs.Keys.{kept_of, with_key, EachKey};
-ghost use Rattle.record_join.specs.BooksPasts.{BooksStand, Judges, IsBeginFault, IsMergeFault, EachOnce, KeepsOthers, own_grown, with_file, joined, new_keys, key_limit};
-ghost use Rattle.record_join.specs.Preparing.{AreTaken, IsPrepared};
-ghost use Rattle.record_join.specs.Taking.{IsReadyFor};
+ghost use Rattle.record_join.specs.Keys.{key_cmp, kept_of, with_key, EachKey};
+ghost use Rattle.record_join.specs.BooksPasts.{BooksStand, Judges, JudgesPast, IsBeginFault, IsMergeFault, EachOnce, KeepsOthers, own_grown, with_file, joined, new_keys, key_limit};
+ghost use Rattle.record_join.specs.KeyByKey.{AreBooks, EachTakes, StandsOf, Takes, TakesBook, TakesMessage, TakesRecord};
+ghost use Rattle.record_join.specs.Preparing.{AreTaken, IsPrepared, Knows};
+ghost use Rattle.record_join.specs.Taking.{IsReadyFor, JudgesBy};
 
-use crate::beginning::{insert_new, make_fresh};
 use crate::fault::{BeginFault, MergeFault};
-use crate::joining::{join_records, prepare_records};
-use crate::judged::Judged;
-use crate::judging::{add, judge};
+use crate::fresh::{insert_new, make_fresh};
+use crate::join::{join_records, prepare_records};
+use crate::judgement::Judged;
 use crate::limit::{new_records, over_limit};
-use crate::merging::{merge_books, prepare_within};
+use crate::merge::{merge_books, prepare_books};
+use crate::message::{add, judge};
 use crate::room::take_out;
 use edge_kit::{Items, PubKey};
 use protect_record::Record;
@@ -40,13 +42,16 @@ pub struct Books {
 }
 
 impl Model for Books {
-    ghost use Rattle.std.specs.Prelude.{List};
+    ghost use Rattle.std.specs.Prelude.{◌≤◌, List, length};
     ghost use Rattle.edge_kit.specs.declared.bytes.PubKey.{PubKey};
     ghost use Rattle.protect_record.specs.Parts.{Parts};
+    ghost use Rattle.record_join.specs.BooksPasts.{key_limit};
 
     ghost Value = { List (PubKey × Parts) };
 
     ghost view = { λ b. b.kept.entries };
+
+    ghost invariant = { λ b. length b.kept.entries ≤ key_limit };
 }
 
 impl Books {
@@ -69,7 +74,8 @@ impl Books {
 
     /// How many keys are kept. Takes no memory.
     pub fn len(&self) -> usize
-        ensures { result ≡ length self.now }
+        ensures count { result ≡ length self.now }
+        ensures books { AreBooks self.now }
     {
         self.kept.len()
     }
@@ -87,7 +93,8 @@ impl Books {
     ///
     /// `AllocError` where memory was wanted.
     pub fn keys(&self, alloc: Global) -> Result<Keys, AllocError>
-        ensures { IfOk result (λ keys. keys ≡ keys_of self.now) }
+        ensures listed { IfOk result (λ keys. keys ≡ keys_of self.now) }
+        ensures books { AreBooks self.now }
     {
         let keys = self.kept.keys().copied().collect(alloc)?;
         Ok(Items::from_vec(keys))
@@ -95,7 +102,8 @@ impl Books {
 
     /// Each key with its record, in key order. Takes no memory.
     pub fn iter(&self) -> Iter<'_, PubKey, Record>
-        ensures { result ≡ self.now }
+        ensures entries { result ≡ self.now }
+        ensures books { AreBooks self.now }
     {
         self.kept.iter()
     }
@@ -121,7 +129,7 @@ impl Books {
         ensures err { OnErr result ((pasts : List (PubKey × Past)) → BooksStand self.old pasts → BooksStand self.new pasts) }
         ensures same { OnErr result (EachKey SameParts self.old self.new) }
     {
-        let fresh = prepare_within(&mut self.kept, self.alloc, listed, has_room)?;
+        let fresh = prepare_books(&mut self.kept, self.alloc, listed, has_room)?;
         Ok(Items::from_vec(fresh))
     }
 
@@ -130,7 +138,9 @@ impl Books {
     pub fn merge_prepared(&mut self, listed: &[(PubKey, Book)])
         requires once { EachOnce listed.now }
         requires ready { (before : List (PubKey × Parts)) × (fresh : List PubKey) × IsPrepared before listed.now fresh self.old }
-        ensures { (before : List (PubKey × Parts)) (fresh : List PubKey) (pasts : List (PubKey × Past)) → IsPrepared before listed.now fresh self.old
+        // For each key by itself: no other key's record need stand for a past.
+        ensures each { (before : List (PubKey × Parts)) (fresh : List PubKey) → IsPrepared before listed.now fresh self.old → EachTakes TakesBook listed.now before self.new }
+        ensures stands { (before : List (PubKey × Parts)) (fresh : List PubKey) (pasts : List (PubKey × Past)) → IsPrepared before listed.now fresh self.old
             → BooksStand before pasts → BooksStand self.new (with_file pasts listed.now) }
     {
         merge_books(&mut self.kept, listed);
@@ -147,6 +157,7 @@ impl Books {
         ensures known { IfOk result (λ fresh. (pasts : List (PubKey × Past)) → BooksStand self.old pasts
             → BooksStand self.new (if is_some (kept_of pasts key) then pasts else with_key pasts key no_past)) }
         ensures fresh { IfOk result (λ fresh. AreTaken self.old fresh self.new) }
+        ensures knows { IfOk result (λ fresh. Knows self.old self.new key [] fresh) }
         ensures within { OnOk result (kept_of self.old key ≡ None → length self.old < key_limit) }
         ensures fault { IfErr result (IsBeginFault self.old key) }
         ensures err { OnErr result (self.new ≡ self.old) }
@@ -155,9 +166,12 @@ impl Books {
         Ok(Items::from_vec(fresh))
     }
 
-    /// Takes back what was made ready: the fresh keys are kept no more, and each other record keeps what it
-    /// kept. Takes no memory.
+    /// Takes back what was made ready, where the fresh keys are those that were given: they are kept no more,
+    /// and each other record keeps what it kept. Takes no memory.
     pub fn take_back(&mut self, fresh: Fresh)
+        requires { (before : List (PubKey × Parts)) × AreTaken before fresh self.old }
+        ensures gone { All (λ key. kept_of self.new key ≡ None) fresh }
+        ensures others { (key : PubKey) → All (λ other. is_at (key_cmp other) key ≡ false) fresh → kept_of self.new key ≡ kept_of self.old key }
         ensures same { (before : List (PubKey × Parts)) → AreTaken before fresh self.old → EachKey SameParts before self.new }
         ensures stands { (before : List (PubKey × Parts)) (pasts : List (PubKey × Past)) → AreTaken before fresh self.old → BooksStand before pasts → BooksStand self.new pasts }
     {
@@ -167,6 +181,10 @@ impl Books {
     /// Judges a message by the past of its key, and makes room for it there. `has_room` says whether there is
     /// room beside. Each record keeps what it kept.
     pub fn judge(&mut self, key: &PubKey, message: &Message, has_room: bool) -> Judged
+        ensures same { EachKey SameParts self.old self.new }
+        ensures by_record { JudgesBy (kept_of self.old key.now) message.now result }
+        // By the key's own record: no other key's record need stand for a past.
+        ensures by_past { (past : Option Past) → StandsOf (kept_of self.old key.now) past → JudgesPast past message.now result }
         ensures judged { (pasts : List (PubKey × Past)) → BooksStand self.old pasts → Judges pasts key.now message.now result × BooksStand self.new pasts }
         ensures ready { (repeat : Bool) → result ≡ Judged.Ready repeat → IsReadyFor self.new key.now message.now × IsTrue has_room }
     {
@@ -177,7 +195,8 @@ impl Books {
     /// memory.
     pub fn add(&mut self, key: &PubKey, message: &Message)
         requires { IsReadyFor self.old key.now message.now }
-        ensures { (pasts : List (PubKey × Past)) → BooksStand self.old pasts → BooksStand self.new (own_grown pasts key.now message.now) }
+        ensures takes { Takes TakesMessage self.old self.new key.now message.now }
+        ensures stands { (pasts : List (PubKey × Past)) → BooksStand self.old pasts → BooksStand self.new (own_grown pasts key.now message.now) }
     {
         add(&mut self.kept, key, message);
     }
@@ -209,6 +228,8 @@ impl Books {
     /// what it kept.
     pub fn merge_file(&mut self, file: &File, has_room: bool) -> Result<(), MergeFault>
         requires { EachOnce file.now.books }
+        // For each key by itself: no other key's record need stand for a past.
+        ensures each { OnOk result (EachTakes TakesBook file.now.books self.old self.new) }
         ensures merged { OnOk result ((pasts : List (PubKey × Past)) → BooksStand self.old pasts
             → BooksStand self.new (with_file pasts file.now.books)) }
         ensures within { OnOk result (length self.old + new_keys self.old file.now.books ≤ key_limit) }
@@ -220,7 +241,7 @@ impl Books {
         ensures others { KeepsOthers file.now.books self.old self.new }
     {
         let books = file.books.as_slice();
-        prepare_within(&mut self.kept, self.alloc, books, has_room)?;
+        prepare_books(&mut self.kept, self.alloc, books, has_room)?;
         merge_books(&mut self.kept, books);
         Ok(())
     }
@@ -233,6 +254,8 @@ impl Books {
     /// `TooManyKeys` exactly where there would be more than 65,536 keys, and `OutOfMemory`. Each record keeps
     /// what it kept.
     pub fn join(&mut self, other: &Books) -> Result<(), MergeFault>
+        // For each key by itself: no other key's record need stand for a past.
+        ensures each { OnOk result (EachTakes TakesRecord other.now self.old self.new) }
         ensures joined { OnOk result ((pasts others : List (PubKey × Past)) → BooksStand self.old pasts → BooksStand other.now others
             → BooksStand self.new (joined pasts others)) }
         ensures within { OnOk result (length self.old + new_keys self.old other.now ≤ key_limit) }

@@ -1,21 +1,21 @@
 //! The protection records of many keys: what the past of each key lets pass.
 #![tactic(auto)]
 
-mod beginning;
 mod books;
 mod fault;
-mod joining;
-mod judged;
-mod judging;
+mod fresh;
+mod join;
+mod judgement;
 mod laws;
 mod limit;
-mod merging;
+mod merge;
+mod message;
 mod room;
 #[cfg(test)]
 mod tests;
 
 pub use books::{Books, Fresh, Keys};
 pub use fault::{BeginFault, MergeFault};
-pub use judged::Judged;
-pub use laws::{books_join_laws, prepared_law, repeat_law};
+pub use judgement::Judged;
+pub use laws::{books_join_laws, books_stand_law, key_laws, prepared_law, repeat_law, takes_law};
 pub use limit::KEY_LIMIT;

@@ -1,10 +1,10 @@
 //! Records that are made ready, so that more can be taken in without refusal.
-ghost use Rattle.std.specs.Prelude.{◌≡◌, ◌+◌, List, None, false, All, IsSome, IsSomeAnd, OnOk, OnErr, length, is_some, if◌then◌else◌};
+ghost use Rattle.std.specs.Prelude.{◌≡◌, ◌+◌, List, None, false, All, IsSomeAnd, OnOk, OnErr, length, is_some, if◌then◌else◌};
 ghost use Rattle.std.specs.BTreeMap.{is_at};
 ghost use Rattle.edge_kit.specs.declared.bytes.PubKey.{PubKey};
 ghost use Rattle.protect_record.specs.Parts.{Parts, SameParts};
 ghost use Rattle.record_join.specs.Keys.{key_cmp, kept_of, EachKey};
-ghost use Rattle.record_join.specs.Preparing.{AreFresh, HasRoomFor, IsRoomier, Knows, MakesRoom, no_parts, with_each};
+ghost use Rattle.record_join.specs.Preparing.{AreFresh, HasRoomFor, Knows, MakesRoom, no_parts, with_each};
 
 use edge_kit::PubKey;
 use protect_record::Record;
@@ -16,7 +16,7 @@ use std::collections::BTreeMap;
 ///
 /// # Errors
 ///
-/// `AllocError` where memory was wanted. The key may be kept and noted then.
+/// `AllocError` where memory was wanted. The record may have more room then.
 pub fn make_room(
     kept: &mut BTreeMap<PubKey, Record>,
     alloc: Global,
@@ -28,8 +28,10 @@ pub fn make_room(
     ensures room { OnOk result (IsSomeAnd (kept_of kept.new.entries key.now) (λ parts. HasRoomFor parts size)) }
     ensures noted { OnOk result (length fresh.new.items ≡ length fresh.old.items + (if is_some (kept_of kept.old.entries key.now) then 0 else 1)) }
 {
-    make_known(kept, alloc, *key, fresh)?;
-    reserve_at(kept, key, size)
+    if let Some(record) = kept.get_mut(key) {
+        return record.reserve(size.0, size.1);
+    }
+    insert_fresh(kept, alloc, *key, size, fresh)
 }
 
 /// Takes fresh keys out again, the last first.
@@ -43,40 +45,30 @@ pub fn take_out(kept: &mut BTreeMap<PubKey, Record>, mut fresh: Vec<PubKey>)
     }
 }
 
-/// Keeps a key that is not kept with an empty record, and notes it.
-pub fn make_known(
+/// Keeps a key that is not kept with an empty record, which has room for so many blocks and votes, and notes it
+/// behind the fresh ones.
+///
+/// # Errors
+///
+/// `AllocError` where memory was wanted. Nothing has changed then.
+pub fn insert_fresh(
     kept: &mut BTreeMap<PubKey, Record>,
     alloc: Global,
     key: PubKey,
+    size: (usize, usize),
     fresh: &mut Vec<PubKey>,
 ) -> Result<(), AllocError>
+    requires { kept_of kept.old.entries key ≡ None }
     ensures knows { OnOk result (Knows kept.old.entries kept.new.entries key fresh.old.items fresh.new.items) }
+    ensures room { OnOk result (IsSomeAnd (kept_of kept.new.entries key) (λ parts. HasRoomFor parts size)) }
     ensures err { OnErr result ((kept.new.entries ≡ kept.old.entries) × (fresh.new.items ≡ fresh.old.items)) }
-    ensures absent { OnErr result (kept_of kept.old.entries key ≡ None) }
 {
-    if kept.contains_key(&key) {
-        return Ok(());
-    }
+    let mut record = Record::new(alloc);
+    record.reserve(size.0, size.1)?;
     fresh.reserve(1)?;
-    if kept.insert(key, Record::new(alloc)).is_err() {
+    if kept.insert(key, record).is_err() {
         return Err(AllocError);
     }
     let _ = fresh.push(key);
     Ok(())
-}
-
-/// Reserves room in the record of a key that is kept.
-fn reserve_at(
-    kept: &mut BTreeMap<PubKey, Record>,
-    key: &PubKey,
-    size: (usize, usize),
-) -> Result<(), AllocError>
-    requires { IsSome (kept_of kept.old.entries key.now) }
-    ensures same { IsRoomier kept.old.entries kept.new.entries key.now }
-    ensures room { OnOk result (IsSomeAnd (kept_of kept.new.entries key.now) (λ parts. HasRoomFor parts size)) }
-{
-    match kept.get_mut(key) {
-        Some(record) => record.reserve(size.0, size.1),
-        None => Ok(()),
-    }
 }

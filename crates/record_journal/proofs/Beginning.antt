@@ -2,7 +2,7 @@
 use Rattle.std.proofs.Common.{◌≡◌, inl, inr, ℕ, ◌+◌, ◌≤◌, List, [], ◌∷◌, ◌++◌, length, get_or, take, drop, refl, sym, ◌∙◌, ap, arith, length-append, append_assoc, take-append-drop}
 use Rattle.std.proofs.lemmas.List.{drop_more}
 use Rattle.std.proofs.lemmas.Bool.{cases_eq}
-use Rattle.edge_kit.specs.Disks.{Torn, overwrite, Same, Elapses, Holds}
+use Rattle.edge_kit.specs.Disks.{Torn, overwrite, Elapses, Holds}
 use Rattle.edge_kit.proofs.Moments.{leaves_call, leaves_on, leaves_weaker, leaves_end}
 use Rattle.edge_kit.proofs.DiskLemmas.{overwrite_within, reach_le}
 use Rattle.record_journal.specs.Frames.{reading, begun, magic, front, frames, WellMade, Closed, Headed, IsEmpty, Keeps}
@@ -81,10 +81,6 @@ written_open root d c headed written = headed_made root c headed.behind headed.r
 module _ {D : Type 0} (shows : D → List ℕ → Type 0) (moment : D → ℕ) (leaves : D → ℕ → List ℕ → Type 0) (root : List ℕ) where
   abbrev AsBefore : D → List ℕ → Type 0
   AsBefore old c = (d : List ℕ) × leaves old (moment old) d × (begun (reading root c) ≡ begun (reading root d))
-
-  -- a call that changes nothing
-  pub keeps_same : (old new : D) → Elapses Same (moment old) (moment new) (leaves old) (leaves new) → Keeps moment leaves root old new
-  keeps_same old new time = leaves_call moment leaves Same old new (AsBefore old) time (λ c left. (c, left, refl)) (λ d c left same. (d, left, ap (λ (l : List ℕ). begun (reading root l)) same))
 
   pub keeps_on : (old mid new : D) → Keeps moment leaves root old mid → Keeps moment leaves root mid new → Keeps moment leaves root old new
   keeps_on old mid new first second =

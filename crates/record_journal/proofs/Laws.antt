@@ -64,7 +64,7 @@ eqb_not a b e = eqb-false a b e
 four_fit : (b : List ℕ) → AreBytes b → from_le_bytes w32 b < 2 ^ 32
 four_fit b fits = omega (arith, fits 0, fits 1, fits 2, fits 3)
 
-one_frame : (n : ℕ) (rest behind : List ℕ) (qs : List (List ℕ)) → AreBytes rest → 4 ≤ length rest → n ≡ size_of rest → 0 < n → n + 5 ≤ length rest → bad_at (take n (drop 4 rest)) ≡ None → Framed qs (drop (4 + n) rest) → Framed (take n (drop 4 rest) ∷ qs) (1 ∷ rest)
+one_frame : (n : ℕ) (rest behind : List ℕ) (qs : List (List ℕ)) → AreBytes rest → 4 ≤ length rest → n ≡ size_of rest → 0 < n → n + 4 ≤ length rest → bad_at (take n (drop 4 rest)) ≡ None → Framed qs (drop (4 + n) rest) → Framed (take n (drop 4 rest) ∷ qs) (1 ∷ rest)
 unfolding size_of size_bytes
 one_frame n rest behind qs fits long is some room batch later =
     let p = take n (drop 4 rest) in
@@ -94,14 +94,14 @@ frames_kept_only (suc fuel) total (gate ∷ rest) ps fits e =
     let p = take (size_of rest) (drop 4 rest) in
     let others = frames_of fuel total (drop (4 + size_of rest) rest) in
     let third = judged (total - length rest + 4) (bad_at p) p others in
-    let second = cond (ltb (length rest) (n + 5)) (Damaged total None) third in
+    let second = cond (ltb (length rest) (n + 4)) (Damaged total None) third in
     let first = cond (eqb n 0) (Damaged (total - length rest) (Some 0)) second in
     elim (chosen (eqb gate 1) (cond (ltb (length rest) 4) (Damaged total None) first) (Kept []) ps e) [
       | inr shut ↦ subst (λ (l : List (List ℕ)). Framed l (gate ∷ rest)) (kept_is [] ps shut.1) (record { gate = gate; behind = rest; split = refl; shut = eqb_not gate 1 shut.0; payloads = tt })
       | inl is_open ↦
           let a = not_damaged (ltb (length rest) 4) total None first ps is_open.1 in
           let b = not_damaged (eqb n 0) (total - length rest) (Some 0) second ps a.1 in
-          let c = not_damaged (ltb (length rest) (n + 5)) total None third ps b.1 in
+          let c = not_damaged (ltb (length rest) (n + 4)) total None third ps b.1 in
           let j = well_judged (total - length rest + 4) (bad_at p) p others ps c.1 in
           let q = prepended p others ps j.1 in
           let rest_fits : AreBytes rest = λ k. fits (suc k) in
@@ -181,7 +181,7 @@ frames_begun (suc fuel) total (gate ∷ rest) e =
     let p = take (size_of rest) (drop 4 rest) in
     let others = frames_of fuel total (drop (4 + size_of rest) rest) in
     let third = judged (total - length rest + 4) (bad_at p) p others in
-    let second = cond (ltb (length rest) (n + 5)) (Damaged total None) third in
+    let second = cond (ltb (length rest) (n + 4)) (Damaged total None) third in
     let first = cond (eqb n 0) (Damaged (total - length rest) (Some 0)) second in
     elim (unchosen (eqb gate 1) (cond (ltb (length rest) 4) (Damaged total None) first) (Kept []) e) [
       | inr shut ↦ kept_differs [] shut.1
@@ -189,7 +189,7 @@ frames_begun (suc fuel) total (gate ∷ rest) e =
         | inl short ↦ damaged_differs total None short.1
         | inr a ↦ elim (unchosen (eqb n 0) (Damaged (total - length rest) (Some 0)) second a.1) [
           | inl none ↦ damaged_differs (total - length rest) (Some 0) none.1
-          | inr b ↦ elim (unchosen (ltb (length rest) (n + 5)) (Damaged total None) third b.1) [
+          | inr b ↦ elim (unchosen (ltb (length rest) (n + 4)) (Damaged total None) third b.1) [
             | inl cut ↦ damaged_differs total None cut.1
             | inr c ↦ judged_begun (total - length rest + 4) (bad_at p) p others (frames_begun fuel total (drop (4 + n) rest)) c.1
           ]

@@ -6,3 +6,4 @@ mod Parsing
 mod Moments
 mod Appending
 mod Laws
+mod Opening

@@ -17,16 +17,16 @@ unfolding size_bytes size_of
 size_of-size_bytes n rest fits = from_le_bytes-to_le_bytes_4 n fits
 
 -- a frame is read by what stands where, and then the rest
-frame_gives : (fuel total : ℕ) (s : List ℕ) (n : ℕ) (p rest : List ℕ) → size_of s ≡ n → n + 5 ≤ length s → 0 < n → take n (drop 4 s) ≡ p → drop (4 + n) s ≡ rest → bad_at p ≡ None → frames_of (suc fuel) total (1 ∷ s) ≡ prepend p (frames_of fuel total rest)
+frame_gives : (fuel total : ℕ) (s : List ℕ) (n : ℕ) (p rest : List ℕ) → size_of s ≡ n → n + 4 ≤ length s → 0 < n → take n (drop 4 s) ≡ p → drop (4 + n) s ≡ rest → bad_at p ≡ None → frames_of (suc fuel) total (1 ∷ s) ≡ prepend p (frames_of fuel total rest)
 unfolding frames_of
 frame_gives fuel total s n p rest sized room some took left batch =
-    rw (le-ltb (length s) 4 (omega arith), sized, ne_eqb n 0 (λ is. absurd (omega arith)), le-ltb (length s) (n + 5) room, took, batch, left) refl
+    rw (le-ltb (length s) 4 (omega arith), sized, ne_eqb n 0 (λ is. absurd (omega arith)), le-ltb (length s) (n + 4) room, took, batch, left) refl
 
 pub length-body : (p : List ℕ) → length (body p) ≡ length p + 4
 length-body p = omega (arith, length-append (size_bytes (length p)) p, length-size_bytes (length p))
 
-pub frame_first : (fuel total : ℕ) (p rest : List ℕ) → 0 < length rest → IsPayload p → frames_of (suc fuel) total (1 ∷ (body p ++ rest)) ≡ prepend p (frames_of fuel total rest)
-frame_first fuel total p rest more payload =
+pub frame_first : (fuel total : ℕ) (p rest : List ℕ) → IsPayload p → frames_of (suc fuel) total (1 ∷ (body p ++ rest)) ≡ prepend p (frames_of fuel total rest)
+frame_first fuel total p rest payload =
     let n = length p in
     let joined : body p ++ rest ≡ size_bytes n ++ (p ++ rest) = append_assoc (size_bytes n) p rest in
     let sized : size_of (body p ++ rest) ≡ n = ap size_of joined ∙ size_of-size_bytes n (p ++ rest) payload.fits in
@@ -43,7 +43,7 @@ frames_kept zero total ps gate behind enough shut all = absurd (omega arith)
 frames_kept (suc fuel) total [] gate behind enough shut all = frames_end fuel total gate behind shut
 frames_kept (suc fuel) total (p ∷ ps) gate behind enough shut all =
     ap (λ (l : List ℕ). frames_of (suc fuel) total (1 ∷ l)) (append_assoc (body p) (frames ps) (gate ∷ behind))
-    ∙ frame_first fuel total p (frames ps ++ gate ∷ behind) (omega (arith, length-append (frames ps) (gate ∷ behind))) all.0
+    ∙ frame_first fuel total p (frames ps ++ gate ∷ behind) all.0
     ∙ ap (λ (r : Reading). prepend p r) (frames_kept fuel total ps gate behind (omega arith) shut all.1)
 
 pub many_frames : (ps : List (List ℕ)) → length ps ≤ length (frames ps)

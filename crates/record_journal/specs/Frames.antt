@@ -38,7 +38,7 @@ judged place None payload others = prepend payload others
 judged place (Some bad) payload others = Damaged (place + bad) (slice_get payload bad)
 
 -- The frames from a gate on, of a file of so many bytes; fuel is above the number of frames.
--- Behind an open gate stand the length in four bytes, the payload, and the next gate.
+-- Behind an open gate stand the length in four bytes and the payload; the next gate is looked for behind it.
 unfoldable pub frames_of : ℕ → ℕ → List ℕ → Reading
 frames_of zero total bytes = Damaged total None
 frames_of (suc fuel) total [] = Damaged total None
@@ -46,7 +46,7 @@ frames_of (suc fuel) total (gate ∷ rest) =
     if nat_eq gate 1 then
     (if nat_lt (length rest) 4 then Damaged total None
     else (if nat_eq (size_of rest) 0 then Damaged (total - length rest) (Some 0)
-    else (if nat_lt (length rest) (size_of rest + 5) then Damaged total None
+    else (if nat_lt (length rest) (size_of rest + 4) then Damaged total None
     else judged (total - length rest + 4) (bad_at (take (size_of rest) (drop 4 rest))) (take (size_of rest) (drop 4 rest)) (frames_of fuel total (drop (4 + size_of rest) rest)))))
     else Kept []
 

@@ -1,5 +1,5 @@
 -- What the reading of a file finds.
-use Rattle.std.specs.Prelude.{◌≡◌, ◌≢◌, ℕ, ◌<◌, ◌≤◌, List, ◌∷◌, ◌++◌, length, map}
+use Rattle.std.specs.Prelude.{◌≡◌, ◌≢◌, ℕ, ◌≤◌, List, ◌∷◌, ◌++◌, length, map}
 use Rattle.record_journal.specs.declared.parse.Found.{Found}
 use Rattle.record_journal.specs.declared.parse.Found.TheVariants as found
 use Rattle.record_journal.specs.Frames.{Damaged, Genesis, reading, IsPayload, body, Closed, WellMade}
@@ -17,5 +17,4 @@ pub record FrameFirst (n : ℕ) (bytes : List ℕ) : Type 0 where
   pub more : List ℕ
   pub split : bytes ≡ 1 ∷ (body p ++ more)
   pub size : length p ≡ n
-  pub next : 0 < length more
   pub payload : IsPayload p

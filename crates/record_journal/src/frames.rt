@@ -1,5 +1,5 @@
 //! The frames of a journal's bytes.
-ghost use Rattle.std.specs.Prelude.{◌≡◌, ◌≤◌, ◌+◌, ◌++◌, ◌∷◌, ◌<◌, length, slice_get, IfOk};
+ghost use Rattle.std.specs.Prelude.{◌≡◌, ◌≤◌, ◌+◌, ◌++◌, ◌∷◌, length, slice_get, IfOk};
 ghost use Rattle.record_journal.specs.Next.{IsNext, IsFrames};
 
 use record_codec::check_batch;
@@ -46,7 +46,7 @@ fn next_payload(total: u64, size: [u8; 4], after: &[u8]) -> Next
     if length == 0 {
         return Next::Damaged(place - 4, Some(0));
     }
-    if after.len() <= length {
+    if after.len() < length {
         return Next::Damaged(total, None);
     }
     if let Err(bad) = check_batch(&after[..length]) {
@@ -75,8 +75,7 @@ pub enum Frames {
 
 // What stands from the first gate on, at the end of a file of so many bytes.
 pub fn read_frames(alloc: Global, total: u64, part: &[u8]) -> Result<Frames, AllocError>
-    requires fits { length part.now ≤ total }
-    requires some { 0 < length part.now }
+    requires { length part.now ≤ total }
     ensures { IfOk result (λ found. IsFrames total part.now found) }
 {
     let mut payloads = Vec::new(alloc);

@@ -5,7 +5,7 @@ ghost use Rattle.edge_kit.specs.Disks.{LeavesOnly};
 ghost use Rattle.record_codec.specs.Reading.{bad_at};
 ghost use Rattle.record_journal.specs.Frames.{Keeps, reading, begun};
 ghost use Rattle.record_journal.specs.Journals.{MayRead, Appended, journal_size};
-ghost use Rattle.record_journal.specs.Opened.{Read, FaultIs};
+ghost use Rattle.record_journal.specs.Opened.{Read, FaultIs, OpeningLeaves, RefusalLeaves};
 
 use crate::log::{AppendFault, Log};
 use crate::open::{OpenFault, settle};
@@ -52,6 +52,10 @@ impl<D: Disk> Journal<D> {
         // A crash at any moment leaves a file that opens as one that a crash before might have left.
         ensures any_moment { IfOk result (λ j. Keeps D.moment D.leaves genesis.0 disk j.disk) }
         ensures any_moment_err { IfErr result (λ e. Keeps D.moment D.leaves genesis.0 disk e.1) }
+
+        // A file that is begun is never written, and none at all before `Damaged` or `Genesis`.
+        ensures writes { IfOk result (λ j. OpeningLeaves D.shows D.moment D.leaves genesis.0 disk j.payloads j.disk) }
+        ensures writes_err { IfErr result (λ e. RefusalLeaves D.shows D.moment D.leaves genesis.0 disk e.0 e.1) }
 
         ensures fault { IfErr result (λ e. FaultIs D.shows disk genesis.0 e.0) }
         ensures cause { IfErr result (λ e. e.0 ≡ OpenFault.Disk → Rose (D.faults disk) (D.faults e.1)) }

@@ -6,7 +6,7 @@ ghost use Rattle.edge_kit.specs.Disks.{Alike, Holds, Same, Elapses};
 ghost use Rattle.record_journal.specs.Frames.{Closed, Keeps, WellMade, IsPayload, front, reading, begun};
 ghost use Rattle.record_journal.specs.Journals.{journal_size};
 ghost use Rattle.record_journal.specs.Parsed.{IsFound};
-ghost use Rattle.record_journal.specs.Opened.{Read, FaultIs, IsOutside};
+ghost use Rattle.record_journal.specs.Opened.{Read, FaultIs, IsOutside, Unwritten, OpeningLeaves, RefusalLeaves};
 
 use crate::begin::{begin_gate, begin_header, header_of};
 use crate::parse::{Found, parse};
@@ -62,7 +62,7 @@ fn fetch<D: Disk>(alloc: Global, disk: &mut D) -> Result<Vec<u8>, OpenFault>
 fn look<D: Disk>(alloc: Global, disk: &mut D, root: &[u8; 32]) -> Result<Found, OpenFault>
     ensures found { IfOk result (λ found. Holds D.shows D.moment D.leaves disk.new (λ c. IsFound root.now c found)) }
     ensures seen { IfOk result (λ found. Read D.shows disk.old (λ bytes. IsFound root.now bytes found)) }
-    ensures any_moment { Keeps D.moment D.leaves root.now disk.old disk.new }
+    ensures unwritten { Unwritten D.shows D.moment D.leaves disk.old disk.new }
     ensures fault { IfErr result IsOutside }
     ensures cause { IsErrOf result OpenFault.Disk → Rose (D.faults disk.old) (D.faults disk.new) }
     ensures later { D.faults disk.old ≤ D.faults disk.new }
@@ -84,6 +84,7 @@ fn look<D: Disk>(alloc: Global, disk: &mut D, root: &[u8; 32]) -> Result<Found, 
 fn begin_short<D: Disk>(alloc: Global, disk: &mut D, root: &[u8; 32]) -> Result<(), OpenFault>
     requires { Holds D.shows D.moment D.leaves disk.old (λ c. length c ≤ 1) }
     ensures done { OnOk result (Holds D.shows D.moment D.leaves disk.new (WellMade root.now [] 42)) }
+    ensures memory { IsErrOf result OpenFault.OutOfMemory → Holds D.shows D.moment D.leaves disk.new Closed }
     ensures any_moment { Keeps D.moment D.leaves root.now disk.old disk.new }
     ensures fault { IfErr result IsOutside }
     ensures cause { IsErrOf result OpenFault.Disk → Rose (D.faults disk.old) (D.faults disk.new) }
@@ -102,6 +103,7 @@ fn begin_short<D: Disk>(alloc: Global, disk: &mut D, root: &[u8; 32]) -> Result<
 fn begin_shut<D: Disk>(alloc: Global, disk: &mut D, root: &[u8; 32]) -> Result<(), OpenFault>
     requires { Holds D.shows D.moment D.leaves disk.old Closed }
     ensures done { OnOk result (Holds D.shows D.moment D.leaves disk.new (WellMade root.now [] 42)) }
+    ensures memory { IsErrOf result OpenFault.OutOfMemory → Holds D.shows D.moment D.leaves disk.new Closed }
     ensures any_moment { Keeps D.moment D.leaves root.now disk.old disk.new }
     ensures fault { IfErr result IsOutside }
     ensures cause { IsErrOf result OpenFault.Disk → Rose (D.faults disk.old) (D.faults disk.new) }
@@ -128,6 +130,8 @@ pub fn settle<D: Disk>(
     ensures made { IfOk result (λ kept. AllByRecursion IsPayload (map (λ v. v.items) kept.0.items)) }
     ensures read { IfOk result (λ kept. Read D.shows disk.old (λ bytes. begun (reading root.now bytes) ≡ Some (map (λ v. v.items) kept.0.items))) }
     ensures any_moment { Keeps D.moment D.leaves root.now disk.old disk.new }
+    ensures writes { IfOk result (λ kept. OpeningLeaves D.shows D.moment D.leaves root.now disk.old (map (λ v. v.items) kept.0.items) disk.new) }
+    ensures writes_err { IfErr result (λ fault. RefusalLeaves D.shows D.moment D.leaves root.now disk.old fault disk.new) }
     ensures fault { IfErr result (FaultIs D.shows disk.old root.now) }
     ensures cause { IsErrOf result OpenFault.Disk → Rose (D.faults disk.old) (D.faults disk.new) }
     ensures later { D.faults disk.old ≤ D.faults disk.new }

@@ -33,7 +33,7 @@ fn each_way_of_damage_is_named(rt: HostRuntime) -> Result<(), Fail> {
     let block = joined(alloc, &[&[1], &KEY.0, &[7; 8], &[0]])?;
     let state = joined(alloc, &[&[4], &KEY.0])?;
     let cut = joined(alloc, &[&[4], &[0x11; 47]])?;
-    let table: [([&[u8]; 5], u64, Option<u8>); 13] = [
+    let table: [([&[u8]; 5], u64, Option<u8>); 15] = [
         ([&[1], b"V", &[], &[], &[]], 2, None),
         ([&[1], b"VX", &[], &[], &[]], 2, Some(b'X')),
         ([&[1], b"VKHJRN02", &ROOT.0, &[0], &[]], 8, Some(b'2')),
@@ -43,14 +43,16 @@ fn each_way_of_damage_is_named(rt: HostRuntime) -> Result<(), Fail> {
         ([&header, &[1], &[0, 0, 0, 0], &[0], &[]], 42, Some(0)),
         ([&header, &[1], &[0, 0, 0, 0], &[], &[]], 42, Some(0)),
         ([&header, &[1], &[49, 0, 0, 0], &cut, &[]], 94, None),
+        ([&header, &[1], &[2, 0, 0, 0], &[9], &[]], 47, None),
         ([&header, &[1], &[49, 0, 0, 0], &state, &[]], 95, None),
-        ([&header, &[1], &[1, 0, 0, 0], &[9], &[0]], 46, Some(9)),
+        ([&header, &[1], &[49, 0, 0, 0], &state, &[1]], 96, None),
+        ([&header, &[1], &[1, 0, 0, 0], &[9], &[]], 46, Some(9)),
         (
             [&header, &[1], &[59, 0, 0, 0], &block, &[4, 0]],
             104,
             Some(4),
         ),
-        ([&header, &[1], &[98, 0, 0, 0], &state, &state], 144, None),
+        ([&header, &[1], &[98, 0, 0, 0], &state, &state], 46, Some(4)),
     ];
     for (parts, offset, byte) in table {
         let disk = disk_with(alloc, parts)?;

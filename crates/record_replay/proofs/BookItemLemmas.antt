@@ -19,7 +19,7 @@ use Rattle.interchange_io.specs.WrittenOrder.{book_at, empty_book}
 use Rattle.record_codec.specs.declared.item.JournalItem.{JournalItem}
 use Rattle.record_codec.specs.declared.item.JournalItem.TheVariants as item
 use Rattle.record_join.specs.Keys.{key_cmp, kept_of}
-use Rattle.record_join.proofs.OrderLemmas.{same_key}
+use Rattle.record_join.specs.KeyLaws.{same_key}
 use Rattle.record_replay.specs.Batches.{book_items, file_items, floors_item}
 use Rattle.record_replay.specs.Items.{blocks_in, floors_in, key_of, votes_in, with_state}
 use Rattle.record_replay.specs.declared.state.KeyState.{KeyState}

@@ -22,8 +22,8 @@ use Rattle.protect_record.specs.Standing.{Stands}
 use Rattle.protect_record.proofs.OrderLemmas.{greater_from_less}
 use Rattle.record_join.specs.Keys.{key_cmp, kept_of, with_key, EachKey}
 use Rattle.record_join.specs.BooksPasts.{BooksStand}
-use Rattle.record_join.proofs.KeyLemmas.{each_flip, each_found}
-use Rattle.record_join.proofs.OrderLemmas.{key_total, at_itself}
+use Rattle.record_join.specs.EachKeyLaws.{each_flip, each_found}
+use Rattle.record_join.specs.KeyLaws.{key_total, at_itself}
 use Rattle.record_codec.specs.declared.item.JournalItem.{JournalItem}
 use Rattle.record_replay.specs.Items.{named_keys, floors_in}
 use Rattle.record_replay.specs.Gathering.{Gains, gains_in, known_gains, IsRecordOf}

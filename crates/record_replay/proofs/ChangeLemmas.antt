@@ -27,9 +27,8 @@ use Rattle.record_codec.specs.declared.item.JournalItem.{JournalItem}
 use Rattle.record_codec.specs.declared.item.JournalItem.TheVariants as item
 use Rattle.record_join.specs.Keys.{key_cmp, kept_of, with_key, with_kept}
 use Rattle.record_join.specs.BooksPasts.{EachOnce, gained, known_past, own_grown, own_grown_from, with_file}
-use Rattle.record_join.proofs.OrderLemmas.{apart_back, at_itself, changed, kept_apart, kept_here, same_key}
-use Rattle.record_join.proofs.FileLemmas.{distinct_once}
-use Rattle.record_join.proofs.LawLemmas.{gained_listed}
+use Rattle.record_join.specs.KeyLaws.{apart_back, at_itself, changed, kept_apart, kept_here, same_key, distinct_once}
+use Rattle.record_join.specs.BooksPastsLaws.{gained_listed}
 use Rattle.record_replay.specs.Batches.{book_items, file_items, message_item}
 use Rattle.record_replay.specs.Items.{blocks_in, floors_in, key_of, named_keys, votes_in, with_state}
 use Rattle.record_replay.specs.Replaying.{ItemsStand, KeyStands, with_known}

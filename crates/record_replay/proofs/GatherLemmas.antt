@@ -21,7 +21,7 @@ use Rattle.protect_record.proofs.BoundLemmas.{same_floors, greater-none, greater
 use Rattle.record_codec.specs.declared.item.JournalItem.{JournalItem}
 use Rattle.record_codec.specs.declared.item.JournalItem.TheVariants as item
 use Rattle.record_join.specs.Keys.{key_cmp, kept_of, with_key, with_kept}
-use Rattle.record_join.proofs.OrderLemmas.{at_itself, same_key, apart_back, kept_here, kept_apart, put_kept}
+use Rattle.record_join.specs.KeyLaws.{at_itself, same_key, apart_back, kept_here, kept_apart, put_kept}
 use Rattle.record_codec.specs.Reading.{batch_of}
 use Rattle.record_replay.specs.Items.{items_in, items_or_none, key_of, named_keys, blocks_of, votes_of, floors_of_item, blocks_in, votes_in, floors_in, states_in, with_state}
 use Rattle.record_replay.specs.Gathering.{Gains, with_gain, gains_in, known_gains, with_item, IsGathered}

@@ -18,7 +18,7 @@ use Rattle.interchange_io.proofs.OnceLemmas.{nothing_sorted, sorted_all, sorted_
 use Rattle.record_codec.specs.declared.item.JournalItem.{JournalItem}
 use Rattle.record_join.specs.Keys.{key_cmp, kept_of, with_key}
 use Rattle.record_join.specs.BooksPasts.{known_past, with_file, with_file_book}
-use Rattle.record_join.proofs.OrderLemmas.{at_itself, key_exact, key_total, same_key}
+use Rattle.record_join.specs.KeyLaws.{at_itself, key_exact, key_total, same_key}
 use Rattle.record_replay.specs.Items.{key_of, named_keys}
 
 -- ---- whether a key is among others

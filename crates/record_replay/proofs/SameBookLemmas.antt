@@ -18,7 +18,7 @@ use Rattle.protect_record.proofs.MemberLemmas.{contains_none}
 use Rattle.interchange_io.specs.Contents.{HoldSame, SomeBook}
 use Rattle.interchange_io.specs.WrittenOrder.{book_at, empty_book}
 use Rattle.record_join.specs.Keys.{key_cmp, kept_of}
-use Rattle.record_join.proofs.OrderLemmas.{at_itself, same_key}
+use Rattle.record_join.specs.KeyLaws.{at_itself, same_key}
 use Rattle.record_replay.proofs.NamedLemmas.{has}
 use Rattle.record_replay.proofs.BookItemLemmas.{none_behind}
 

@@ -15,7 +15,7 @@ use Rattle.interchange_io.proofs.OnceLemmas.{nothing_sorted, sorted_inserted}
 use Rattle.record_codec.specs.declared.item.JournalItem.{JournalItem}
 use Rattle.record_codec.specs.declared.item.JournalItem.TheVariants as item
 use Rattle.record_join.specs.Keys.{key_cmp, kept_of, with_key, with_kept}
-use Rattle.record_join.proofs.OrderLemmas.{key_total, put_kept}
+use Rattle.record_join.specs.KeyLaws.{key_total, put_kept}
 use Rattle.record_replay.specs.Items.{states_in, with_state}
 use Rattle.record_replay.specs.Replaying.{lasting_state, lasting_states}
 use Rattle.record_replay.specs.declared.state.KeyState.{KeyState}

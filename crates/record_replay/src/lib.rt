@@ -3,8 +3,8 @@
 
 mod batches;
 mod fault;
-mod gathered;
-mod gathering;
+mod histories;
+mod key_history;
 mod laws;
 mod payloads;
 mod state;

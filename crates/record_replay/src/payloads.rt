@@ -12,8 +12,8 @@ ghost use Rattle.record_replay.specs.Replaying.{IsReplayed, IsReplayFault, Items
 ghost use Rattle.record_replay.specs.declared.state.KeyState.{KeyState};
 
 use crate::fault::ReplayFault;
-use crate::gathered::Gathered;
-use crate::gathering::Gathering;
+use crate::histories::Histories;
+use crate::key_history::KeyHistory;
 use crate::state::KeyState;
 use edge_kit::PubKey;
 use record_join::{BeginFault, Books, KEY_LIMIT};
@@ -45,43 +45,46 @@ pub fn replay(alloc: Global, payloads: &[Vec<u8>]) -> Result<Replayed, ReplayFau
         → BooksStand r.books pasts × (r.states.entries ≡ lasting_states states)) }
     ensures fault { IfErr result (IsReplayFault (items_in (map (λ v. v.items) payloads.now))) }
 {
-    let Ok(gathering) = gather(alloc, payloads) else {
+    let Ok(histories) = gather(alloc, payloads) else {
         return Err(ReplayFault::OutOfMemory);
     };
-    let new = gathering.keys.len();
+    let new = histories.keys.len();
     if new > KEY_LIMIT {
         return Err(ReplayFault::TooManyKeys {
             have: 0,
             new: new as u64,
         });
     }
-    let Ok(books) = books_of(alloc, gathering.keys) else {
+    let Ok(books) = books_of(alloc, histories.keys) else {
         return Err(ReplayFault::OutOfMemory);
     };
     Ok(Replayed {
         books,
-        states: gathering.states,
+        states: histories.states,
     })
 }
 
 /// What the items of payloads say of each key. A payload that can't be read adds nothing.
-fn gather(alloc: Global, payloads: &[Vec<u8>]) -> Result<Gathering, AllocError>
+fn gather(alloc: Global, payloads: &[Vec<u8>]) -> Result<Histories, AllocError>
     ensures { IfOk result (λ g. IsGathered (items_in (map (λ v. v.items) payloads.now)) g.keys.entries g.states.entries) }
 {
-    let mut gathering = Gathering::new(alloc);
+    let mut histories = Histories::new(alloc);
     for payload in payloads {
-        gathering.take_payload(alloc, payload.as_slice())?;
+        histories.take_payload(alloc, payload.as_slice())?;
     }
-    Ok(gathering)
+    Ok(histories)
 }
 
 /// The record of each key, of what was gathered of it.
-fn books_of(alloc: Global, keys: BTreeMap<PubKey, Gathered>) -> Result<Books, BeginFault>
+fn books_of(alloc: Global, keys: BTreeMap<PubKey, KeyHistory>) -> Result<Books, BeginFault>
     ensures { IfOk result (λ books. EachKey IsRecordOf keys.entries books) }
 {
     let mut books = Books::new(alloc);
     'keys: for (key, gathered) in keys {
-        books.insert(key, gathered.into_record())?;
+        let Ok(record) = gathered.into_record() else {
+            return Err(BeginFault::OutOfMemory);
+        };
+        books.insert(key, record)?;
     }
     Ok(books)
 }

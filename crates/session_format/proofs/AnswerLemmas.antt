@@ -10,6 +10,9 @@ use Rattle.interchange_io.specs.declared.fault.ReadFault.{ReadFault}
 use Rattle.interchange_io.specs.declared.fault.ReadFault.TheVariants as fault
 use Rattle.serde_json.specs.Data.{string, member, no_members}
 use Rattle.serde_json.specs.Written.{has_float}
+use Rattle.session_format.specs.Causes.{cause_data}
+use Rattle.session_format.specs.declared.cause.Cause.{Cause}
+use Rattle.session_format.specs.declared.cause.Cause.TheVariants as cause
 use Rattle.session_format.specs.Answers.{with_root, with_entry, block_data, vote_data, verdict_data, fault_data, answer_data}
 use Rattle.session_format.specs.declared.answer.Answer.{Answer}
 use Rattle.session_format.specs.declared.answer.Answer.TheVariants as answer
@@ -46,11 +49,17 @@ plain_fault (fault.Version text) = refl
 plain_fault (fault.BadNumber m) = refl
 plain_fault (fault.BadHex m) = refl
 
+plain_cause : (c : Cause) → has_float (cause_data c) ≡ false
+plain_cause cause.NoKey = refl
+plain_cause (cause.Denied status) = refl
+plain_cause cause.Fault = refl
+plain_cause (cause.BadAnswer body) = refl
+
 pub no_float : (a : Answer) → has_float (answer_data a) ≡ false
 no_float (answer.Merged keys) = refl
 no_float answer.Active = refl
 no_float (answer.Signed signature root) = refl
-no_float (answer.Unsigned c) = refl
+no_float (answer.Unsigned c) = plain_cause c
 no_float (answer.Exported file) = refl
 no_float answer.Pruned = refl
 no_float (answer.BadRequest m) = refl

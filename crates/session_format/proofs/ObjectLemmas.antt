@@ -9,7 +9,7 @@ use Rattle.phase0_types.specs.declared.header.BeaconBlockHeader.{BeaconBlockHead
 use Rattle.phase0_types.specs.declared.attestation.AttestationData.{AttestationData}
 use Rattle.phase0_types.specs.declared.fault.ReadFault.{ReadFault}
 use Rattle.sign_roots.specs.declared.domains.Domains.{Domains}
-use Rattle.signer_link.specs.declared.signer.SignObject.TheVariants as object
+use Rattle.signer_link.specs.declared.request.SignObject.TheVariants as object
 use Rattle.session_format.specs.declared.request.Op.TheVariants as op
 use Rattle.session_format.specs.Objects.{header_from, checkpoint_from, details_from, block_message, vote_message}
 use Rattle.session_format.specs.Requests.{header_block, details_vote}

@@ -1,6 +1,6 @@
 -- The answer of a line as JSON, and its bytes.
 use Rattle.std.specs.Prelude.{ℕ, List, [], ◌∷◌, ◌++◌, Option, Some, None, codes, decimal}
-use Rattle.hex.specs.Hex.{encode_lower}
+use Rattle.edge_kit.specs.Texts.{hex_text}
 use Rattle.slash_defs.specs.declared.entry.BlockEntry.{BlockEntry}
 use Rattle.slash_defs.specs.declared.entry.VoteEntry.{VoteEntry}
 use Rattle.edge_kit.specs.declared.bytes.Root.{Root}
@@ -12,19 +12,10 @@ use Rattle.interchange_io.specs.declared.fault.ReadFault.{ReadFault}
 use Rattle.interchange_io.specs.declared.fault.ReadFault.TheVariants as fault
 use Rattle.serde_json.specs.Data.{Data, string, object, Members, member, no_members}
 use Rattle.serde_json.specs.Written.{compact_text}
+use Rattle.session_format.specs.Causes.{cause_data}
 use Rattle.session_format.specs.Members.{member_name}
 use Rattle.session_format.specs.declared.answer.Answer.{Answer}
 use Rattle.session_format.specs.declared.answer.Answer.TheVariants as answer
-use Rattle.session_format.specs.declared.answer.Cause.{Cause}
-use Rattle.session_format.specs.declared.answer.Cause.TheVariants as cause
-
--- `0x` and lower-case digits
-abbrev pub hex_text : List ℕ → List ℕ
-hex_text bytes = codes "0x" ++ encode_lower bytes
-
-abbrev pub cause_name : Cause → List ℕ
-cause_name cause.NoKey = codes "no_key"
-cause_name cause.Fault = codes "fault"
 
 -- a signing root before the other members, where it is known
 abbrev pub with_root : Option Root → Members → Data
@@ -94,8 +85,7 @@ answer_data (answer.Signed signature root) =
     object (member (codes "answer") (string (codes "signed"))
     (member (codes "signature") (string (hex_text signature.0))
     (member (codes "signing_root") (string (hex_text root.0)) no_members)))
-answer_data (answer.Unsigned c) =
-    object (member (codes "answer") (string (codes "unsigned")) (member (codes "cause") (string (cause_name c)) no_members))
+answer_data (answer.Unsigned c) = cause_data c
 answer_data (answer.Exported file) =
     object (member (codes "answer") (string (codes "exported")) (member (codes "file") (string (file_text file)) no_members))
 answer_data answer.Pruned = done (codes "pruned")

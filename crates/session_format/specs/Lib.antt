@@ -2,5 +2,5 @@ pub mod Members
 pub mod Steps
 pub mod Objects
 pub mod Requests
+pub mod Causes
 pub mod Answers
-pub mod Closing

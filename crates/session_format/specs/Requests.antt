@@ -16,8 +16,8 @@ use Rattle.phase0_types.specs.Reading.{read_at}
 use Rattle.phase0_types.specs.Containers.{attestation_data, beacon_block_header}
 use Rattle.phase0_types.specs.declared.fault.ReadFault.{ReadFault as ShapeFault}
 use Rattle.sign_roots.specs.declared.domains.Domains.{Domains}
-use Rattle.signer_link.specs.declared.signer.SignObject.TheVariants as object
-use Rattle.check_sign.specs.Machine.{moment_limit}
+use Rattle.signer_link.specs.declared.request.SignObject.TheVariants as object
+use Rattle.desk_machine.specs.Machine.{moment_limit}
 use Rattle.session_format.specs.Members.{inside}
 use Rattle.session_format.specs.Steps.{◌>>=◌, each}
 use Rattle.session_format.specs.Objects.{root, header_from, details_from, block_message, vote_message}

@@ -1,8 +1,9 @@
 //! The answer of a line, and its bytes.
 ghost use Rattle.std.specs.Prelude.{◌≡◌, IfOk, string_bytes};
 ghost use Rattle.serde_json.specs.View.{view};
-ghost use Rattle.session_format.specs.Answers.{answer_data, answer_text, cause_name};
+ghost use Rattle.session_format.specs.Answers.{answer_data, answer_text};
 
+use crate::cause::Cause;
 use crate::member::Member;
 use crate::values::{
     exported, fault_value, full, genesis_differs, merged, signed, too_many_keys, verdict_value,
@@ -14,27 +15,6 @@ use protect_record::Verdict;
 use serde_json::{Value, json};
 use slash_defs::File;
 use std::alloc::{AllocError, Global};
-
-/// Why a granted proposal has no signature.
-#[derive(Clone, Copy, PartialEq, Eq, Debug)]
-pub enum Cause {
-    /// The signer does not hold the key.
-    NoKey,
-    /// The signer failed.
-    Fault,
-}
-
-impl Cause {
-    /// The cause's name in a line.
-    pub fn name(self) -> &'static str
-        ensures { result.now ≡ cause_name self }
-    {
-        match self {
-            Cause::NoKey => "no_key",
-            Cause::Fault => "fault",
-        }
-    }
-}
 
 /// The answer of a line.
 #[derive(Drop)]
@@ -91,9 +71,7 @@ impl Answer {
             Answer::Merged { keys } => merged(alloc, *keys),
             Answer::Active => json!(in alloc; {"answer": "active"}),
             Answer::Signed { signature, root } => signed(alloc, signature, root),
-            Answer::Unsigned(cause) => {
-                json!(in alloc; {"answer": "unsigned", "cause": cause.name()})
-            }
+            Answer::Unsigned(cause) => cause.value(alloc),
             Answer::Exported(file) => exported(alloc, file),
             Answer::Pruned => json!(in alloc; {"answer": "pruned"}),
             Answer::BadRequest(member) => with_name(alloc, member.name(), "bad_request"),

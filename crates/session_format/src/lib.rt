@@ -1,8 +1,8 @@
-//! The lines of a session: the request that a line is, the line of an answer, and the one that closes an output.
+//! The lines of a session: the request that a line is, and the line of an answer.
 #![tactic(auto)]
 
 mod answer;
-mod closing;
+mod cause;
 mod member;
 mod objects;
 mod ops;
@@ -11,8 +11,8 @@ mod request;
 mod texts;
 mod values;
 
-pub use answer::{Answer, Cause};
-pub use closing::{ClosingLine, FileRefusal};
+pub use answer::Answer;
+pub use cause::Cause;
 pub use member::Member;
 pub use reading::read_request;
 pub use request::{Keys, Op, Request};

@@ -9,7 +9,7 @@ use crate::objects::{block_of, vote_of};
 use crate::ops::{activate_of, export_of, merge_of, prune_of};
 use crate::request::{Op, Request};
 use crate::texts::text_of;
-use check_sign::MOMENT_LIMIT;
+use desk_machine::MOMENT_LIMIT;
 use edge_kit::read_quoted;
 use serde_json::Value;
 use sign_roots::Domains;

@@ -1,10 +1,10 @@
 //! The answers as JSON.
 ghost use Rattle.std.specs.Prelude.{◌≡◌, ◌++◌, IfOk, string_bytes, codes};
 ghost use Rattle.serde_json.specs.View.{view};
-ghost use Rattle.session_format.specs.Answers.{answer_data, block_data, fault_data, hex_text, verdict_data, vote_data, with_entry, with_floor, with_member};
+ghost use Rattle.session_format.specs.Answers.{answer_data, block_data, fault_data, verdict_data, vote_data, with_entry, with_floor, with_member};
 
 use crate::answer::Answer;
-use edge_kit::{Root, Sig};
+use edge_kit::{Root, Sig, hex_text};
 use interchange_io::{ReadFault, write_text};
 use protect_record::Verdict;
 use serde_json::{Value, json};
@@ -15,8 +15,8 @@ use std::alloc::{AllocError, Global};
 pub(crate) fn signed(alloc: Global, signature: &Sig, root: &Root) -> Result<Value, AllocError>
     ensures { IfOk result (λ v. view v ≡ answer_data (Answer.Signed signature.now root.now)) }
 {
-    let signature = hex_of(alloc, &signature.0)?;
-    let root = hex_of(alloc, &root.0)?;
+    let signature = hex_text(alloc, &signature.0)?;
+    let root = hex_text(alloc, &root.0)?;
     json!(in alloc; {"answer": "signed", "signature": signature.as_str(), "signing_root": root.as_str()})
 }
 
@@ -40,8 +40,8 @@ pub(crate) fn exported(alloc: Global, file: &File) -> Result<Value, AllocError>
 pub(crate) fn genesis_differs(alloc: Global, kept: &Root, given: &Root) -> Result<Value, AllocError>
     ensures { IfOk result (λ v. view v ≡ answer_data (Answer.GenesisDiffers kept.now given.now)) }
 {
-    let kept = hex_of(alloc, &kept.0)?;
-    let given = hex_of(alloc, &given.0)?;
+    let kept = hex_text(alloc, &kept.0)?;
+    let given = hex_text(alloc, &given.0)?;
     json!(in alloc; {"answer": "refused", "given": given.as_str(), "kept": kept.as_str(), "reason": "genesis_differs"})
 }
 
@@ -137,7 +137,7 @@ fn block_value(alloc: Global, kept: &BlockEntry) -> Result<Value, AllocError>
     let slot = kept.slot.to_string(alloc)?;
     match kept.root {
         Some(root) => {
-            let root = hex_of(alloc, &root.0)?;
+            let root = hex_text(alloc, &root.0)?;
             json!(in alloc; {"signing_root": root.as_str(), "slot": slot.as_str()})
         }
         None => json!(in alloc; {"slot": slot.as_str()}),
@@ -151,21 +151,11 @@ fn vote_value(alloc: Global, kept: &VoteEntry) -> Result<Value, AllocError>
     let target = kept.target.to_string(alloc)?;
     match kept.root {
         Some(root) => {
-            let root = hex_of(alloc, &root.0)?;
+            let root = hex_text(alloc, &root.0)?;
             json!(in alloc; {"signing_root": root.as_str(), "source_epoch": source.as_str(), "target_epoch": target.as_str()})
         }
         None => {
             json!(in alloc; {"source_epoch": source.as_str(), "target_epoch": target.as_str()})
         }
     }
-}
-
-/// `0x` and the digits of bytes.
-pub(crate) fn hex_of(alloc: Global, bytes: &[u8]) -> Result<String, AllocError>
-    ensures { IfOk result (λ text. string_bytes text ≡ hex_text bytes.now) }
-{
-    let digits = hex::encode(alloc, bytes)?;
-    let mut text = String::from_str(alloc, "0x")?;
-    text.push_str(digits.as_str())?;
-    Ok(text)
 }

@@ -9,13 +9,14 @@ use Rattle.protect_record.specs.Passing.{Passes, Covers}
 use Rattle.protect_record.specs.PastLaws.{covers-with_own}
 use Rattle.record_join.specs.Keys.{kept_of, with_kept}
 use Rattle.record_join.specs.BooksPasts.{own_grown, own_grown_from}
-use Rattle.check_sign.specs.States.{State, Lasting, lasting, past_of, MayOpen, Opens}
-use Rattle.check_sign.specs.Machine.{after, Reply, lasting_after, torn_first}
-use Rattle.check_sign.specs.declared.open_grant.OpenGrant.{OpenGrant}
-use Rattle.check_sign.specs.declared.call.DeskCall.{DeskCall}
-use Rattle.check_sign.specs.declared.call.DeskCall.TheVariants as call
-use Rattle.check_sign.specs.declared.call.DeskReply.{DeskReply}
-use Rattle.check_sign.specs.declared.call.DeskReply.TheVariants as reply
+use Rattle.desk_machine.specs.States.{State, Lasting, lasting, past_of}
+use Rattle.check_sign.specs.Standing.{MayOpen, Opens}
+use Rattle.desk_machine.specs.Machine.{after, Reply, lasting_after, torn_first}
+use Rattle.desk_machine.specs.declared.open_grant.OpenGrant.{OpenGrant}
+use Rattle.desk_machine.specs.declared.call.DeskCall.{DeskCall}
+use Rattle.desk_machine.specs.declared.call.DeskCall.TheVariants as call
+use Rattle.desk_machine.specs.declared.call.DeskReply.{DeskReply}
+use Rattle.desk_machine.specs.declared.call.DeskReply.TheVariants as reply
 use Rattle.session_run.specs.Durable.{CoversKey, IsDurable}
 use Rattle.session_run.proofs.SafeLemmas.{Kept, KeepsIn, keeps_call, keeps_all, file_keeps, known_keeps, grown_keeps, pruned_keeps, found_changed, some_of}
 

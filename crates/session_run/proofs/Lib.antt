@@ -1,11 +1,13 @@
 pub mod FareLemmas
 pub mod LineLemmas
 pub mod OnceLemmas
-pub mod ActLemmas
 pub mod SafeLemmas
 pub mod DurableLemmas
+pub mod CallLemmas
+pub mod ActLemmas
 pub mod RunLemmas
+pub mod MomentLemmas
 pub mod ReadLemmas
-pub mod SessionLemmas
 pub mod LimitLemmas
-pub mod ImageLemmas
+pub mod EndLemmas
+pub mod ExitLemmas

@@ -2,14 +2,12 @@
 use Rattle.std.proofs.Common.{◌≡◌, ℕ, suc, ◌+◌, ◌<◌, ◌≤◌, Bool, true, false, cond, List, [], ◌∷◌, ◌++◌, length, length-append, take, drop, map, Option, Some, None, refl, sym, ◌∙◌, ap, subst, arith, append_assoc, nat_eq}
 use Rattle.std.proofs.lemmas.List.{append-nil, take-append-drop, length-take-le}
 use Rattle.std.proofs.lemmas.Grind.{common_steps}
-use Rattle.sign_roots.specs.declared.domains.Domains.{Domains}
-use Rattle.session_run.specs.Lines.{lines_of, lines_after, IsOneLine, BeginsTooLong, line_limit, input_limit}
+use Rattle.program_end.specs.Limits.{line_limit, input_limit}
+use Rattle.program_end.specs.declared.limit.Limit.{Limit}
+use Rattle.program_end.specs.declared.limit.Limit.TheVariants as limit
+use Rattle.session_run.specs.Lines.{lines_of, lines_after, IsOneLine, BeginsTooLong}
 use Rattle.session_run.specs.Turns.{Turn, line_of}
-use Rattle.session_run.specs.Runs.{View, HasRead, AreShort, WithinLimits, Ends}
-use Rattle.session_run.specs.declared.next.Limit.{Limit}
-use Rattle.session_run.specs.declared.next.Limit.TheVariants as limit
-use Rattle.session_run.specs.declared.status.Status.{Status}
-use Rattle.session_run.specs.declared.status.Status.TheVariants as status
+use Rattle.session_run.specs.Inputs.{HasRead, AreShort, PassesLimit, StopsReading, WithinLimits}
 
 not_newline : (b : ℕ) → (b ≡ 10 → ⊥) → nat_eq b 10 ≡ false
 not_newline b h = grind (arith, common_steps)
@@ -61,20 +59,8 @@ input_over None now turns pending total within h long = within
 input_over (Some bytes) None turns pending total within h long = h.taken
 input_over (Some bytes) (Some rest) turns pending total within h long = omega (arith, within.1, h.count, ap length h.taken, length-append h.read rest)
 
-pub passes_none : (domains : Domains) (moment : ℕ) (before now : View) (result : Status) → Ends domains moment before now result → WithinLimits before.left → (l : Limit) → result ≡ status.InputTooLong l → ⊥
-passes_none domains moment before now result ends within limit.Line e =
-    let P : Status → Type 0 = λ s. Ends domains moment before now s in
-    let stops = subst P e ends in
-    line_over before.left now.left stops.turns stops.pending stops.total within stops.has_read stops.cause
-passes_none domains moment before now result ends within limit.Input e =
-    let P : Status → Type 0 = λ s. Ends domains moment before now s in
-    let stops = subst P e ends in
-    input_over before.left now.left stops.turns stops.pending stops.total within stops.has_read stops.cause
-passes_none domains moment before now result ends within limit.File e =
-    let P : Status → Type 0 = λ s. Ends domains moment before now s in
-    let stops = subst P e ends in
-    stops.cause
-passes_none domains moment before now result ends within limit.Keys e =
-    let P : Status → Type 0 = λ s. Ends domains moment before now s in
-    let stops = subst P e ends in
-    stops.cause
+pub passes_none : (before now : Option (List ℕ)) (turns : List Turn) (l : Limit) → WithinLimits before → StopsReading before now turns (PassesLimit l) → ⊥
+passes_none before now turns limit.Line within stops = line_over before now turns stops.pending stops.total within stops.has_read stops.such
+passes_none before now turns limit.Input within stops = input_over before now turns stops.pending stops.total within stops.has_read stops.such
+passes_none before now turns limit.File within stops = stops.such
+passes_none before now turns limit.Keys within stops = stops.such

@@ -1,7 +1,8 @@
 -- The front of one line is one line.
 use Rattle.std.proofs.Common.{ℕ, ◌+◌, ◌<◌, ◌≤◌, List, length, take, sym, ◌∙◌, arith, length-take}
 use Rattle.std.proofs.lemmas.List.{get_or-take, length-take-le, take_all}
-use Rattle.session_run.specs.Lines.{IsOneLine, BeginsTooLong, line_limit}
+use Rattle.program_end.specs.Limits.{line_limit}
+use Rattle.session_run.specs.Lines.{IsOneLine, BeginsTooLong}
 
 front_of_line : (bytes : List ℕ) (m n : ℕ) → m ≤ n → n ≤ length bytes → IsOneLine (take n bytes) → IsOneLine (take m bytes)
 front_of_line bytes m n le within h k lt e =

@@ -16,7 +16,7 @@ use Rattle.phase0_types.specs.Reading.{read_at}
 use Rattle.phase0_types.specs.Containers.{attestation_data, beacon_block_header}
 use Rattle.phase0_types.specs.declared.fault.ReadFault.{ReadFault as ShapeFault}
 use Rattle.sign_roots.specs.declared.domains.Domains.{Domains}
-use Rattle.check_sign.specs.Machine.{moment_limit}
+use Rattle.desk_machine.specs.Machine.{moment_limit}
 use Rattle.session_format.specs.Steps.{◌>>=◌}
 use Rattle.session_format.specs.Requests.{data_of, request_of, of_data, members_of, op_in, by_op, text_at, key_at, merge_at, merge_in, merge_of, activate_at, block_at, block_by, plain_block, header_block, vote_at, vote_by, plain_vote, details_vote, export_at, asked_keys, prune_at, epoch_at, epoch_in, moment_in, number_at, root_at}
 use Rattle.session_format.specs.declared.member.Member.{Member}

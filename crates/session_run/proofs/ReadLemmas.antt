@@ -1,13 +1,14 @@
 -- The lines of what was read.
-use Rattle.std.proofs.Common.{◌≡◌, ℕ, zero, suc, ◌+◌, ◌<◌, ◌≤◌, min, Bool, true, false, List, [], ◌∷◌, ◌++◌, length, length-append, get_or, map, refl, sym, ◌∙◌, ap, subst, arith, append_assoc, nat_eq, Option}
+use Rattle.std.proofs.Common.{◌≡◌, ℕ, zero, suc, ◌+◌, ◌<◌, ◌≤◌, min, Bool, true, false, List, [], ◌∷◌, ◌++◌, length, length-append, get_or, map, refl, sym, ◌∙◌, ap, subst, arith, append_assoc, nat_eq, Option, inl, inr}
 use Rattle.std.specs.Io.KnownBytes.{Consumes, IsAtEnd}
 use Rattle.std.proofs.lemmas.List.{append-nil, map-append}
 use Rattle.std.proofs.lemmas.Grind.{common_steps}
 use Rattle.edge_kit.proofs.TellingLemmas.{Consumes-nil, Consumes-trans}
-use Rattle.session_run.specs.Lines.{lines_of, lines_after, IsOneLine, IsShortLine, input_limit}
+use Rattle.program_end.specs.Limits.{input_limit}
+use Rattle.session_run.specs.Lines.{lines_of, lines_after, IsOneLine, IsShortLine}
 use Rattle.session_run.specs.Reading.{Pending, ReadsMore}
 use Rattle.session_run.specs.Turns.{Turn, line_of}
-use Rattle.session_run.specs.Runs.{HasRead, ReadsWhole, ReadsFirst, AreShort, last_lines}
+use Rattle.session_run.specs.Inputs.{HasRead, ReadsWhole, ReadsFirst, AreShort, last_lines}
 
 not_newline : (b : ℕ) → (b ≡ 10 → ⊥) → nat_eq b 10 ≡ false
 not_newline b h = grind (arith, common_steps)
@@ -110,8 +111,7 @@ pub first_of : {l1 l2 : Option (List ℕ)} {turns : List Turn} {pending : List �
 first_of {l1} {l2} {turns} {pending} {total} h = record {
   read = h.read;
   taken = h.taken;
-  rest = lines_of (pending ++ []);
-  lines = ap lines_of (sym (append-nil h.read)) ∙ h.lines [];
+  lines = inl (λ tail. (lines_of (pending ++ tail), h.lines tail));
   short = h.short;
 }
 
@@ -119,7 +119,6 @@ pub first_whole : {l1 l2 : Option (List ℕ)} {turns : List Turn} → ReadsWhole
 first_whole {l1} {l2} {turns} h = record {
   read = h.read;
   taken = h.taken;
-  rest = [];
-  lines = h.lines ∙ sym (append-nil (map line_of turns));
+  lines = inr (h.at_end, h.lines);
   short = h.short;
 }

@@ -1,27 +1,23 @@
--- One run after another.
-use Rattle.std.proofs.Common.{◌≡◌, ℕ, ◌≤◌, take, List, [], ◌∷◌, ◌++◌, map, Option, Result, Ok, Err, refl, sym, ◌∙◌, ap, subst, arith, append_assoc}
-use Rattle.std.specs.Io.KnownBytes.{Appends}
+-- One run after another, and what a run comes to.
+use Rattle.std.proofs.Common.{◌≡◌, ℕ, ◌≤◌, List, [], ◌∷◌, ◌++◌, map, None, Result, Ok, Err, refl, sym, ◌∙◌, ap, subst, arith, append_assoc}
 use Rattle.std.proofs.lemmas.List.{append-nil, map-append}
 use Rattle.std.proofs.lemmas.Grind.{flat_map-append}
 use Rattle.edge_kit.specs.Causes.{Rose}
 use Rattle.edge_kit.specs.Tellings.{Tells}
+use Rattle.edge_kit.proofs.TellingLemmas.{Tells-nil, Tells-trans}
 use Rattle.sign_roots.specs.declared.domains.Domains.{Domains}
-use Rattle.edge_kit.proofs.TellingLemmas.{Tells-nil, Tells-trans, Appends-nil, Appends-trans}
-use Rattle.signer_link.specs.declared.signer.SignCall.{SignCall}
-use Rattle.signer_link.specs.declared.signer.SignReply.{SignReply}
-use Rattle.check_sign.specs.States.{DeskStands}
-use Rattle.check_sign.specs.declared.call.DeskReply.{DeskReply}
-use Rattle.check_sign.specs.declared.call.DeskReply.TheVariants as reply
-use Rattle.signer_link.specs.declared.signer.SignReply.TheVariants as signing
-use Rattle.session_format.specs.declared.answer.Answer.TheVariants as answer
+use Rattle.signer_link.specs.declared.reply.SignReply.{SignReply}
+use Rattle.signer_link.specs.declared.reply.Told.{Told}
+use Rattle.check_sign.specs.Standing.{DeskStands}
+use Rattle.desk_machine.specs.declared.call.DeskReply.{DeskReply}
 use Rattle.session_format.specs.Requests.{request_of}
-use Rattle.session_run.specs.Acts.{Pair, Turned}
-use Rattle.session_run.specs.Turns.{Turn, Place, CanRun, place_of, place_after, noted_of, events_of, moment_by, moment_after, Unfaulted, AskAsWritten, told, told_in, text_of, written, answer_of}
-use Rattle.session_run.specs.Runs.{Ran, HasServed, Laws, CutShort}
-use Rattle.session_format.specs.Answers.{answer_text}
-use Rattle.session_run.proofs.SafeLemmas.{safe_run, complete_run}
 use Rattle.session_format.specs.declared.request.Request.{Request}
 use Rattle.session_format.specs.declared.member.Member.{Member}
+use Rattle.session_run.specs.Acts.{AtBench, Turned}
+use Rattle.session_run.specs.Turns.{Turn, Place, CanRun, place_of, place_after, noted_of, events_of, moment_by, moment_after, Unfaulted, Undenied, AskAsWritten, told, told_in}
+use Rattle.session_run.specs.Runs.{Run, Ran, Laws}
+use Rattle.session_run.proofs.FareLemmas.{fares_none, fares_on}
+use Rattle.session_run.proofs.SafeLemmas.{safe_run, complete_run}
 
 place_moment : (place : Place) (q : Result Request Member) (r : DeskReply) (s : SignReply) → (place_of place q r s).moment ≡ moment_by place.moment q
 place_moment place (Err m) r s = refl
@@ -57,120 +53,89 @@ unfaulted_then : (ts us : List Turn) → Unfaulted ts → Unfaulted us → Unfau
 unfaulted_then [] us p q = q
 unfaulted_then (t ∷ ts) us p q = (p.0, unfaulted_then ts us p.1 q)
 
-pub ran_none : (domains : Domains) (moment : ℕ) (pair : Pair) → Ran domains moment [] pair pair
-ran_none domains moment pair = record {
-  machine = λ state stands. (tt, stands, sym (append-nil pair.desk.events));
-  requests = refl;
-  asked = Tells-nil pair.told;
-  later = omega arith;
-  unfaulted = λ n. tt;
-}
+undenied_then : (ts us : List Turn) → Undenied ts → Undenied us → Undenied (ts ++ us)
+undenied_then [] us p q = q
+undenied_then (t ∷ ts) us p q = (p.0, undenied_then ts us p.1 q)
 
 -- the requests of one run after another
-pub asks_then : (domains : Domains) (ts us : List Turn) → AskAsWritten domains ts → AskAsWritten domains us → AskAsWritten domains (ts ++ us)
+asks_then : (domains : Domains) (ts us : List Turn) → AskAsWritten domains ts → AskAsWritten domains us → AskAsWritten domains (ts ++ us)
 asks_then domains ts us p q =
     map-append (λ (t : Turn). t.request) ts us ∙ ap (λ l. l ++ map (λ (t : Turn). t.request) us) p ∙ ap (λ l. map (λ (t : Turn). request_of domains t.line) ts ++ l) q
     ∙ sym (map-append (λ (t : Turn). request_of domains t.line) ts us)
 
-pub ran_then : {domains : Domains} {moment : ℕ} {ts us : List Turn} {a b c : Pair} → Ran domains moment ts a b → Ran domains (moment_after moment ts) us b c → Ran domains moment (ts ++ us) a c
-ran_then {domains} {moment} {ts} {us} {a} {b} {c} p q = record {
-  machine = λ state stands.
-      let start : Place = record { desk = state; moment = moment } in
-      let first = p.machine state stands in
-      let mid = place_after start ts in
-      let second = q.machine mid.desk first.1 in
-      let same = place_is start ts in
-      let C : Place → Type 0 = λ place. CanRun place us in
-      let D : Place → Type 0 = λ place. DeskStands c.desk (place_after place us).desk in
-      let E : Place → Type 0 = λ place. DeskStands c.desk place.desk in (
-        can_then start ts us first.0 (subst C same second.0),
-        subst E (sym (after_then start ts us)) (subst D same second.1),
-        second.2
-            ∙ ap (λ place. b.desk.events ++ events_of place us) same
-            ∙ ap (λ es. es ++ events_of mid us) first.2
-            ∙ append_assoc a.desk.events (events_of start ts) (events_of mid us)
-            ∙ ap (λ es. a.desk.events ++ es) (sym (events_then start ts us)),
-      );
-  requests = asks_then domains ts us p.requests q.requests;
-  asked =
-      let T : List (SignCall × SignReply) → Type 0 = λ xs. Tells a.told c.told xs in
-      subst T (sym (flat_map-append (told_in domains) ts us)) (Tells-trans a.told b.told c.told (told domains ts) (told domains us) p.asked q.asked);
-  later = omega (arith, p.later, q.later);
-  unfaulted = λ n. unfaulted_then ts us (p.unfaulted (λ r. n (rose_on a.faults b.faults c.faults r q.later))) (q.unfaulted (λ r. n (rose_back a.faults b.faults c.faults p.later r)));
-} where
-  rose_on : (x y z : ℕ) → Rose x y → y ≤ z → Rose x z
-  rose_on x y z r h = omega arith
+module _ {D : Type 0} (moment : D → ℕ) (leaves : D → ℕ → List ℕ → Type 0) (faults : D → ℕ) (domains : Domains) where
+  -- one turn more
+  pub run_then : (latest : ℕ) (ts : List Turn) (t : Turn) (a b c : AtBench D) → Run moment leaves faults domains latest ts a b → b.desk.contents.torn ≡ None → t.request ≡ request_of domains t.line
+      → Turned moment leaves faults domains (moment_after latest ts) t.request t.reply t.signing b c → Run moment leaves faults domains latest (ts ++ t ∷ []) a c
+  run_then latest [] t a b c same up is turned = let P : AtBench D → Type 0 = λ x. Run moment leaves faults domains latest (t ∷ []) x c in subst P same (c, up, is, turned, refl)
+  run_then latest (u ∷ us) t a b c run up is turned = (run.0, run.1, run.2, run.3, run_then (moment_by latest u.request) us t run.0 b c run.4 up is turned)
 
-  rose_back : (x y z : ℕ) → x ≤ y → Rose y z → Rose x z
-  rose_back x y z h r = omega arith
+  ran_none : (latest : ℕ) (bench : AtBench D) → Ran faults domains latest [] bench bench
+  ran_none latest bench = record {
+    machine = λ state stands. (tt, stands, sym (append-nil bench.desk.contents.events));
+    requests = refl;
+    asked = Tells-nil bench.told;
+    later = omega arith;
+    unfaulted = λ n. tt;
+    denials = omega arith;
+    undenied = λ n. tt;
+    fares = fares_none faults bench.desk;
+  }
 
--- one line
-pub ran_one : {domains : Domains} {moment : ℕ} {q : Result Request Member} {before now : Pair} {r : DeskReply} {s : SignReply} (line : List ℕ) → q ≡ request_of domains line → Turned domains moment q before now r s
-    → Ran domains moment (record { line = line; request = q; reply = r; signing = s } ∷ []) before now
-ran_one {domains} {moment} {q} {before} {now} {r} {s} line is at = record {
-  machine = λ state stands. let m = at.machine state stands in ((m.0, tt), m.1, m.2 ∙ ap (λ es. before.desk.events ++ es) (sym (append-nil _)));
-  requests = ap (λ x. x ∷ []) is;
-  asked = let A : List (SignCall × SignReply) → Type 0 = λ xs. Tells before.told now.told xs in subst A (sym (append-nil _)) at.asked;
-  later = at.later;
-  unfaulted = λ n. (at.unfaulted n, tt);
-}
+  ran_then : (latest : ℕ) (ts us : List Turn) (a b c : AtBench D) → Ran faults domains latest ts a b → Ran faults domains (moment_after latest ts) us b c → Ran faults domains latest (ts ++ us) a c
+  ran_then latest ts us a b c p q = record {
+    machine = λ state stands.
+        let start : Place = record { desk = state; moment = latest } in
+        let first = p.machine state stands in
+        let mid = place_after start ts in
+        let second = q.machine mid.desk first.1 in
+        let same = place_is start ts in
+        let C : Place → Type 0 = λ place. CanRun place us in
+        let E : Place → Type 0 = λ place. DeskStands c.desk.contents (place_after place us).desk in
+        let F : Place → Type 0 = λ place. DeskStands c.desk.contents place.desk in (
+          can_then start ts us first.0 (subst C same second.0),
+          subst F (sym (after_then start ts us)) (subst E same second.1),
+          second.2
+              ∙ ap (λ place. b.desk.contents.events ++ events_of place us) same
+              ∙ ap (λ es. es ++ events_of mid us) first.2
+              ∙ append_assoc a.desk.contents.events (events_of start ts) (events_of mid us)
+              ∙ ap (λ es. a.desk.contents.events ++ es) (sym (events_then start ts us)),
+        );
+    requests = asks_then domains ts us p.requests q.requests;
+    asked =
+        let T : List Told → Type 0 = λ xs. Tells a.told c.told xs in
+        subst T (sym (flat_map-append (told_in domains) ts us)) (Tells-trans a.told b.told c.told (told domains ts) (told domains us) p.asked q.asked);
+    later = omega (arith, p.later, q.later);
+    unfaulted = λ n. unfaulted_then ts us (p.unfaulted (λ r. n (rose_on a.signs_failed b.signs_failed c.signs_failed r q.later))) (q.unfaulted (λ r. n (rose_back a.signs_failed b.signs_failed c.signs_failed p.later r)));
+    denials = omega (arith, p.denials, q.denials);
+    undenied = λ n. undenied_then ts us (p.undenied (λ r. n (rose_on a.signs_denied b.signs_denied c.signs_denied r q.denials))) (q.undenied (λ r. n (rose_back a.signs_denied b.signs_denied c.signs_denied p.denials r)));
+    fares = fares_on faults a.desk b.desk c.desk p.fares q.fares;
+  } where
+    rose_on : (x y z : ℕ) → Rose x y → y ≤ z → Rose x z
+    rose_on x y z r h = omega arith
 
-pub laws_of : {domains : Domains} {moment : ℕ} {turns : List Turn} {before now : Pair} → Ran domains moment turns before now → Laws moment turns before
-laws_of ran = record {
-  safe = λ state stands. safe_run _ _ (ran.machine state stands).0;
-  complete = λ state stands. complete_run _ _ (ran.machine state stands).0;
-}
+    rose_back : (x y z : ℕ) → x ≤ y → Rose y z → Rose x z
+    rose_back x y z h r = omega arith
 
-pub served_none : (domains : Domains) (moment : ℕ) (pair : Pair) (held : Option (List ℕ)) → HasServed domains moment [] pair pair held held
-served_none domains moment pair held = record { ran = ran_none domains moment pair; answered = Appends-nil held }
+  -- one line
+  ran_one : (latest : ℕ) (t : Turn) (a b : AtBench D) → t.request ≡ request_of domains t.line → Turned moment leaves faults domains latest t.request t.reply t.signing a b → Ran faults domains latest (t ∷ []) a b
+  ran_one latest t a b is turned = record {
+    machine = λ state stands. let m = turned.machine state stands in ((m.0, tt), m.1, m.2 ∙ ap (λ es. a.desk.contents.events ++ es) (sym (append-nil _)));
+    requests = ap (λ x. x ∷ []) is;
+    asked = let A : List Told → Type 0 = λ xs. Tells a.told b.told xs in subst A (sym (append-nil _)) turned.asked;
+    later = turned.later;
+    unfaulted = λ n. (turned.unfaulted n, tt);
+    denials = turned.denials;
+    undenied = λ n. (turned.undenied n, tt);
+    fares = turned.fares;
+  }
 
-pub served_then : {domains : Domains} {moment : ℕ} {ts us : List Turn} {a b c : Pair} {h1 h2 h3 : Option (List ℕ)} → HasServed domains moment ts a b h1 h2 → HasServed domains (moment_after moment ts) us b c h2 h3
-    → HasServed domains moment (ts ++ us) a c h1 h3
-served_then {domains} {moment} {ts} {us} {a} {b} {c} {h1} {h2} {h3} p q = record {
-  ran = ran_then p.ran q.ran;
-  answered = let A : List ℕ → Type 0 = λ bs. Appends h1 h3 bs in subst A (sym (flat_map-append text_of ts us)) (Appends-trans h1 h2 h3 (written ts) (written us) p.answered q.answered);
-}
+  pub ran_of : (latest : ℕ) (ts : List Turn) (a b : AtBench D) → Run moment leaves faults domains latest ts a b → Ran faults domains latest ts a b
+  ran_of latest [] a b same = let P : AtBench D → Type 0 = λ x. Ran faults domains latest [] a x in subst P (sym same) (ran_none latest a)
+  ran_of latest (t ∷ ts) a b run = ran_then latest (t ∷ []) ts a run.0 b (ran_one latest t a run.0 run.2 run.3) (ran_of (moment_by latest t.request) ts run.0 b run.4)
 
--- a bad request does nothing
-pub turned_bad : (domains : Domains) (moment : ℕ) (m : Member) (pair : Pair) (r : DeskReply) (s : SignReply) → Turned domains moment (Err m) pair pair r s
-turned_bad domains moment m pair r s = record {
-  machine = λ state stands. (tt, stands, sym (append-nil pair.desk.events));
-  asked = Tells-nil pair.told;
-  later = omega arith;
-  unfaulted = λ n. tt;
-}
-
--- a line with its answer
-pub served_line : {domains : Domains} {moment : ℕ} {q : Result Request Member} {before now : Pair} {r : DeskReply} {s : SignReply} (line text : List ℕ) (h1 h2 : Option (List ℕ)) (latest : ℕ)
-    → q ≡ request_of domains line → Turned domains moment q before now r s → text ≡ answer_text (answer_of q r s) → latest ≡ moment_by moment q → Appends h1 h2 text
-    → (t : Turn) × (t.line ≡ line) × (latest ≡ moment_after moment (t ∷ [])) × HasServed domains moment (t ∷ []) before now h1 h2
-served_line {domains} {moment} {q} {before} {now} {r} {s} line text h1 h2 latest is turned text_is latest_is appended =
-    let A : List ℕ → Type 0 = λ bs. Appends h1 h2 bs in (
-      record { line = line; request = q; reply = r; signing = s },
-      refl,
-      latest_is,
-      record {
-        ran = ran_one line is turned;
-        answered = subst A (text_is ∙ sym (append-nil _)) appended;
-      },
-    )
-
--- a line with a front of its answer
-pub cut_line : {domains : Domains} {moment : ℕ} {q : Result Request Member} {before now : Pair} {r : DeskReply} {s : SignReply} (line text : List ℕ) (h1 h2 : Option (List ℕ)) (n : ℕ)
-    → q ≡ request_of domains line → Turned domains moment q before now r s → text ≡ answer_text (answer_of q r s) → Appends h1 h2 (take n text)
-    → CutShort domains moment line before now h1 h2
-cut_line {domains} {moment} {q} {before} {now} {r} {s} line text h1 h2 n is turned text_is appended =
-    let A : List ℕ → Type 0 = λ bs. Appends h1 h2 bs in
-    record {
-      turn = record { line = line; request = q; reply = r; signing = s };
-      is_line = refl;
-      ran = ran_one line is turned;
-      count = n;
-      answered = subst A (ap (take n) text_is) appended;
-    }
-
-pub bad_answered : (domains : Domains) (moment : ℕ) (q : Result Request Member) (m : Member) (pair : Pair) (text : List ℕ) → q ≡ Err m → text ≡ answer_text (answer.BadRequest m)
-    → (r : DeskReply) × (s : SignReply) × Turned domains moment q pair pair r s × (text ≡ answer_text (answer_of q r s)) × (moment ≡ moment_by moment q)
-bad_answered domains moment q m pair text is text_is =
-    let P : Result Request Member → Type 0 = λ x. (r : DeskReply) × (s : SignReply) × Turned domains moment x pair pair r s × (text ≡ answer_text (answer_of x r s)) × (moment ≡ moment_by moment x) in
-    subst P (sym is) (reply.Active, signing.NoKey, turned_bad domains moment m pair reply.Active signing.NoKey, text_is, refl)
+  pub laws_of : (latest : ℕ) (ts : List Turn) (a b : AtBench D) → Ran faults domains latest ts a b → Laws latest ts a
+  laws_of latest ts a b ran = record {
+    safe = λ state stands. safe_run _ _ (ran.machine state stands).0;
+    complete = λ state stands. complete_run _ _ (ran.machine state stands).0;
+  }

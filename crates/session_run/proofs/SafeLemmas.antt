@@ -1,6 +1,6 @@
 -- A run sends nothing that is slashable beside what was sent before.
-use Rattle.std.proofs.Common.{◌≡◌, ℕ, Bool, true, false, cond, List, [], ◌∷◌, ◌++◌, get_or, Option, Some, None, Result, Ok, Err, refl, sym, ◌∙◌, ap, subst, arith, append_assoc}
-use Rattle.std.specs.Prelude.{All, is_some, IfSome, IsSomeAnd, unwrap_or}
+use Rattle.std.proofs.Common.{◌≡◌, ℕ, Bool, true, false, cond, List, [], ◌∷◌, ◌++◌, get_or, Option, Some, None, Result, Ok, Err, refl, sym, ◌∙◌, ap, subst, arith, append_assoc, inl, inr}
+use Rattle.std.specs.Prelude.{All, is_some, IfSome, IsSome, IsSomeAnd, unwrap_or}
 use Rattle.std.specs.BTreeMap.{is_at}
 use Rattle.std.specs.Ordering.{match_ordering}
 use Rattle.std.specs.declared.cmp.Ordering.{Ordering}
@@ -14,25 +14,25 @@ use Rattle.slash_defs.specs.Lists.{SafeList, IsUnsafe}
 use Rattle.protect_record.specs.Pasts.{Past, no_past, with_own, with_book}
 use Rattle.protect_record.specs.Passing.{Passes, Covers}
 use Rattle.protect_record.specs.PastLaws.{Slashable-sym, covers-with_own, passes-with_own, passes-with_book}
-use Rattle.signer_link.specs.declared.signer.SignReply.{SignReply}
-use Rattle.signer_link.specs.declared.signer.SignReply.TheVariants as signing
+use Rattle.signer_link.specs.declared.reply.SignReply.{SignReply}
+use Rattle.signer_link.specs.declared.reply.SignReply.TheVariants as signing
 use Rattle.slash_defs.specs.declared.book.Book.{Book}
 use Rattle.record_join.specs.Keys.{key_cmp, kept_of, with_key, with_kept}
 use Rattle.record_join.specs.BooksPasts.{IsRefusal, put_past, known_past, with_file_book, with_file, own_grown, own_grown_from}
-use Rattle.record_join.proofs.OrderLemmas.{same_key, kept_here, kept_apart}
+use Rattle.record_join.specs.KeyLaws.{same_key, kept_here, kept_apart}
 use Rattle.record_replay.specs.Pruning.{pruning_of}
 use Rattle.record_replay.specs.declared.state.KeyState.{KeyState}
 use Rattle.record_replay.specs.declared.state.KeyState.TheVariants.{Known, Active, Closing, Closed}
-use Rattle.check_sign.specs.States.{State, past_of, key_state, is_active, IsActive, active_past}
-use Rattle.check_sign.specs.Machine.{after, Reply, grant_for, pruned_keys, ActiveAnd}
-use Rattle.check_sign.specs.declared.open_grant.OpenGrant.{OpenGrant}
-use Rattle.check_sign.specs.declared.call.DeskCall.{DeskCall}
-use Rattle.check_sign.specs.declared.call.DeskCall.TheVariants as call
-use Rattle.check_sign.specs.declared.call.DeskReply.{DeskReply}
-use Rattle.check_sign.specs.declared.call.DeskReply.TheVariants as reply
-use Rattle.check_sign.specs.declared.call.Outcome.{Outcome}
-use Rattle.session_run.specs.Safe.{OnActive, NowOrLater, CoveredOnceActive, StaysSafe, IsCarriedOut, Proposes, CompleteOp, IsComplete, AllComplete}
-use Rattle.session_run.specs.Turns.{Turn, Place, CanRun, CanReply, CanCall, IsAnswered, place_of, place_after, state_after, state_by, settled, call_of, call_at, outcome_of, moment_at, sent, sent_in, sent_by, sent_under, sent_of, sent_for}
+use Rattle.desk_machine.specs.States.{State, past_of, key_state, is_active, IsActive, active_past}
+use Rattle.desk_machine.specs.Machine.{after, Reply, grant_for, pruned_keys, ActiveAnd}
+use Rattle.desk_machine.specs.declared.open_grant.OpenGrant.{OpenGrant}
+use Rattle.desk_machine.specs.declared.call.DeskCall.{DeskCall}
+use Rattle.desk_machine.specs.declared.call.DeskCall.TheVariants as call
+use Rattle.desk_machine.specs.declared.call.DeskReply.{DeskReply}
+use Rattle.desk_machine.specs.declared.call.DeskReply.TheVariants as reply
+use Rattle.desk_machine.specs.declared.call.Outcome.{Outcome}
+use Rattle.session_run.specs.Safe.{CoveredInTheEnd, WasActive, NowOrLater, CoveredOnceActive, StaysSafe, IsCarriedOut, Proposes, CompleteOp, IsComplete, AllComplete}
+use Rattle.session_run.specs.Turns.{Turn, Place, CanRun, CanReply, CanCall, IsAnswered, place_of, state_after, state_by, settled, call_of, call_at, outcome_of, moment_at, sent, sent_in, sent_by, sent_under, sent_of, sent_for}
 use Rattle.session_format.specs.declared.request.Op.{Op}
 use Rattle.session_format.specs.declared.request.Op.TheVariants as op
 use Rattle.session_format.specs.declared.request.Request.{Request}
@@ -389,23 +389,55 @@ turn_step place (Ok q) r s ts before can safe covered =
     subst P (sent_same _ q.op (moment_at place.moment q) r s)
     (by_option place (moment_at place.moment q) (call_at place q) r s ts before (CoveredOnceActive (place_of place (Ok q) r s) ts) can safe covered (carried place (Ok q) r s ts before covered))
 
+-- ---- what is covered in the end
+
+is_some_of : (o : Option Past) (p : Past) → o ≡ Some p → IsSome o
+is_some_of o p e = rw e refl
+
+of_some : (o : Option Past) → IsSome o → (p : Past) × (o ≡ Some p)
+of_some None h = absurd (let bad : false ≡ true = h in cc)
+of_some (Some p) h = (p, refl)
+
+kept_if : (b : Bool) (o : Option Past) (m : Message) → IfSome (cond b o None) (λ p. Covers p m) → IsSome (cond b o None) → IsSomeAnd o (λ p. Covers p m)
+kept_if true None m h some = absurd (let bad : false ≡ true = some in cc)
+kept_if true (Some p) m h some = h
+kept_if false o m h some = absurd (let bad : false ≡ true = some in cc)
+
+-- an active key was active
+was_now : (place : Place) (ts : List Turn) (key : PubKey) → IsSome (active_past place.desk key) → WasActive place ts key
+was_now place [] key h = h
+was_now place (t ∷ ts) key h = inl h
+
+-- an active key is active after a turn
+was_then : (place : Place) (t : Turn) (ts : List Turn) (key : PubKey) → WasActive place (t ∷ ts) key → WasActive (place_of place t.request t.reply t.signing) ts key
+was_then place t ts key (inl now) =
+    let next = place_of place t.request t.reply t.signing in
+    let past = of_some (active_past place.desk key) now in
+    let kept = keeps_turn place t.request t.reply t.signing key past.0 past.1 in
+    was_now next ts key (is_some_of (active_past next.desk key) kept.0 kept.1)
+was_then place t ts key (inr later) = later
+
 -- whatever the turns, nothing slashable is sent
 pub safe_run : (place : Place) (ts : List Turn) → CanRun place ts → StaysSafe place ts
-safe_run place [] can before safe covered = let P : Before → Type 0 = λ l. SafeList l × All (OnActive place.desk) l in subst P (sym (append-nil before)) (safe, covered)
+safe_run place [] can before safe covered =
+    let P : Before → Type 0 = λ l. SafeList l × All (CoveredInTheEnd place []) l in
+    subst P (sym (append-nil before)) (safe, λ i d lt. let x = get_or before i d in kept_if (is_active (key_state place.desk.states x.0)) (past_of place.desk x.0) x.1 (covered i d lt))
 safe_run place (t ∷ ts) can before safe covered =
     let q = t.request in
     let next = place_of place q t.reply t.signing in
     let step = turn_step place q t.reply t.signing ts before can.0 safe covered in
     let rest = safe_run next ts can.1 (before ++ sent_in t) step.0 step.1 in
-    let P : Before → Type 0 = λ l. SafeList l × All (OnActive (place_after next ts).desk) l in
-    subst P (append_assoc before (sent_in t) (sent ts)) rest
+    let P : Before → Type 0 = λ l. SafeList l × All (CoveredInTheEnd place (t ∷ ts)) l in
+    subst P (append_assoc before (sent_in t) (sent ts)) (rest.0, λ i d lt was. rest.1 i d lt (was_then place t ts _ was))
 
 -- ---- completeness
 
 carried_out : (g : OpenGrant) (s : SignReply) → IsAnswered (reply.Granted g) s → IsCarriedOut (reply.Granted g) s
 carried_out g (signing.Signed signature) h = tt
-carried_out g signing.NoKey h = tt
+carried_out g (signing.NoKey status) h = tt
+carried_out g (signing.Denied status) h = tt
 carried_out g signing.Fault h = tt
+carried_out g (signing.BadAnswer body) h = tt
 carried_out g signing.OutOfMemory h = h
 
 proposes : (state : State) (key : PubKey) (m : Message) (now : ℕ) (r : DeskReply) (s : SignReply) → Reply state (call.Propose key m now) r → IsAnswered r s → Proposes state key m r s

@@ -5,7 +5,7 @@ use Rattle.slash_defs.specs.declared.message.Message.{Message}
 use Rattle.protect_record.specs.Pasts.{Past}
 use Rattle.protect_record.specs.Passing.{Covers}
 use Rattle.record_join.specs.Keys.{kept_of}
-use Rattle.check_sign.specs.States.{State, Lasting}
+use Rattle.desk_machine.specs.States.{State, Lasting}
 
 -- a past is kept of the key, and it lets nothing pass that is slashable with the message
 abbrev pub CoversKey : List (PubKey × Past) → PubKey → Message → Type 0

@@ -4,7 +4,8 @@ pub mod Turns
 pub mod Acts
 pub mod Safe
 pub mod Durable
-pub mod Codes
-pub mod Closings
+pub mod Inputs
 pub mod Runs
-pub mod Images
+pub mod Moments
+pub mod Ends
+pub mod Exits

@@ -1,5 +1,6 @@
 -- The lines of an input.
-use Rattle.std.specs.Prelude.{◌≡◌, ◌≢◌, ℕ, ◌+◌, ◌<◌, ◌≤◌, ◌==◌, ◌^◌, ◌-◌, List, [], ◌∷◌, ◌++◌, length, take, slice_index, if◌then◌else◌}
+use Rattle.std.specs.Prelude.{◌≡◌, ◌≢◌, ℕ, ◌+◌, ◌<◌, ◌≤◌, ◌==◌, List, [], ◌∷◌, ◌++◌, length, take, slice_index, if◌then◌else◌}
+use Rattle.program_end.specs.Limits.{line_limit}
 use Rattle.session_run.specs.declared.next.Next.{Next}
 use Rattle.session_run.specs.declared.next.Next.TheVariants as next
 
@@ -10,14 +11,6 @@ lines_after part (b ∷ bs) = if b == 10 then part ∷ lines_after [] bs else li
 
 unfoldable pub lines_of : List ℕ → List (List ℕ)
 lines_of bytes = lines_after [] bytes
-
--- how many bytes a line may have, without its newline
-abbrev pub line_limit : ℕ
-line_limit = 16777216
-
--- how many bytes end an input
-abbrev pub input_limit : ℕ
-input_limit = 2 ^ 64 - 1
 
 -- no newline is among them
 abbrev pub IsOneLine : List ℕ → Type 0

@@ -1,7 +1,8 @@
 -- What a reader of lines holds.
 use Rattle.std.specs.Prelude.{◌≡◌, ℕ, ◌+◌, ◌≤◌, ◌<◌, ◌++◌, min, List, Option, slice_index, length}
 use Rattle.std.specs.Io.KnownBytes.{Consumes}
-use Rattle.session_run.specs.Lines.{TakesLine, input_limit}
+use Rattle.program_end.specs.Limits.{input_limit}
+use Rattle.session_run.specs.Lines.{TakesLine}
 use Rattle.session_run.specs.declared.next.Next.{Next}
 
 pub record Pending : Type 0 where

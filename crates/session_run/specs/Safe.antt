@@ -1,15 +1,16 @@
 -- What every run keeps: nothing slashable is sent, and a proposal that passes is granted, where the journal has room and its disk works.
-use Rattle.std.specs.Prelude.{◌≡◌, ◌++◌, List, [], ◌∷◌, All, Option, Some, None, IfSome, Result, Ok, Err}
+use Rattle.std.specs.Prelude.{◌≡◌, ◌++◌, ◌⊎◌, List, [], ◌∷◌, All, Option, Some, None, IfSome, IsSome, Result, Ok, Err}
 use Rattle.edge_kit.specs.declared.bytes.PubKey.{PubKey}
 use Rattle.slash_defs.specs.declared.message.Message.{Message}
 use Rattle.slash_defs.specs.Lists.{SafeList}
 use Rattle.protect_record.specs.Pasts.{Past}
 use Rattle.protect_record.specs.Passing.{Passes, Covers}
-use Rattle.signer_link.specs.declared.signer.SignReply.{SignReply}
-use Rattle.signer_link.specs.declared.signer.SignReply.TheVariants as signing
-use Rattle.check_sign.specs.States.{State, active_past}
-use Rattle.check_sign.specs.declared.call.DeskReply.{DeskReply}
-use Rattle.check_sign.specs.declared.call.DeskReply.TheVariants as reply
+use Rattle.signer_link.specs.declared.reply.SignReply.{SignReply}
+use Rattle.signer_link.specs.declared.reply.SignReply.TheVariants as signing
+use Rattle.desk_machine.specs.States.{State, active_past}
+use Rattle.desk_machine.specs.declared.call.DeskReply.{DeskReply}
+use Rattle.desk_machine.specs.declared.call.DeskReply.TheVariants as reply
+use Rattle.session_run.specs.Durable.{CoversKey}
 use Rattle.session_run.specs.Turns.{Turn, Place, place_of, place_after, sent}
 use Rattle.session_format.specs.declared.request.Op.{Op}
 use Rattle.session_format.specs.declared.request.Op.TheVariants as op
@@ -30,17 +31,29 @@ abbrev pub CoveredOnceActive : Place → List Turn → PubKey × Message → Typ
 CoveredOnceActive place [] sent = OnActive place.desk sent
 CoveredOnceActive place (t ∷ ts) sent = NowOrLater (active_past place.desk sent.0) sent.1 (CoveredOnceActive (place_of place t.request t.reply t.signing) ts sent)
 
--- whatever was signed before, safe and covered, is safe beside what this run sends, and where its key is active it is covered in the end
+-- the key was active at some point of the run: at its start, or after a turn
+abbrev pub WasActive : Place → List Turn → PubKey → Type 0
+WasActive place [] key = IsSome (active_past place.desk key)
+WasActive place (t ∷ ts) key = IsSome (active_past place.desk key) ⊎ WasActive (place_of place t.request t.reply t.signing) ts key
+
+-- where the key of a message was active in the run, a past is kept of it at the end that covers the message
+abbrev pub CoveredInTheEnd : Place → List Turn → PubKey × Message → Type 0
+CoveredInTheEnd place turns sent = WasActive place turns sent.0 → CoversKey (place_after place turns).desk.keys sent.0 sent.1
+
+-- Whatever was signed before, safe and covered, is safe beside what this run sends; and each of these messages is covered in the end
+-- where its key was active in the run, and so will be once the key is active again.
 abbrev pub StaysSafe : Place → List Turn → Type 0
 StaysSafe place turns = (before : List (PubKey × Message)) → SafeList before → All (CoveredOnceActive place turns) before
-    → SafeList (before ++ sent turns) × All (OnActive (place_after place turns).desk) (before ++ sent turns)
+    → SafeList (before ++ sent turns) × All (CoveredInTheEnd place turns) (before ++ sent turns)
 
 -- a proposal of an active key that its past lets pass is granted, but where the journal is at a limit or the disk failed; and
--- what is granted has its signature, but where the signer lacks the key or failed
+-- what is granted has its signature, but where the signer lacks the key, refused, failed or answered with something else
 abbrev pub IsCarriedOut : DeskReply → SignReply → Type 0
 IsCarriedOut (reply.Granted grant) (signing.Signed signature) = Unit {0}
-IsCarriedOut (reply.Granted grant) signing.NoKey = Unit {0}
+IsCarriedOut (reply.Granted grant) (signing.NoKey status) = Unit {0}
+IsCarriedOut (reply.Granted grant) (signing.Denied status) = Unit {0}
 IsCarriedOut (reply.Granted grant) signing.Fault = Unit {0}
+IsCarriedOut (reply.Granted grant) (signing.BadAnswer body) = Unit {0}
 IsCarriedOut (reply.Full size wanted) s = Unit {0}
 IsCarriedOut reply.Disk s = Unit {0}
 IsCarriedOut r s = ⊥

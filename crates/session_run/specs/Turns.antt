@@ -4,22 +4,23 @@ use Rattle.std.specs.Map.{keys_of}
 use Rattle.edge_kit.specs.declared.bytes.PubKey.{PubKey}
 use Rattle.slash_defs.specs.declared.message.Message.{Message}
 use Rattle.sign_roots.specs.declared.domains.Domains.{Domains}
-use Rattle.signer_link.specs.Signing.{asked, told_call}
-use Rattle.signer_link.specs.InMemory.{root_of}
-use Rattle.signer_link.specs.declared.signer.SignCall.{SignCall}
-use Rattle.signer_link.specs.declared.signer.SignObject.{SignObject}
-use Rattle.signer_link.specs.declared.signer.SignRequest.{SignRequest}
-use Rattle.signer_link.specs.declared.signer.SignReply.{SignReply}
-use Rattle.signer_link.specs.declared.signer.SignReply.TheVariants as signing
-use Rattle.check_sign.specs.States.{State}
-use Rattle.check_sign.specs.Machine.{Reply, after, noted}
-use Rattle.check_sign.specs.declared.event.DeskEvent.{DeskEvent}
-use Rattle.check_sign.specs.declared.call.DeskCall.{DeskCall}
-use Rattle.check_sign.specs.declared.call.DeskCall.TheVariants as call
-use Rattle.check_sign.specs.declared.call.DeskReply.{DeskReply}
-use Rattle.check_sign.specs.declared.call.DeskReply.TheVariants as reply
-use Rattle.check_sign.specs.declared.call.Outcome.{Outcome}
-use Rattle.check_sign.specs.declared.call.Outcome.TheVariants as outcome
+use Rattle.signer_link.specs.Signing.{asked, told_sign}
+use Rattle.slash_defs.specs.Signing.{signing_root_of}
+use Rattle.signer_link.specs.declared.request.SignObject.{SignObject}
+use Rattle.signer_link.specs.declared.request.SignRequest.{SignRequest}
+use Rattle.signer_link.specs.declared.reply.SignReply.{SignReply}
+use Rattle.signer_link.specs.declared.reply.Told.{Told}
+use Rattle.signer_link.specs.declared.reply.SignReply.TheVariants as signing
+use Rattle.desk_machine.specs.States.{State}
+use Rattle.desk_machine.specs.Machine.{Reply, after}
+use Rattle.desk_machine.specs.Noted.{noted}
+use Rattle.desk_machine.specs.declared.event.DeskEvent.{DeskEvent}
+use Rattle.desk_machine.specs.declared.call.DeskCall.{DeskCall}
+use Rattle.desk_machine.specs.declared.call.DeskCall.TheVariants as call
+use Rattle.desk_machine.specs.declared.call.DeskReply.{DeskReply}
+use Rattle.desk_machine.specs.declared.call.DeskReply.TheVariants as reply
+use Rattle.desk_machine.specs.declared.call.Outcome.{Outcome}
+use Rattle.desk_machine.specs.declared.call.Outcome.TheVariants as outcome
 use Rattle.session_format.specs.Requests.{request_of}
 use Rattle.session_format.specs.Answers.{answer_text}
 use Rattle.session_format.specs.declared.request.Op.{Op}
@@ -28,7 +29,7 @@ use Rattle.session_format.specs.declared.request.Request.{Request}
 use Rattle.session_format.specs.declared.member.Member.{Member}
 use Rattle.session_format.specs.declared.answer.Answer.{Answer}
 use Rattle.session_format.specs.declared.answer.Answer.TheVariants as answer
-use Rattle.session_format.specs.declared.answer.Cause.TheVariants as cause
+use Rattle.session_format.specs.declared.cause.Cause.TheVariants as cause
 
 -- A line with what it asks, what the desk replied and what the signer answered. Where a line asks nothing of one of them,
 -- that part says nothing.
@@ -61,6 +62,27 @@ call_of kept (op.Export None) now = Some (call.Export kept)
 call_of kept (op.Export (Some keys)) now = Some (call.Export keys)
 call_of kept (op.Prune key) now = Some (call.Prune key)
 
+-- a session makes these calls of the desk
+abbrev pub IsOfSession : DeskCall → Type 0
+IsOfSession (call.Merge file) = Unit {0}
+IsOfSession (call.Activate key now) = Unit {0}
+IsOfSession (call.Propose key m now) = Unit {0}
+IsOfSession (call.Export keys) = Unit {0}
+IsOfSession (call.Prune key) = Unit {0}
+IsOfSession c = ⊥
+
+-- and none of these replies comes to it
+abbrev pub IsToSession : DeskReply → Type 0
+IsToSession reply.Settled = ⊥
+IsToSession reply.CloseBegun = ⊥
+IsToSession reply.AlreadyClosing = ⊥
+IsToSession (reply.Closed book) = ⊥
+IsToSession (reply.Keys listed) = ⊥
+IsToSession (reply.HasFailed failed) = ⊥
+IsToSession (reply.NotClosing state) = ⊥
+IsToSession (reply.Busy grants) = ⊥
+IsToSession r = Unit {0}
+
 abbrev pub call_at : Place → Request → Option DeskCall
 call_at place q = call_of (keys_of place.desk.keys) q.op (moment_at place.moment q)
 
@@ -76,8 +98,10 @@ sign_request domains o = record { fork = domains.fork; genesis = domains.genesis
 -- a signature is sent; without one the grant is dropped
 abbrev pub outcome_of : SignReply → Outcome
 outcome_of (signing.Signed signature) = outcome.Sent
-outcome_of signing.NoKey = outcome.Dropped
+outcome_of (signing.NoKey status) = outcome.Dropped
+outcome_of (signing.Denied status) = outcome.Dropped
 outcome_of signing.Fault = outcome.Dropped
+outcome_of (signing.BadAnswer body) = outcome.Dropped
 outcome_of signing.OutOfMemory = outcome.Dropped
 
 -- the state after a call, and after the settling of the grant that it gave, if any
@@ -98,10 +122,12 @@ noted_both state c r o = noted state.latest c r ++ noted_settling (after state c
 
 -- the answer that goes out, where memory did not run out
 abbrev pub signed_answer : Option Message → SignReply → Answer
-signed_answer (Some m) (signing.Signed signature) = answer.Signed signature (root_of m)
+signed_answer (Some m) (signing.Signed signature) = answer.Signed signature (signing_root_of m)
 signed_answer None (signing.Signed signature) = answer.Unsigned cause.Fault
-signed_answer m signing.NoKey = answer.Unsigned cause.NoKey
+signed_answer m (signing.NoKey status) = answer.Unsigned cause.NoKey
+signed_answer m (signing.Denied status) = answer.Unsigned (cause.Denied status)
 signed_answer m signing.Fault = answer.Unsigned cause.Fault
+signed_answer m (signing.BadAnswer body) = answer.Unsigned (cause.BadAnswer body)
 signed_answer m signing.OutOfMemory = answer.Unsigned cause.Fault
 
 abbrev pub reply_answer : DeskReply → SignReply → Answer
@@ -144,11 +170,11 @@ IsAnswered (reply.Granted grant) signing.OutOfMemory = ⊥
 IsAnswered r s = Unit {0}
 
 -- what the signer was asked under a grant, with its reply
-abbrev pub asked_for : SignRequest → PubKey → Option Message → SignReply → List (SignCall × SignReply)
+abbrev pub asked_for : SignRequest → PubKey → Option Message → SignReply → List Told
 asked_for request key None s = []
-asked_for request key (Some m) s = told_call (asked key m request) s
+asked_for request key (Some m) s = told_sign (asked key m request) s
 
-abbrev pub asked_of : SignRequest → DeskReply → SignReply → List (SignCall × SignReply)
+abbrev pub asked_of : SignRequest → DeskReply → SignReply → List Told
 asked_of request (reply.Granted grant) s = asked_for request grant.key grant.message s
 asked_of request r s = []
 
@@ -166,6 +192,11 @@ abbrev pub IsUnfaulted : DeskReply → SignReply → Type 0
 IsUnfaulted (reply.Granted grant) signing.Fault = ⊥
 IsUnfaulted r s = Unit {0}
 
+-- the signer did not refuse
+abbrev pub IsUndenied : DeskReply → SignReply → Type 0
+IsUndenied (reply.Granted grant) (signing.Denied status) = ⊥
+IsUndenied r s = Unit {0}
+
 -- ---- a call of the desk, if there is one
 
 abbrev pub CanCall : State → Option DeskCall → DeskReply → SignReply → Type 0
@@ -180,7 +211,7 @@ abbrev pub noted_by : State → Option DeskCall → DeskReply → Outcome → Li
 noted_by state None r o = []
 noted_by state (Some c) r o = noted_both state c r o
 
-abbrev pub told_by : SignRequest → Option DeskCall → DeskReply → SignReply → List (SignCall × SignReply)
+abbrev pub told_by : SignRequest → Option DeskCall → DeskReply → SignReply → List Told
 told_by request None r s = []
 told_by request (Some c) r s = asked_of request r s
 
@@ -191,6 +222,10 @@ sent_under (Some c) r s = sent_of r s
 abbrev pub unfaulted_under : Option DeskCall → DeskReply → SignReply → Type 0
 unfaulted_under None r s = Unit {0}
 unfaulted_under (Some c) r s = IsUnfaulted r s
+
+abbrev pub undenied_under : Option DeskCall → DeskReply → SignReply → Type 0
+undenied_under None r s = Unit {0}
+undenied_under (Some c) r s = IsUndenied r s
 
 -- ---- a line: a bad request does nothing
 
@@ -210,7 +245,7 @@ noted_of place (Ok q) r s = noted_by place.desk (call_at place q) r (outcome_of 
 abbrev pub calls : Request → Option DeskCall
 calls q = call_of [] q.op 0
 
-abbrev pub told_of : Domains → Result Request Member → DeskReply → SignReply → List (SignCall × SignReply)
+abbrev pub told_of : Domains → Result Request Member → DeskReply → SignReply → List Told
 told_of domains (Err m) r s = []
 told_of domains (Ok q) r s = told_by (sign_request domains q.op) (calls q) r s
 
@@ -221,6 +256,10 @@ sent_by (Ok q) r s = sent_under (calls q) r s
 abbrev pub unfaulted_by : Result Request Member → DeskReply → SignReply → Type 0
 unfaulted_by (Err m) r s = Unit {0}
 unfaulted_by (Ok q) r s = unfaulted_under (calls q) r s
+
+abbrev pub undenied_by : Result Request Member → DeskReply → SignReply → Type 0
+undenied_by (Err m) r s = Unit {0}
+undenied_by (Ok q) r s = undenied_under (calls q) r s
 
 abbrev pub moment_by : ℕ → Result Request Member → ℕ
 moment_by moment (Err m) = moment
@@ -252,6 +291,11 @@ abbrev pub Unfaulted : List Turn → Type 0
 Unfaulted [] = Unit {0}
 Unfaulted (t ∷ ts) = unfaulted_by t.request t.reply t.signing × Unfaulted ts
 
+-- and refused at none
+abbrev pub Undenied : List Turn → Type 0
+Undenied [] = Unit {0}
+Undenied (t ∷ ts) = undenied_by t.request t.reply t.signing × Undenied ts
+
 abbrev pub line_of : Turn → List ℕ
 line_of t = t.line
 
@@ -262,10 +306,10 @@ text_of t = answer_text (answer_of t.request t.reply t.signing)
 abbrev pub written : List Turn → List ℕ
 written ts = flat_map text_of ts
 
-abbrev pub told_in : Domains → Turn → List (SignCall × SignReply)
+abbrev pub told_in : Domains → Turn → List Told
 told_in domains t = told_of domains t.request t.reply t.signing
 
-abbrev pub told : Domains → List Turn → List (SignCall × SignReply)
+abbrev pub told : Domains → List Turn → List Told
 told domains ts = flat_map (told_in domains) ts
 
 abbrev pub sent_in : Turn → List (PubKey × Message)

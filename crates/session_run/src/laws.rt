@@ -3,13 +3,14 @@ ghost use Rattle.std.specs.Prelude.{◌≡◌, ℕ, List};
 ghost use Rattle.edge_kit.specs.declared.bytes.PubKey.{PubKey};
 ghost use Rattle.edge_kit.specs.declared.bytes.Root.{Root};
 ghost use Rattle.slash_defs.specs.declared.message.Message.{Message};
-ghost use Rattle.check_sign.specs.States.{State, Lasting, MayOpen, Opens};
-ghost use Rattle.check_sign.specs.Machine.{Reply, after};
-ghost use Rattle.check_sign.specs.declared.open_grant.OpenGrant.{OpenGrant};
-ghost use Rattle.check_sign.specs.declared.call.DeskCall.{DeskCall};
-ghost use Rattle.check_sign.specs.declared.call.DeskCall.TheVariants as call;
-ghost use Rattle.check_sign.specs.declared.call.DeskReply.{DeskReply};
-ghost use Rattle.check_sign.specs.declared.call.DeskReply.TheVariants as reply;
+ghost use Rattle.desk_machine.specs.States.{State, Lasting};
+ghost use Rattle.check_sign.specs.Standing.{MayOpen, Opens};
+ghost use Rattle.desk_machine.specs.Machine.{Reply, after};
+ghost use Rattle.desk_machine.specs.declared.open_grant.OpenGrant.{OpenGrant};
+ghost use Rattle.desk_machine.specs.declared.call.DeskCall.{DeskCall};
+ghost use Rattle.desk_machine.specs.declared.call.DeskCall.TheVariants as call;
+ghost use Rattle.desk_machine.specs.declared.call.DeskReply.{DeskReply};
+ghost use Rattle.desk_machine.specs.declared.call.DeskReply.TheVariants as reply;
 ghost use Rattle.session_run.specs.Durable.{CoversKey, IsDurable};
 
 /// A grant is durable. Once a message was granted, the past of its key lets nothing pass that is slashable with

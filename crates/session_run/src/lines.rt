@@ -2,17 +2,19 @@
 ghost use Rattle.std.specs.Prelude.{◌≡◌, ◌≢◌, ◌<◌, ◌≤◌, ◌^◌, ◌+◌, ◌-◌, ◌++◌, ◌∷◌, [], ℕ, List, length, take, drop, slice_index, IfOk, IfErr, IfSome, IfNone, OnErr, OnOk, min, vec_len};
 ghost use Rattle.std.specs.Io.KnownBytes.{Consumes, Keeps, IsAtEnd};
 ghost use Rattle.edge_kit.specs.Causes.{Rose};
-ghost use Rattle.session_run.specs.Lines.{IsOneLine, IsShortLine, TakesLine, IsLast, BeginsTooLong, line_limit, input_limit};
+ghost use Rattle.session_run.specs.Lines.{IsOneLine, IsShortLine, TakesLine, IsLast, BeginsTooLong};
 ghost use Rattle.session_run.specs.Reading.{Pending, IsScanned, ReadsMore, GivesLine};
-ghost use Rattle.session_run.specs.declared.next.Limit.{Limit};
+ghost use Rattle.program_end.specs.Limits.{line_limit, input_limit};
+ghost use Rattle.program_end.specs.declared.limit.Limit.{Limit};
 
-use crate::next::{Limit, LineFault, Next};
+use crate::next::{LineFault, Next};
 use edge_kit::{Failed, Source};
+use program_end::Limit;
 use std::alloc::{AllocError, Global};
 use std::marker::Model;
 
 /// How many bytes a line may have, without its newline.
-pub const LINE_LIMIT: usize = 16_777_216;
+const LINE_LIMIT: usize = program_end::LINE_LIMIT as usize;
 
 /// How many bytes are asked of the source at once.
 const PIECE: usize = 65_536;

@@ -1,1 +1,4 @@
-pub mod SigningLemmas
+pub mod BodyLemmas
+pub mod BlankLemmas
+pub mod ReadingLemmas
+pub mod Web3Lemmas

@@ -1,19 +1,40 @@
 -- What the signing service is asked, and what it tells.
-use Rattle.std.specs.Prelude.{List, [], ◌∷◌}
+use Rattle.std.specs.Prelude.{ℕ, List, [], ◌∷◌, if◌then◌else◌}
 use Rattle.edge_kit.specs.declared.bytes.PubKey.{PubKey}
 use Rattle.slash_defs.specs.declared.message.Message.{Message}
-use Rattle.signer_link.specs.declared.signer.SignRequest.{SignRequest}
-use Rattle.signer_link.specs.declared.signer.SignCall.{SignCall}
-use Rattle.signer_link.specs.declared.signer.SignReply.{SignReply}
-use Rattle.signer_link.specs.declared.signer.SignReply.TheVariants as reply
+use Rattle.signer_link.specs.declared.request.SignRequest.{SignRequest}
+use Rattle.signer_link.specs.declared.request.SignCall.{SignCall}
+use Rattle.signer_link.specs.declared.request.PlainRequest.{PlainRequest}
+use Rattle.signer_link.specs.declared.request.PlainCall.{PlainCall}
+use Rattle.signer_link.specs.declared.request.ImportCall.{ImportCall}
+use Rattle.signer_link.specs.declared.reply.SignReply.{SignReply}
+use Rattle.signer_link.specs.declared.reply.ImportReply.{ImportReply}
+use Rattle.signer_link.specs.declared.reply.DeleteReply.{DeleteReply}
+use Rattle.signer_link.specs.Outcomes.{sign_given, import_given, delete_given}
+use Rattle.signer_link.specs.declared.reply.Told.{Told}
+use Rattle.signer_link.specs.declared.reply.Told.TheVariants as told
 
 -- to sign the message's root by the key
 abbrev pub asked : PubKey → Message → SignRequest → SignCall
 asked key message request = record { key = key; message = message; request = request }
 
--- a call with its reply; where memory ran out nothing was asked
-abbrev pub told_call : SignCall → SignReply → List (SignCall × SignReply)
-told_call call reply.OutOfMemory = []
-told_call call (reply.Signed signature) = (call, reply.Signed signature) ∷ []
-told_call call reply.NoKey = (call, reply.NoKey) ∷ []
-told_call call reply.Fault = (call, reply.Fault) ∷ []
+-- to sign what is no block and no vote by the key
+abbrev pub plainly_asked : PubKey → PlainRequest → PlainCall
+plainly_asked key request = record { key = key; request = request }
+
+-- to take the key in
+abbrev pub imported : PubKey → List ℕ → List ℕ → ImportCall
+imported key keystore password = record { key = key; keystore = keystore; password = password }
+
+-- a call with its answer; where memory ran out nothing is told
+abbrev pub told_sign : SignCall → SignReply → List Told
+told_sign call r = if sign_given r then told.Sign call r ∷ [] else []
+
+abbrev pub told_plain : PlainCall → SignReply → List Told
+told_plain call r = if sign_given r then told.Plain call r ∷ [] else []
+
+abbrev pub told_import : ImportCall → ImportReply → List Told
+told_import call r = if import_given r then told.Import call r ∷ [] else []
+
+abbrev pub told_delete : PubKey → DeleteReply → List Told
+told_delete key r = if delete_given r then told.Delete key r ∷ [] else []

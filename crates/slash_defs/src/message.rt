@@ -1,6 +1,7 @@
 //! What a validator signs.
-ghost use Rattle.std.specs.Prelude.{IsTrue, ◌↔◌};
+ghost use Rattle.std.specs.Prelude.{IsTrue, ◌≡◌, ◌↔◌};
 ghost use Rattle.slash_defs.specs.Slashing.{Slashable};
+ghost use Rattle.slash_defs.specs.Signing.{signing_root_of};
 
 use edge_kit::Root;
 
@@ -18,6 +19,17 @@ pub enum Message {
         target: u64,
         root: Root,
     },
+}
+
+impl Message {
+    /// The root that is signed.
+    pub fn signing_root(&self) -> &Root
+        ensures { result.now ≡ signing_root_of self.now }
+    {
+        match self {
+            Message::Block { root, .. } | Message::Vote { root, .. } => root,
+        }
+    }
 }
 
 /// Whether the chain slashes one key for both: two blocks of one slot, a double vote, or one vote that

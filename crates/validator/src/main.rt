@@ -5,10 +5,13 @@ ghost use Rattle.std.specs.Prelude.{◌≡◌, [], IfOk, Ok, codes, map, option_
 ghost use Rattle.edge_kit.specs.OnMemDisks.{disk_bytes};
 ghost use Rattle.command_line.specs.Plans.{asked_of, taken_as};
 ghost use Rattle.validator.specs.Files.{files_at, files_of};
+ghost use Rattle.validator.specs.Services.{signer_of};
 
-use edge_kit::{Clock, Disk, Disks, Door, FileDisk, MemDisk, Reading, Writing};
-use signer_link::MemSigner;
+use edge_kit::{Clock, Disk, Disks, Door, FileDisk, MemDisk, Reading, TcpLink, Writing};
+use service_url::ServiceUrl;
+use signer_link::{MemSigner, Signer, Web3Signer};
 use std::alloc::{AllocError, Global};
+use std::net::Net;
 use std::process::ExitCode;
 use std::rt::Env;
 use std::sync::Wait;
@@ -44,13 +47,31 @@ fn words<R: Env + AllocGlobal>(rt: &R) -> Result<Vec<String>, AllocError> {
     Ok(words)
 }
 
-/// The paths of the two files of the journal that the words name, if they name one.
-fn journal_files(alloc: Global, words: &[String]) -> Result<Option<(String, String)>, AllocError>
-    ensures { IfOk result (λ files. option_map (λ f. (string_bytes f.0, string_bytes f.1)) files ≡ files_of (asked_of (map string_bytes words.now))) }
+/// What the words name of the outside: the paths of the two files of the journal, if they name one, and the
+/// address of the signing service, if they name one.
+fn named(
+    alloc: Global,
+    words: &[String],
+) -> Result<(Option<(String, String)>, Option<ServiceUrl>), AllocError>
+    ensures files { IfOk result (λ x. option_map (λ f. (string_bytes f.0, string_bytes f.1)) x.0 ≡ files_of (asked_of (map string_bytes words.now))) }
+    ensures signer { IfOk result (λ x. x.1 ≡ signer_of (asked_of (map string_bytes words.now))) }
 {
     match plan(alloc, words)? {
-        Ok(plan) => plan_files(alloc, &plan),
-        Err(_) => Ok(None),
+        Ok(plan) => {
+            let files = plan_files(alloc, &plan)?;
+            Ok((files, plan_signer(plan)))
+        }
+        Err(_) => Ok((None, None)),
+    }
+}
+
+/// The address of a plan's signing service, if it has one.
+fn plan_signer(plan: Plan) -> Option<ServiceUrl>
+    ensures { result ≡ signer_of (taken_as (Ok plan)) }
+{
+    match plan {
+        Plan::Session { signer, .. } => signer,
+        _ => None,
     }
 }
 
@@ -98,12 +119,33 @@ fn memory_disks(alloc: Global) -> Result<Disks<MemDisk>, AllocError>
     })
 }
 
-/// A run of the words over these disks, with a signer in memory.
-fn run<R: Threads + Wait + Sync + Input + Print, D: Disk + Drop>(
+/// A run of the words over these disks, with the signing service at this address, or with a signer in
+/// memory where there is none.
+fn run_signing<R: Threads + Wait + Sync + Input + Print + Net, D: Disk + Drop>(
     rt: &R,
     alloc: Global,
     words: &[String],
     disks: Disks<D>,
+    service: Option<ServiceUrl>,
+) -> Status {
+    let Some(service) = service else {
+        let signer = MemSigner::new(alloc, Vec::new(alloc), Vec::new(alloc));
+        return run(rt, alloc, words, disks, signer);
+    };
+    let Ok(host) = String::from_str(alloc, service.dial_host()) else {
+        return Status::OutOfMemory;
+    };
+    let link = TcpLink::new(alloc, rt, host, service.port());
+    run(rt, alloc, words, disks, Web3Signer::new(link, service))
+}
+
+/// A run of the words over these disks, with this signer.
+fn run<R: Threads + Wait + Sync + Input + Print, D: Disk + Drop, S: Signer + Drop>(
+    rt: &R,
+    alloc: Global,
+    words: &[String],
+    disks: Disks<D>,
+    signer: S,
 ) -> Status {
     let mut input = Reading::new(rt.reader());
     let mut output = Writing::new(io::writer(rt));
@@ -113,7 +155,7 @@ fn run<R: Threads + Wait + Sync + Input + Print, D: Disk + Drop>(
         alloc,
         words,
         disks,
-        MemSigner::new(alloc, Vec::new(alloc), Vec::new(alloc)),
+        signer,
         nodes,
         Unused,
         Unused,
@@ -124,13 +166,13 @@ fn run<R: Threads + Wait + Sync + Input + Print, D: Disk + Drop>(
 }
 
 /// The status of a run whose words are known: over the files of the journal that they name, else over disks
-/// in memory.
+/// in memory; and with the signing service that they name, else with a signer in memory.
 fn main(rt: HostRuntime) -> ExitCode {
     let alloc = rt.alloc();
     let Ok(words) = words(&rt) else {
         return ExitCode::from(Status::OutOfMemory.code());
     };
-    let Ok(files) = journal_files(alloc, words.as_slice()) else {
+    let Ok((files, service)) = named(alloc, words.as_slice()) else {
         return ExitCode::from(Status::OutOfMemory.code());
     };
     if let Some((first, second)) = files {
@@ -138,10 +180,10 @@ fn main(rt: HostRuntime) -> ExitCode {
             first: FileDisk::new(&rt, first),
             second: FileDisk::new(&rt, second),
         };
-        return ExitCode::from(run(&rt, alloc, words.as_slice(), disks).code());
+        return ExitCode::from(run_signing(&rt, alloc, words.as_slice(), disks, service).code());
     }
     let Ok(disks) = memory_disks(alloc) else {
         return ExitCode::from(Status::OutOfMemory.code());
     };
-    ExitCode::from(run(&rt, alloc, words.as_slice(), disks).code())
+    ExitCode::from(run_signing(&rt, alloc, words.as_slice(), disks, service).code())
 }

@@ -1,61 +1,94 @@
 -- What the parts of a run make of its ending.
-use Rattle.std.proofs.Common.{arith, ◌≡◌, ℕ, ◌≤◌, List, [], ◌∷◌, ◌++◌, Option, Result, Ok, Err, refl, sym, ap, subst, inl, inr}
-use Rattle.std.specs.Prelude.{IfOk, codes}
-use Rattle.std.specs.Str.Iter.{LacksByte}
+use Rattle.std.proofs.Common.{◌≡◌, ◌⊎◌, ℕ, List, [], Option, Some, refl, sym, subst, inl, inr}
 use Rattle.edge_kit.specs.Causes.{Rose}
-use Rattle.signer_link.specs.declared.signer.SignCall.{SignCall}
-use Rattle.signer_link.specs.declared.signer.SignReply.{SignReply}
-use Rattle.sign_roots.specs.declared.domains.Domains.{Domains}
-use Rattle.check_sign.specs.Contents.{Contents}
-use Rattle.check_sign.specs.Opening.{LeavesDesk}
-use Rattle.check_sign.specs.declared.event.DeskEvent.{DeskEvent}
-use Rattle.session_run.specs.declared.status.Status.{Status}
-use Rattle.command_line.specs.Plans.{Asked, nothing}
-use Rattle.validator_cli.specs.Endings.{Outside, RunEnds, Serves, Refuses, IsOwnLine}
+use Rattle.edge_kit.specs.declared.disk.Disks.{Disks}
+use Rattle.desk_machine.specs.declared.event.DeskEvent.{DeskEvent}
+use Rattle.program_end.specs.declared.closing.ClosingLine.TheVariants as closing
+use Rattle.program_end.specs.declared.status.Status.{Status}
+use Rattle.program_end.specs.declared.status.Status.TheVariants as status
+use Rattle.program_end.proofs.ClosingLemmas.{closed_by, ended_by}
+use Rattle.command_line.specs.Plans.{Asked, session, merge, show, shown, nothing}
+use Rattle.journal_commands.specs.Views.{Output, ClosedBy, EndsBy, Unwritten}
+use Rattle.validator_cli.specs.Endings.{Outside, Causes, DoesNothing, EndsAs, IsComplete, IsWithin, NoCommand, RunEnds}
 
--- a count that rose later has risen
-rose_earlier : (a b c : ℕ) → a ≤ b → Rose b c → Rose a c
-rose_earlier a b c h r = omega (arith, h, r)
+module _ {D : Type 0} (shows : D → List ℕ → Type 0) (moment : D → ℕ) (leaves : D → ℕ → List ℕ → Type 0) (faults : D → ℕ) (first last : Disks D) (before now : Outside) (events : List DeskEvent) (s : Status) where
+  -- at what the words ask for
+  pub asked_for : (own asked : Asked) → own ≡ asked → EndsAs shows moment leaves faults own first last before now events s → RunEnds shows moment leaves faults asked first last before now events s
+  asked_for own asked is ends = let P : Asked → Type 0 = λ a. RunEnds shows moment leaves faults a first last before now events s in subst P is (inl ends)
 
--- the count of the disk stood no higher before the desk was opened
-pub serves_earlier : {D : Type 0} (moment : D → ℕ) (leaves : D → ℕ → List ℕ → Type 0) (faults : D → ℕ) (domains : Domains) (n m : ℕ) (desk : Contents) (disk : D) (before now : Outside) (events : List DeskEvent) (s : Status)
-    → n ≤ m → Serves moment leaves faults domains m desk disk before now events s → Serves moment leaves faults domains n desk disk before now events s
-serves_earlier moment leaves faults domains n m desk disk before now events s h x = record {
-  desk_now = x.desk_now;
-  ends = x.ends;
-  up = x.up;
-  left = x.left;
-  disk_fault = λ e. rose_earlier n m (faults disk) h (x.disk_fault e);
-  genesis_is = x.genesis_is;
-  events_are = x.events_are;
-  within = x.within;
-}
-
--- the same disk, handed back
-pub left_at : {D : Type 0} (moment : D → ℕ) (leaves : D → ℕ → List ℕ → Type 0) (a b : D) (desk : Contents) → b ≡ a → LeavesDesk moment leaves a desk → LeavesDesk moment leaves b desk
-left_at {D} moment leaves a b desk e h = let P : D → Type 0 = λ x. LeavesDesk moment leaves x desk in subst P (sym e) h
-
-pub rose_at : {D : Type 0} (faults : D → ℕ) (n : ℕ) (a b : D) → b ≡ a → Rose n (faults a) → Rose n (faults b)
-rose_at {D} faults n a b e h = let P : D → Type 0 = λ x. Rose n (faults x) in subst P (sym e) h
+pub caused_for : (own asked : Asked) (left : Option (List ℕ)) (Reads Writes Disk : Type 0) (s : Status) → own ≡ asked → Causes own left Reads Writes Disk s → Causes asked left Reads Writes Disk s
+caused_for own asked left Reads Writes Disk s is causes = let P : Asked → Type 0 = λ a. Causes a left Reads Writes Disk s in subst P is causes
 
 -- words that are no command
-pub refused : {D : Type 0} (shows : D → List ℕ → Type 0) (moment : D → ℕ) (leaves : D → ℕ → List ℕ → Type 0) (faults : D → ℕ) (disk : D)
-    (left : Option (List ℕ)) (h1 h2 : Option (List ℕ)) (told : Option (List (SignCall × SignReply))) (reads f1 f2 signs : ℕ) (s : Status) → Refuses h1 h2 f1 f2 s
-    → RunEnds shows moment leaves faults nothing disk disk (record { left = left; held = h1; told = told; reads_failed = reads; writes_failed = f1; signs_failed = signs }) (record { left = left; held = h2; told = told; reads_failed = reads; writes_failed = f2; signs_failed = signs }) [] s
-refused shows moment leaves faults disk left h1 h2 told reads f1 f2 signs s (inl c) = inl (record { untouched = record { unread = refl; no_read_failed = refl; unasked = refl; no_sign_failed = refl }; none = refl; same_disk = refl; text = c.0; is_own = c.1; closes = c.2 })
-refused shows moment leaves faults disk left h1 h2 told reads f1 f2 signs s (inr c) = inr (record {
-  same = ap (λ (p : Option (List ℕ) × ℕ). record { left = left; held = p.0; told = told; reads_failed = reads; writes_failed = p.1; signs_failed = signs }) (λ i. (c.1 i, c.2 i));
-  same_disk = refl;
-  none = refl;
-  is = c.0;
-})
+pub refused : {D : Type 0} (shows : D → List ℕ → Type 0) (moment : D → ℕ) (leaves : D → ℕ → List ℕ → Type 0) (faults : D → ℕ) (disks : Disks D) (before : Outside) (out : Output) (events : List DeskEvent) (s : Status) (asked : Asked)
+    → nothing ≡ asked → events ≡ [] → NoCommand before.view.out out s ⊎ Unwritten before.view.out out s
+    → RunEnds shows moment leaves faults asked disks disks before (record before { view = record before.view { out = out } }) events s
+refused shows moment leaves faults disks before out events s asked is none ends =
+    let P : Asked → Type 0 = λ a. RunEnds shows moment leaves faults a disks disks before (record before { view = record before.view { out = out } }) events s in
+    subst P is (at ends) where
+      still : DoesNothing disks disks before (record before { view = record before.view { out = out } }) events
+      still = record { same = refl; untouched = record { unread = record { left = refl; failed = refl }; unasked = record { told = refl; failed = refl; denied = refl } }; none = none }
 
--- at what the words ask for
-pub asks : {D : Type 0} (shows : D → List ℕ → Type 0) (moment : D → ℕ) (leaves : D → ℕ → List ℕ → Type 0) (faults : D → ℕ) (a b : Asked) (f1 f2 : D) (before now : Outside) (events : List DeskEvent) (s : Status)
-    → b ≡ a → RunEnds shows moment leaves faults b f1 f2 before now events s → RunEnds shows moment leaves faults a f1 f2 before now events s
-asks shows moment leaves faults a b f1 f2 before now events s e r = let P : Asked → Type 0 = λ x. RunEnds shows moment leaves faults x f1 f2 before now events s in subst P e r
+      at : NoCommand before.view.out out s ⊎ Unwritten before.view.out out s → RunEnds shows moment leaves faults nothing disks disks before (record before { view = record before.view { out = out } }) events s
+      at (inl c) = inl (c, still)
+      at (inr c) = inr (record { same = λ i. record before { view = record before.view { out = record { held = c.1 i; failed = c.2 i } } }; is = c.0 }, still)
 
--- a line of the program's own
-pub own : {T E : Type 0} (bytes : T → List ℕ) (result : Result T E) (line : List ℕ) → LacksByte 10 line → IfOk result (λ text. bytes text ≡ codes "validator: " ++ (line ++ 10 ∷ [])) → IfOk result (λ text. IsOwnLine (bytes text))
-own bytes (Ok text) line alone h = record { line = line; is_line = h; alone = alone }
-own bytes (Err e) line alone h = tt
+-- a status that tells of the output alone, where nothing was asked for
+abbrev OfOutput : Type 0 → Status → Type 0
+OfOutput Writes status.Usage = Unit {0}
+OfOutput Writes status.OutOfMemory = Unit {0}
+OfOutput Writes status.WriteFault = Writes
+OfOutput Writes s = ⊥
+
+of_output : (left : Option (List ℕ)) (Reads Writes Disk : Type 0) (s : Status) → OfOutput Writes s → Causes nothing left Reads Writes Disk s
+of_output left Reads Writes Disk s h = record {
+  read_fault = λ is. let P : Status → Type 0 = λ x. OfOutput Writes x in absurd (subst P is h);
+  write_fault = λ is. let P : Status → Type 0 = λ x. OfOutput Writes x in subst P is h;
+  disk_fault = λ is. let P : Status → Type 0 = λ x. OfOutput Writes x in absurd (subst P is h);
+  complete = λ within reads writes disk. absurd within;
+}
+
+pub refused_causes : (before now : Output) (left : Option (List ℕ)) (Reads Disk : Type 0) (s : Status) (asked : Asked) → nothing ≡ asked
+    → NoCommand before now s ⊎ Unwritten before now s → Causes asked left Reads (Rose before.failed now.failed) Disk s
+refused_causes before now left Reads Disk s asked is ends = caused_for nothing asked left Reads (Rose before.failed now.failed) Disk s is (of_output left Reads (Rose before.failed now.failed) Disk s (at ends)) where
+  at : NoCommand before now s ⊎ Unwritten before now s → OfOutput (Rose before.failed now.failed) s
+  at (inl c) = closed_by (OfOutput (Rose before.failed now.failed)) (closing.Usage c.line) s before.held now.held before.failed now.failed c.closes (λ _. tt) (λ w. w.rose) (λ _ _ _. tt)
+  at (inr c) = let P : Status → Type 0 = λ x. OfOutput (Rose before.failed now.failed) x in subst P (sym c.0) tt
+
+-- want of memory is complete
+want_complete : (asked : Asked) (left : Option (List ℕ)) → IsWithin asked left → IsComplete asked status.OutOfMemory
+want_complete (session genesis journal fork signer) left within = tt
+want_complete (merge genesis journal) left within = tt
+want_complete (show genesis journal) left within = tt
+want_complete shown left within = inr refl
+want_complete nothing left within = absurd within
+
+pub want_causes : (asked : Asked) (left : Option (List ℕ)) (Reads Writes Disk : Type 0) → Causes asked left Reads Writes Disk status.OutOfMemory
+want_causes asked left Reads Writes Disk = record {
+  read_fault = λ is. let bad : status.OutOfMemory ≡ status.ReadFault = is in absurd cc;
+  write_fault = λ is. let bad : status.OutOfMemory ≡ status.WriteFault = is in absurd cc;
+  disk_fault = λ is. let bad : status.OutOfMemory ≡ status.DiskFault = is in absurd cc;
+  complete = λ within reads writes disk. want_complete asked left within;
+}
+
+-- a text was asked for
+abbrev OfText : Type 0 → Status → Type 0
+OfText Writes status.Done = Unit {0}
+OfText Writes status.WriteFault = Writes
+OfText Writes s = ⊥
+
+text_done : (Writes : Type 0) (st : Status) → OfText Writes st → ¬ Writes → st ≡ status.Done
+text_done Writes status.Done p writes = refl
+text_done Writes status.WriteFault p writes = absurd (writes p)
+text_done Writes st p writes = absurd p
+
+pub shown_causes : (before now : Output) (text : List ℕ) (left : Option (List ℕ)) (Reads Disk : Type 0) (s : Status) (asked : Asked) → shown ≡ asked → EndsBy status.Done text before now s → Causes asked left Reads (Rose before.failed now.failed) Disk s
+shown_causes before now text left Reads Disk s asked is ends =
+    let P : Status → Type 0 = λ st. OfText (Rose before.failed now.failed) st in
+    let h : P s = ended_by P status.Done s text before.held now.held before.failed now.failed ends (λ _. tt) (λ w. w.rose) in
+    caused_for shown asked left Reads (Rose before.failed now.failed) Disk s is (record {
+      read_fault = λ e. absurd (subst P e h);
+      write_fault = λ e. subst P e h;
+      disk_fault = λ e. absurd (subst P e h);
+      complete = λ within reads writes disk. inl (text_done (Rose before.failed now.failed) s h writes);
+    })

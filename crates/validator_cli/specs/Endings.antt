@@ -1,158 +1,138 @@
 -- What a run of the program does, by what its words ask for.
-use Rattle.std.specs.Prelude.{◌≡◌, ◌≢◌, ℕ, ◌++◌, ◌∷◌, ◌⊎◌, List, [], Option, None, codes}
+use Rattle.std.specs.Prelude.{◌≡◌, ◌⊎◌, ℕ, List, [], Option, Some, string_bytes}
 use Rattle.std.specs.Str.Iter.{LacksByte}
-use Rattle.edge_kit.specs.Causes.{Rose}
-use Rattle.edge_kit.specs.Disks.{LeavesOnly}
 use Rattle.edge_kit.specs.declared.bytes.Root.{Root}
+use Rattle.edge_kit.specs.declared.disk.Disks.{Disks}
+use Rattle.interchange_io.specs.Reading.{file_limit}
 use Rattle.sign_roots.specs.declared.domains.Domains.{Domains}
-use Rattle.signer_link.specs.declared.signer.SignCall.{SignCall}
-use Rattle.signer_link.specs.declared.signer.SignReply.{SignReply}
-use Rattle.check_sign.specs.Contents.{Contents}
-use Rattle.check_sign.specs.States.{State, DeskStands}
-use Rattle.check_sign.specs.Opening.{IsOpened, LeavesDesk}
-use Rattle.check_sign.specs.declared.event.DeskEvent.{DeskEvent}
-use Rattle.session_run.specs.Closings.{Closes}
-use Rattle.session_run.specs.Images.{OpensAfterLines}
-use Rattle.session_run.specs.Runs.{Ends, IsUpAt, ReadsFirst, WithinLimits}
-use Rattle.session_run.specs.declared.next.Limit.{Limit}
-use Rattle.session_run.specs.declared.next.Limit.TheVariants as limit
-use Rattle.session_run.specs.declared.status.Status.{Status}
-use Rattle.session_run.specs.declared.status.Status.TheVariants as status
+use Rattle.signer_link.specs.declared.reply.Told.{Told}
+use Rattle.desk_machine.specs.declared.event.DeskEvent.{DeskEvent}
+use Rattle.check_sign.specs.Contents.{Seen}
+use Rattle.program_end.specs.declared.closing.ClosingLine.TheVariants as closing
+use Rattle.program_end.specs.declared.limit.Limit.TheVariants as limit
+use Rattle.program_end.specs.declared.status.Status.{Status}
+use Rattle.program_end.specs.declared.status.Status.TheVariants as status
+use Rattle.session_run.specs.Acts.{AtBench}
+use Rattle.session_run.specs.Ends.{Ends, Wires}
+use Rattle.session_run.specs.Inputs.{WithinLimits}
 use Rattle.command_line.specs.Plans.{Asked, session, merge, show, shown, nothing}
 use Rattle.command_line.specs.declared.planned.Plan.{Plan}
 use Rattle.command_line.specs.declared.planned.Plan.TheVariants as plan
-use Rattle.journal_commands.specs.Merging.{MergeEnds, View as MergeView}
-use Rattle.journal_commands.specs.Showing.{ShowEnds}
-use Rattle.journal_commands.specs.Unopened.{IsAsBefore, IsUnwritten, NotOpened}
+use Rattle.journal_commands.specs.Views.{Output, View, ClosedBy, EndsBy, view_of}
+use Rattle.journal_commands.specs.Whole.{WithinLimit}
+use Rattle.journal_commands.specs.Openings.{HadDesk, NotOpened}
+use Rattle.journal_commands.specs.Merging.{IsMergeComplete, MergeEnds, Unread}
+use Rattle.journal_commands.specs.Showing.{IsShowComplete, ShowEnds}
 
--- what the objects of a program tell, and how often each failed
+-- what the objects of a program tell beside its disks, and how often each failed: the input and the output, and the signer
 pub record Outside : Type 0 where
-  pub left : Option (List ℕ)
-  pub held : Option (List ℕ)
-  pub told : Option (List (SignCall × SignReply))
-  pub reads_failed : ℕ
-  pub writes_failed : ℕ
+  pub view : View
+  pub told : Option (List Told)
   pub signs_failed : ℕ
+  pub signs_denied : ℕ
+
+abbrev pub outside_of : {I O S : Type 0} → (I → Option (List ℕ)) → (I → ℕ) → (O → Option (List ℕ)) → (O → ℕ) → (S → Option (List Told)) → (S → ℕ) → (S → ℕ) → I → O → S → Outside
+outside_of left reads_failed held writes_failed told signs_failed signs_denied input out signer = record { view = view_of left reads_failed held writes_failed input out; told = told signer; signs_failed = signs_failed signer; signs_denied = signs_denied signer }
+
+-- the signer was not asked
+pub record Unasked (before now : Outside) : Type 0 where
+  pub told : now.told ≡ before.told
+  pub failed : now.signs_failed ≡ before.signs_failed
+  pub denied : now.signs_denied ≡ before.signs_denied
 
 -- nothing was read or asked
 pub record IsUntouched (before now : Outside) : Type 0 where
-  pub unread : now.left ≡ before.left
-  pub no_read_failed : now.reads_failed ≡ before.reads_failed
-  pub unasked : now.told ≡ before.told
-  pub no_sign_failed : now.signs_failed ≡ before.signs_failed
+  pub unread : Unread before.view now.view
+  pub unasked : Unasked before now
 
--- what lines made of a desk over a disk, whose count of faults stood here before: what it noted are the events, and each image
--- of the disk that is handed back opens to what the desk stands for
-pub record Serves {D : Type 0} (moment : D → ℕ) (leaves : D → ℕ → List ℕ → Type 0) (faults : D → ℕ) (domains : Domains) (faults_before : ℕ) (desk_before : Contents) (disk_now : D) (before now : Outside) (events : List DeskEvent) (ended : Status) : Type 0 where
-  pub desk_now : Contents
-  pub ends : Ends domains 0
-      (record { left = before.left; held = before.held; pair = record { desk = desk_before; told = before.told; faults = before.signs_failed }; reads_failed = before.reads_failed; writes_failed = before.writes_failed })
-      (record { left = now.left; held = now.held; pair = record { desk = desk_now; told = now.told; faults = now.signs_failed }; reads_failed = now.reads_failed; writes_failed = now.writes_failed })
-      ended
-  pub up : IsUpAt ended → desk_now.torn ≡ None
-  pub left : LeavesDesk moment leaves disk_now desk_now
-  pub disk_fault : ended ≡ status.DiskFault → Rose faults_before (faults disk_now)
-  pub genesis_is : desk_now.genesis ≡ desk_before.genesis
-  pub events_are : events ≡ desk_now.events
-  pub within : WithinLimits before.left → (l : Limit) → ended ≢ status.InputTooLong l
+-- the input and the output of a session
+abbrev pub wires_of : View → Wires
+wires_of view = record { left = view.left; held = view.out.held; reads_failed = view.failed; writes_failed = view.out.failed }
 
--- A desk was opened over the disk, and served. A crash at any moment leaves a file that opens as one that a crash at first might
--- have left, or to what lasts after some of the lines, the first of what was read.
-pub record Opened {D : Type 0} (shows : D → List ℕ → Type 0) (moment : D → ℕ) (leaves : D → ℕ → List ℕ → Type 0) (faults : D → ℕ) (domains : Domains) (disk_before disk_now : D) (before now : Outside) (events : List DeskEvent) (ended : Status) : Type 0 where
-  pub desk_before : Contents
-  pub opened : IsOpened shows disk_before domains.genesis desk_before
-  pub serves : Serves moment leaves faults domains (faults disk_before) desk_before disk_now before now events ended
-  pub moments : (state : State) → DeskStands desk_before state → LeavesOnly moment leaves disk_before disk_now (λ c. IsAsBefore moment leaves domains.genesis disk_before c ⊎ OpensAfterLines domains 0 domains.genesis (ReadsFirst before.left now.left) state c)
+-- a desk with the signer
+abbrev pub bench_at : {D : Type 0} → Seen D → Outside → AtBench D
+bench_at desk o = record { desk = desk; told = o.told; signs_failed = o.signs_failed; signs_denied = o.signs_denied }
 
 -- a session over the desk of a disk; where none was opened nothing was read or asked
-abbrev pub SessionEnds : {D : Type 0} → (D → List ℕ → Type 0) → (D → ℕ) → (D → ℕ → List ℕ → Type 0) → (D → ℕ) → Domains → D → D → Outside → Outside → List DeskEvent → Status → Type 0
-SessionEnds shows moment leaves faults domains disk_before disk_now before now events ended =
-    Opened shows moment leaves faults domains disk_before disk_now before now events ended
-    ⊎ (NotOpened shows moment leaves faults domains.genesis disk_before disk_now before.held now.held before.writes_failed now.writes_failed events ended × IsUntouched before now)
+abbrev pub SessionEnds : {D : Type 0} → (D → List ℕ → Type 0) → (D → ℕ) → (D → ℕ → List ℕ → Type 0) → (D → ℕ) → Domains → Disks D → Disks D → Outside → Outside → List DeskEvent → Status → Type 0
+SessionEnds shows moment leaves faults domains disks_before disks_now before now events ended =
+    (NotOpened shows moment leaves faults domains.genesis disks_before disks_now before.view.out now.view.out events ended × IsUntouched before now)
+    ⊎ HadDesk shows moment leaves faults domains.genesis disks_before disks_now events
+    (λ desk_before desk_now. Ends moment leaves faults domains (bench_at desk_before before) (bench_at desk_now now) (wires_of before.view) (wires_of now.view) ended)
 
--- what a merge has of the objects
-abbrev pub merge_view : Outside → MergeView
-merge_view o = record { left = o.left; held = o.held; reads_failed = o.reads_failed; writes_failed = o.writes_failed }
-
--- the input was merged into the journal of the disk, or the merge ended otherwise; the signer was not asked
-pub record Merges {D : Type 0} (shows : D → List ℕ → Type 0) (moment : D → ℕ) (leaves : D → ℕ → List ℕ → Type 0) (faults : D → ℕ) (genesis : Root) (disk_before disk_now : D) (before now : Outside) (events : List DeskEvent) (ended : Status) : Type 0 where
-  pub ends : MergeEnds shows moment leaves faults genesis disk_before disk_now (merge_view before) (merge_view now) events ended
-  pub unasked : now.told ≡ before.told
-  pub no_sign_failed : now.signs_failed ≡ before.signs_failed
-
--- the journal of the disk was shown, or its showing ended otherwise; nothing was read or asked
-pub record Shows {D : Type 0} (shows : D → List ℕ → Type 0) (moment : D → ℕ) (leaves : D → ℕ → List ℕ → Type 0) (faults : D → ℕ) (genesis : Root) (disk_before disk_now : D) (before now : Outside) (events : List DeskEvent) (ended : Status) : Type 0 where
-  pub ends : ShowEnds shows moment leaves faults genesis disk_before disk_now before.held now.held before.writes_failed now.writes_failed events ended
-  pub untouched : IsUntouched before now
-
--- a text was asked for: nothing is read, asked or done, the disk is the same, and the text is written
-pub record TextShown {D : Type 0} (disk_before disk_now : D) (before now : Outside) (events : List DeskEvent) (ended : Status) : Type 0 where
+-- the disks come back as they were, nothing was read or asked, and nothing is noted
+pub record DoesNothing {D : Type 0} (disks_before disks_now : Disks D) (before now : Outside) (events : List DeskEvent) : Type 0 where
+  pub same : disks_now ≡ disks_before
   pub untouched : IsUntouched before now
   pub none : events ≡ []
-  pub same_disk : disk_now ≡ disk_before
+
+-- help or the version: the text is written
+pub record TextShown (before now : Output) (ended : Status) : Type 0 where
   pub text : List ℕ
-  pub closes : Closes status.Done text before.held now.held before.writes_failed now.writes_failed ended
+  pub shows : EndsBy status.Done text before now ended
 
--- one line of the program's own, whatever it says
-pub record IsOwnLine (text : List ℕ) : Type 0 where
-  pub line : List ℕ
-  pub is_line : text ≡ codes "validator: " ++ (line ++ 10 ∷ [])
-  pub alone : LacksByte 10 line
-
--- no command: nothing is read, asked or done, the disk is the same, and the output is closed by a line that says why
-pub record NoCommand {D : Type 0} (disk_before disk_now : D) (before now : Outside) (events : List DeskEvent) (ended : Status) : Type 0 where
-  pub untouched : IsUntouched before now
-  pub none : events ≡ []
-  pub same_disk : disk_now ≡ disk_before
-  pub text : List ℕ
-  pub is_own : IsOwnLine text
-  pub closes : Closes status.Usage text before.held now.held before.writes_failed now.writes_failed ended
-
--- the output was closed by a line of the program's own, or memory ran out before
-abbrev pub Refuses : Option (List ℕ) → Option (List ℕ) → ℕ → ℕ → Status → Type 0
-Refuses held_before held_now failed_before failed_now result =
-    ((text : List ℕ) × IsOwnLine text × Closes status.Usage text held_before held_now failed_before failed_now result)
-    ⊎ IsUnwritten held_before held_now failed_before failed_now result
+-- no command: the output is closed by one line of the program's own that says why
+pub record NoCommand (before now : Output) (ended : Status) : Type 0 where
+  pub line : _
+  pub alone : LacksByte 10 (string_bytes line)
+  pub closes : ClosedBy (Some (closing.Usage line)) before now ended
 
 -- memory ran out before anything was done
-pub record NotBegun {D : Type 0} (disk_before disk_now : D) (before now : Outside) (events : List DeskEvent) (ended : Status) : Type 0 where
+pub record NotBegun (before now : Outside) (ended : Status) : Type 0 where
   pub same : now ≡ before
-  pub same_disk : disk_now ≡ disk_before
-  pub none : events ≡ []
   pub is : ended ≡ status.OutOfMemory
 
 -- what was asked for was done, or ended as it may
-abbrev pub EndsAs : {D : Type 0} → (D → List ℕ → Type 0) → (D → ℕ) → (D → ℕ → List ℕ → Type 0) → (D → ℕ) → Asked → D → D → Outside → Outside → List DeskEvent → Status → Type 0
-EndsAs shows moment leaves faults (session genesis journal fork) disk_before disk_now before now events s = SessionEnds shows moment leaves faults (record { fork = fork; genesis = genesis }) disk_before disk_now before now events s
-EndsAs shows moment leaves faults (merge genesis journal) disk_before disk_now before now events s = Merges shows moment leaves faults genesis disk_before disk_now before now events s
-EndsAs shows moment leaves faults (show genesis journal) disk_before disk_now before now events s = Shows shows moment leaves faults genesis disk_before disk_now before now events s
-EndsAs shows moment leaves faults shown disk_before disk_now before now events s = TextShown disk_before disk_now before now events s
-EndsAs shows moment leaves faults nothing disk_before disk_now before now events s = NoCommand disk_before disk_now before now events s
+abbrev pub EndsAs : {D : Type 0} → (D → List ℕ → Type 0) → (D → ℕ) → (D → ℕ → List ℕ → Type 0) → (D → ℕ) → Asked → Disks D → Disks D → Outside → Outside → List DeskEvent → Status → Type 0
+EndsAs shows moment leaves faults (session genesis journal fork signer) disks_before disks_now before now events s = SessionEnds shows moment leaves faults (record { fork = fork; genesis = genesis }) disks_before disks_now before now events s
+EndsAs shows moment leaves faults (merge genesis journal) disks_before disks_now before now events s = MergeEnds shows moment leaves faults genesis disks_before disks_now before.view now.view events s × Unasked before now
+EndsAs shows moment leaves faults (show genesis journal) disks_before disks_now before now events s = ShowEnds shows moment leaves faults genesis disks_before disks_now before.view.out now.view.out events s × IsUntouched before now
+EndsAs shows moment leaves faults shown disks_before disks_now before now events s = TextShown before.view.out now.view.out s × DoesNothing disks_before disks_now before now events
+EndsAs shows moment leaves faults nothing disks_before disks_now before now events s = NoCommand before.view.out now.view.out s × DoesNothing disks_before disks_now before now events
 
 -- what was asked for was done, or memory ran out before
-abbrev pub RunEnds : {D : Type 0} → (D → List ℕ → Type 0) → (D → ℕ) → (D → ℕ → List ℕ → Type 0) → (D → ℕ) → Asked → D → D → Outside → Outside → List DeskEvent → Status → Type 0
-RunEnds shows moment leaves faults asked disk_before disk_now before now events s =
-    EndsAs shows moment leaves faults asked disk_before disk_now before now events s ⊎ NotBegun disk_before disk_now before now events s
+abbrev pub RunEnds : {D : Type 0} → (D → List ℕ → Type 0) → (D → ℕ) → (D → ℕ → List ℕ → Type 0) → (D → ℕ) → Asked → Disks D → Disks D → Outside → Outside → List DeskEvent → Status → Type 0
+RunEnds shows moment leaves faults asked disks_before disks_now before now events s =
+    EndsAs shows moment leaves faults asked disks_before disks_now before now events s
+    ⊎ (NotBegun before now s × DoesNothing disks_before disks_now before now events)
 
--- the run ended well, or for want of memory
-abbrev pub IsDone : Status → Type 0
-IsDone s = (s ≡ status.Done) ⊎ (s ≡ status.OutOfMemory)
+-- the input is within the limits of what was asked for: of a session its lines and its length, of a merge its length; a showing and
+-- a text read nothing
+abbrev pub IsWithin : Asked → Option (List ℕ) → Type 0
+IsWithin (session genesis journal fork signer) left = WithinLimits left
+IsWithin (merge genesis journal) left = WithinLimit file_limit left
+IsWithin (show genesis journal) left = Unit {0}
+IsWithin shown left = Unit {0}
+IsWithin nothing left = ⊥
 
--- the run ended by what the journal holds
-abbrev pub IsOfJournal : Status → Type 0
-IsOfJournal s = (s ≡ status.Damaged) ⊎ (s ≡ status.GenesisDiffers) ⊎ (s ≡ status.InputTooLong limit.Keys)
+-- a session in which nothing failed is done, or ends for want of memory or by what the journal holds
+abbrev pub IsSessionComplete : Status → Type 0
+IsSessionComplete status.Done = Unit {0}
+IsSessionComplete status.OutOfMemory = Unit {0}
+IsSessionComplete status.Damaged = Unit {0}
+IsSessionComplete status.GenesisDiffers = Unit {0}
+IsSessionComplete (status.InputTooLong limit.Keys) = Unit {0}
+IsSessionComplete s = ⊥
 
--- the run ended well, for want of memory, or by what the journal or the file that is merged holds
+-- the same for what was asked for
 abbrev pub IsComplete : Asked → Status → Type 0
-IsComplete (session genesis journal fork) s = IsDone s ⊎ IsOfJournal s
-IsComplete (merge genesis journal) s = IsDone s ⊎ IsOfJournal s ⊎ (s ≡ status.InputTooLong limit.File) ⊎ (s ≡ status.FileRefused)
-IsComplete (show genesis journal) s = IsDone s ⊎ IsOfJournal s
-IsComplete shown s = IsDone s
+IsComplete (session genesis journal fork signer) s = IsSessionComplete s
+IsComplete (merge genesis journal) s = IsMergeComplete s
+IsComplete (show genesis journal) s = IsShowComplete s
+IsComplete shown s = (s ≡ status.Done) ⊎ (s ≡ status.OutOfMemory)
 IsComplete nothing s = ⊥
+
+-- what a status tells of the counts of faults that rose: the input's, the output's and the first disk's; and where none did and the
+-- input is within its limits, the run is complete
+pub record Causes (asked : Asked) (left : Option (List ℕ)) (Reads Writes Disk : Type 0) (s : Status) : Type 0 where
+  pub read_fault : s ≡ status.ReadFault → Reads
+  pub write_fault : s ≡ status.WriteFault → Writes
+  pub disk_fault : s ≡ status.DiskFault → Disk
+  pub complete : IsWithin asked left → ¬ Reads → ¬ Writes → ¬ Disk → IsComplete asked s
 
 -- the plan is a session's
 abbrev pub IsSession : Plan → Type 0
-IsSession (plan.Session genesis journal fork) = Unit {0}
+IsSession (plan.Session genesis journal fork signer) = Unit {0}
 IsSession (plan.Merge genesis journal) = ⊥
 IsSession (plan.Show genesis journal) = ⊥
 IsSession (plan.Shown text) = ⊥

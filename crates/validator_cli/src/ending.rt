@@ -1,7 +1,7 @@
 //! What a run leaves.
 use check_sign::Events;
 use edge_kit::Disks;
-use session_run::Status;
+use program_end::Status;
 
 /// The signer and the nodes that a lane worked with.
 #[derive(Drop)]

@@ -4,11 +4,13 @@
 mod ending;
 mod node;
 mod run;
+mod session;
 mod usage;
 
 pub use command_line::{Plan, ShownText, Usage, plan};
 pub use ending::{Ending, LaneEnd};
 pub use journal_commands::{run_merge, run_show};
 pub use node::Node;
-pub use run::{run_session, run_validator};
-pub use session_run::{Limit, Status};
+pub use program_end::{Limit, Status};
+pub use run::run_validator;
+pub use session::run_session;

@@ -20,6 +20,8 @@ mod outside;
 #[cfg(test)]
 mod scripts;
 #[cfg(test)]
+mod services;
+#[cfg(test)]
 mod sessions;
 #[cfg(test)]
 mod signing;

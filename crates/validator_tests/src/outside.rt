@@ -3,7 +3,9 @@ use crate::events::words_of;
 use crate::marks::{filled, is_text};
 use check_sign::Events;
 use edge_kit::{Clock, Disks, Door, MemDisk, MemSink, MemSource, PubKey, Sig};
-use signer_link::{MemSigner, SignReply, SignRequest, Signer};
+use signer_link::{
+    DeleteReply, ImportReply, MemSigner, PlainRequest, SignReply, SignRequest, Signer,
+};
 use slash_defs::Granted;
 use std::alloc::{AllocError, Global};
 use std::sync::Wait;
@@ -37,11 +39,25 @@ impl Signer for KeepingSigner {
 
     ghost faults = { λ _. 0 };
 
+    ghost denials = { λ _. 0 };
+
     fn sign<G: Granted>(&mut self, request: &SignRequest, _grant: &G) -> SignReply {
         match self.requests.push(*request) {
             Ok(()) => SignReply::Signed(Sig([0x77; 96])),
             Err(_) => SignReply::OutOfMemory,
         }
+    }
+
+    fn sign_plain<G: Granted>(&mut self, _request: &PlainRequest, _grant: &G) -> SignReply {
+        SignReply::NoKey(None)
+    }
+
+    fn import(&mut self, _key: &PubKey, _keystore: &str, _password: &str) -> ImportReply {
+        ImportReply::Duplicate
+    }
+
+    fn delete(&mut self, _key: &PubKey) -> DeleteReply {
+        DeleteReply::NotFound
     }
 }
 

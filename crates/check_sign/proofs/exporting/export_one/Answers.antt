@@ -1,5 +1,5 @@
 use Rattle.std.proofs.Common.{rules, sym, ◌∙◌}
-use Rattle.record_join.proofs.OrderLemmas.{apart_back}
+use Rattle.record_join.specs.KeyLaws.{apart_back}
 use Rattle.check_sign.proofs.ExportLemmas.{found_before, not_kept, put_in}
 use Rattle.check_sign.proofs.exporting.export_one.Goals as goal
 

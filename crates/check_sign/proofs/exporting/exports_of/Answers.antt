@@ -2,7 +2,8 @@ use Rattle.std.proofs.Common.{◌≡◌, rules, sym, List, subst, take}
 use Rattle.std.proofs.lemmas.List.{take_more, take_all}
 use Rattle.edge_kit.specs.declared.bytes.PubKey.{PubKey}
 use Rattle.slash_defs.specs.declared.book.Book.{Book}
-use Rattle.check_sign.specs.Handing.{AreExports, Exports}
+use Rattle.check_sign.specs.Exporting.{AreExports}
+use Rattle.desk_machine.specs.Handing.{Exports}
 use Rattle.check_sign.proofs.ExportLemmas.{at_pasts, once}
 use Rattle.check_sign.proofs.exporting.exports_of.Goals as goal
 

@@ -1,7 +1,7 @@
 use Rattle.std.proofs.Common.{take}
 use Rattle.std.specs.BTreeMap.{IsOrdered}
 use Rattle.record_join.specs.Keys.{key_cmp}
-use Rattle.check_sign.specs.Handing.{AreExports}
+use Rattle.check_sign.specs.Exporting.{AreExports}
 use Rattle.check_sign.proofs.exporting.exports_of.Given as goal
 
 abbrev pub invariant-keys : goal.invariant-keys

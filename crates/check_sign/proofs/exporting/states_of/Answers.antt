@@ -1,4 +1,4 @@
-use Rattle.std.proofs.Common.{◌≡◌, ◌∙◌, sym, rules}
+use Rattle.std.proofs.Common.{◌∙◌, rules}
 use Rattle.std.specs.Map.Iter.{deref_pair}
 use Rattle.std.proofs.lemmas.Iterator.{YieldsList-from_map, items_from_collect}
 use Rattle.std.proofs.lemmas.Iterator.Consumers.{YieldsList-from_rest}
@@ -6,7 +6,7 @@ use Rattle.std.proofs.lemmas.Result.{IfOk-at_ok}
 use Rattle.edge_kit.specs.declared.bytes.PubKey.{PubKey}
 use Rattle.protect_record.specs.Parts.{Parts}
 use Rattle.record_replay.specs.declared.state.KeyState.{KeyState}
-use Rattle.check_sign.specs.States.{key_state}
+use Rattle.desk_machine.specs.States.{key_state}
 use Rattle.check_sign.proofs.ReadLemmas.{each_state}
 use Rattle.check_sign.proofs.exporting.states_of.Goals as goal
 

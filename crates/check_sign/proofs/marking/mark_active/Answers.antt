@@ -1,4 +1,4 @@
-use Rattle.std.proofs.Common.{◌≡◌, ◌+◌, ◌≤◌, List, sym, subst}
+use Rattle.std.proofs.Common.{◌+◌, ◌≤◌, List, sym, subst}
 use Rattle.edge_kit.specs.declared.bytes.PubKey.{PubKey}
 use Rattle.record_replay.specs.declared.state.KeyState.{KeyState}
 use Rattle.check_sign.specs.Marking.{count_active}

@@ -1,4 +1,4 @@
-use Rattle.std.proofs.Common.{◌≡◌, sym, ◌∙◌}
+use Rattle.std.proofs.Common.{sym, ◌∙◌}
 use Rattle.check_sign.proofs.MarkLemmas.{restored, unnoted}
 use Rattle.check_sign.proofs.marking.unmark.Goals as goal
 

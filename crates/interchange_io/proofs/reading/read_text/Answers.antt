@@ -8,14 +8,9 @@ use Rattle.interchange_io.proofs.TextLemmas.{of_text-utf8, of_text-other}
 use Rattle.interchange_io.proofs.reading.read_text.Goals as goal
 
 pub returns-in_default : goal.returns-in_default
-returns-in_default c = of_text-other c.args.bytes.now c.in_default.ensures.cases.0
+returns-in_default c = of_text-other c.args.bytes.now c.in_default.ensures
 
-pub returns-in-Ok-from_str : goal.returns-in-Ok-from_str
-returns-in-Ok-from_str c =
-    let whole = of_text-utf8 c.args.bytes.now c.in-Ok.ensures.cases.1 ∙ ap (λ text. of_data (read text)) (sym c.in-Ok.ensures.cases.0) ∙ ap of_data c.in-Ok-from_str.ensures.ok in
-    subst (λ (r : Result File ReadFault). Gives c.file_of.result r) (sym whole) c.file_of.ensures
-
-pub returns-else-is_memory : goal.returns-else-is_memory
-returns-else-is_memory c =
-    of_text-utf8 c.args.bytes.now c.in-Ok.ensures.cases.1 ∙ ap (λ text. of_data (read text)) (sym c.in-Ok.ensures.cases.0)
-    ∙ ap of_data (c.in-Err.ensures.err (λ m. absurd (cc (c.is_memory.ensures.1 m, c.if-is_memory.false))))
+pub returns : goal.returns
+returns c =
+    let whole = of_text-utf8 c.args.bytes.now c.in-Ok.ensures.1 ∙ ap (λ text. of_data (read text)) (sym c.in-Ok.ensures.0) in
+    subst (λ (r : Result File ReadFault). Gives c.file_of_text.result r) (sym whole) c.file_of_text.ensures

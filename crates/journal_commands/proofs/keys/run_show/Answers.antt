@@ -1,11 +1,16 @@
-use Rattle.journal_commands.proofs.ShowLemmas.{disk_rose, write_rose, no_read}
+use Rattle.std.proofs.Common.{ap, subst, sym, ◌∙◌}
+use Rattle.edge_kit.specs.declared.bytes.Root.{Root}
+use Rattle.journal_commands.specs.Views.{Output, output_of}
+use Rattle.journal_commands.specs.Showing.{ShowEnds}
+use Rattle.journal_commands.proofs.ShowLemmas.{show_ended}
+use Rattle.journal_commands.proofs.OpeningLemmas.{root_of}
 use Rattle.journal_commands.proofs.keys.run_show.Goals as goal
 
-pub returns-clause-read_fault : goal.returns-clause-read_fault
-returns-clause-read_fault g c = λ is. no_read _ _ _ _ _ _ _ _ _ _ _ _ _ c.show_into.ensures.ends is
-
-pub returns-clause-write_fault : goal.returns-clause-write_fault
-returns-clause-write_fault g c = λ is. write_rose _ _ _ _ _ _ _ _ _ _ _ _ _ c.show_into.ensures.ends is
-
-pub returns-clause-disk_fault : goal.returns-clause-disk_fault
-returns-clause-disk_fault g c = λ is. disk_rose _ _ _ _ _ _ _ _ _ _ _ _ _ c.show_into.ensures.ends is
+pub returns-clause-ends : goal.returns-clause-ends
+returns-clause-ends g c = λ genesis journal is.
+    let before : Output = output_of g.O.Sink.held g.O.Sink.faults c.args.out.now in
+    let now : Output = output_of g.O.Sink.held g.O.Sink.faults c.show_desk-status.new.out in
+    let E : Root → Type 0 = λ root. ShowEnds g.D.Disk.shows g.D.Disk.moment g.D.Disk.leaves g.D.Disk.faults root c.args.disks c.end-disks.result.0 before now c.end-disks.result.1 c.show_desk-status.result in
+    subst E (ap (root_of c.in-Show.genesis) (sym c.in-Show.is ∙ is))
+    (show_ended g.D.Disk.shows g.D.Disk.moment g.D.Disk.leaves g.D.Disk.faults c.in-Show.genesis c.args.disks c.end-disks.result.0 before now c.end-disks.result.1 c.show_desk-status.result
+    c.in-Ok.desk c.show_desk-status.new.desk c.in-Ok.ensures.opened c.show_desk-status.ensures.ends (record { first = c.end-disks.ensures.first; second = c.end-disks.ensures.second; noted = c.end-disks.ensures.events }))

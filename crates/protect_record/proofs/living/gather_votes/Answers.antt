@@ -9,12 +9,12 @@ use Rattle.protect_record.proofs.living.gather_votes.Goals as goal
 pub unite-requires-clause-exact : goal.unite-requires-clause-exact
 unite-requires-clause-exact c = exact_votes
 
-pub returns-then-not-has_dead_vote : goal.returns-then-not-has_dead_vote
-returns-then-not-has_dead_vote c =
-    gathered_live vote_cmp (IsDeadVote c.args.floors) _ _ _ c.unite.ensures
+pub returns-then-not-has_dead_vote-clause-gathered : goal.returns-then-not-has_dead_vote-clause-gathered
+returns-then-not-has_dead_vote-clause-gathered c =
+    gathered_live vote_cmp (IsDeadVote c.args.floors) _ _ _ c.unite.ensures.united
     (subst (λ (xs : List VoteEntry). All (λ e. ¬ (IsDeadVote c.args.floors e)) xs) c.as_slice.ensures.value (at_false _ _ c.if-not-has_dead_vote.true c.has_dead_vote.ensures))
 
-pub returns : goal.returns
-returns c =
-    gathered_dropped vote_cmp (IsDeadVote c.args.floors) _ _ _ _ c.unite.ensures
-    (dropped vote_cmp (IsDeadVote c.args.floors) (is_dead_vote c.args.floors) (vote_decides c.args.floors) _ _ c.unite.ensures.in_order c.drop_dead_votes.ensures)
+pub returns-clause-gathered : goal.returns-clause-gathered
+returns-clause-gathered c =
+    gathered_dropped vote_cmp (IsDeadVote c.args.floors) _ _ _ _ c.unite.ensures.united
+    (dropped vote_cmp (IsDeadVote c.args.floors) (is_dead_vote c.args.floors) (vote_decides c.args.floors) _ _ c.unite.ensures.united.in_order c.drop_dead_votes.ensures.items)

@@ -10,4 +10,4 @@ sort_once-requires c = exact_blocks
 pub returns : goal.returns
 returns c =
     once_dropped block_cmp (IsDeadBlock c.args.floors) _ _ _ c.sort_once.ensures
-    (dropped block_cmp (IsDeadBlock c.args.floors) (is_dead_block c.args.floors) (block_decides c.args.floors) _ _ c.sort_once.ensures.in_order c.drop_dead_blocks.ensures)
+    (dropped block_cmp (IsDeadBlock c.args.floors) (is_dead_block c.args.floors) (block_decides c.args.floors) _ _ c.sort_once.ensures.in_order c.drop_dead_blocks.ensures.items)

@@ -10,4 +10,4 @@ sort_once-requires c = exact_votes
 pub returns : goal.returns
 returns c =
     once_dropped vote_cmp (IsDeadVote c.args.floors) _ _ _ c.sort_once.ensures
-    (dropped vote_cmp (IsDeadVote c.args.floors) (is_dead_vote c.args.floors) (vote_decides c.args.floors) _ _ c.sort_once.ensures.in_order c.drop_dead_votes.ensures)
+    (dropped vote_cmp (IsDeadVote c.args.floors) (is_dead_vote c.args.floors) (vote_decides c.args.floors) _ _ c.sort_once.ensures.in_order c.drop_dead_votes.ensures.items)

@@ -14,7 +14,7 @@ returns-in-Damaged c = λ fuel enough.
     let before = c.frames.invariant in
     let ps = map (λ (v : Vec ℕ Global). v.items) c.frames.payloads.items in
     ap (λ (l : List ℕ). frames_of fuel c.args.total l) before.split
-    ∙ frames_stopped fuel c.args.total ps c.frames.rest.now c.in-Damaged.offset c.in-Damaged.byte (omega (arith, ap length before.split, length-append (frames ps) c.frames.rest.now, many_frames ps)) before.some before.payloads c.in-Damaged.ensures
+    ∙ frames_stopped fuel c.args.total ps c.frames.rest.now c.in-Damaged.offset c.in-Damaged.byte (omega (arith, ap length before.split, length-append (frames ps) c.frames.rest.now, many_frames ps)) before.payloads c.in-Damaged.ensures
 
 pub frames-preserved : goal.frames-preserved
 frames-preserved c =
@@ -23,4 +23,4 @@ frames-preserved c =
     let taken : c.in_ok-payload-in-Frame.payload.items ≡ take c.in-Frame.n (drop 5 c.frames.rest.now) = search rules in
     let pushed : map (λ (v : Vec ℕ Global). v.items) c.push.new.self.items ≡ ps ++ c.in_ok-payload-in-Frame.payload.items ∷ [] = ap (λ (l : List (Vec ℕ Global)). map (λ v. v.items) l) c.in_ok-push-in-Frame.ensures.items ∙ map_push (λ (v : Vec ℕ Global). v.items) c.frames.payloads.items c.in_ok-payload-in-Frame.payload in
     let step = frames_step c.args.part.now ps _ c.frames.rest.now _ c.in_ok-payload-in-Frame.payload.items c.in-Frame.n before.split before.payloads c.in-Frame.ensures taken (take_rest c.frames.rest.now (5 + c.in-Frame.n)) pushed in
-    record { split = step.split; payloads = step.payloads; some = step.some; fits = omega (arith, ap length step.split, length-append {A = ℕ}) }
+    record { split = step.split; payloads = step.payloads; fits = omega (arith, ap length step.split, length-append {A = ℕ}) }

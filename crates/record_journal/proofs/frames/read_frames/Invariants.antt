@@ -1,4 +1,4 @@
-use Rattle.std.proofs.Common.{◌≡◌, ◌<◌, ◌≤◌, ◌++◌, length, map}
+use Rattle.std.proofs.Common.{◌≡◌, ◌≤◌, ◌++◌, length, map}
 use Rattle.std.specs.List.{AllByRecursion}
 use Rattle.record_journal.specs.Frames.{IsPayload, frames}
 use Rattle.record_journal.proofs.frames.read_frames.Given as goal
@@ -7,7 +7,6 @@ abbrev pub invariant-frames : goal.invariant-frames
 invariant-frames l = record {
   split : l.part ≡ frames (map (λ v. v.items) l.payloads.items) ++ l.rest;
   payloads : AllByRecursion IsPayload (map (λ v. v.items) l.payloads.items);
-  some : 0 < length l.rest;
   fits : length l.rest ≤ length l.part;
 }
 

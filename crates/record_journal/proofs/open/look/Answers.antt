@@ -1,20 +1,20 @@
-use Rattle.record_journal.proofs.Beginning.{keeps_same, keeps_on}
+use Rattle.record_journal.proofs.Opening.{unwritten, unwritten_on}
 use Rattle.record_journal.proofs.open.look.Goals as goal
 
-pub returns-in_default-clause-any_moment : goal.returns-in_default-clause-any_moment
-returns-in_default-clause-any_moment g c = keeps_same g.D.Disk.shows g.D.Disk.moment g.D.Disk.leaves c.args.root.now c.args.disk.now c.sync.new.self c.sync.ensures.time
+pub returns-in_default-clause-unwritten : goal.returns-in_default-clause-unwritten
+returns-in_default-clause-unwritten g c = unwritten g.D.Disk.shows g.D.Disk.moment g.D.Disk.leaves c.args.disk.now c.sync.new.self c.sync.ensures.shows c.sync.ensures.time
 
-pub returns-in-Err-clause-any_moment : goal.returns-in-Err-clause-any_moment
-returns-in-Err-clause-any_moment g c = keeps_on g.D.Disk.shows g.D.Disk.moment g.D.Disk.leaves c.args.root.now c.args.disk.now c.sync.new.self c.fetch.new.disk
-    (keeps_same g.D.Disk.shows g.D.Disk.moment g.D.Disk.leaves c.args.root.now c.args.disk.now c.sync.new.self c.sync.ensures.time)
-    (keeps_same g.D.Disk.shows g.D.Disk.moment g.D.Disk.leaves c.args.root.now c.sync.new.self c.fetch.new.disk c.fetch.ensures.time)
+pub returns-in-Err-clause-unwritten : goal.returns-in-Err-clause-unwritten
+returns-in-Err-clause-unwritten g c = unwritten_on g.D.Disk.shows g.D.Disk.moment g.D.Disk.leaves c.args.disk.now c.sync.new.self c.fetch.new.disk
+    (unwritten g.D.Disk.shows g.D.Disk.moment g.D.Disk.leaves c.args.disk.now c.sync.new.self c.sync.ensures.shows c.sync.ensures.time)
+    (unwritten g.D.Disk.shows g.D.Disk.moment g.D.Disk.leaves c.sync.new.self c.fetch.new.disk c.fetch.ensures.shows c.fetch.ensures.time)
 
-pub returns-in_default-parse-clause-any_moment : goal.returns-in_default-parse-clause-any_moment
-returns-in_default-parse-clause-any_moment g c = keeps_on g.D.Disk.shows g.D.Disk.moment g.D.Disk.leaves c.args.root.now c.args.disk.now c.sync.new.self c.fetch.new.disk
-    (keeps_same g.D.Disk.shows g.D.Disk.moment g.D.Disk.leaves c.args.root.now c.args.disk.now c.sync.new.self c.sync.ensures.time)
-    (keeps_same g.D.Disk.shows g.D.Disk.moment g.D.Disk.leaves c.args.root.now c.sync.new.self c.fetch.new.disk c.fetch.ensures.time)
+pub returns-in_default-parse-clause-unwritten : goal.returns-in_default-parse-clause-unwritten
+returns-in_default-parse-clause-unwritten g c = unwritten_on g.D.Disk.shows g.D.Disk.moment g.D.Disk.leaves c.args.disk.now c.sync.new.self c.fetch.new.disk
+    (unwritten g.D.Disk.shows g.D.Disk.moment g.D.Disk.leaves c.args.disk.now c.sync.new.self c.sync.ensures.shows c.sync.ensures.time)
+    (unwritten g.D.Disk.shows g.D.Disk.moment g.D.Disk.leaves c.sync.new.self c.fetch.new.disk c.fetch.ensures.shows c.fetch.ensures.time)
 
-pub returns-clause-any_moment : goal.returns-clause-any_moment
-returns-clause-any_moment g c = keeps_on g.D.Disk.shows g.D.Disk.moment g.D.Disk.leaves c.args.root.now c.args.disk.now c.sync.new.self c.fetch.new.disk
-    (keeps_same g.D.Disk.shows g.D.Disk.moment g.D.Disk.leaves c.args.root.now c.args.disk.now c.sync.new.self c.sync.ensures.time)
-    (keeps_same g.D.Disk.shows g.D.Disk.moment g.D.Disk.leaves c.args.root.now c.sync.new.self c.fetch.new.disk c.fetch.ensures.time)
+pub returns-clause-unwritten : goal.returns-clause-unwritten
+returns-clause-unwritten g c = unwritten_on g.D.Disk.shows g.D.Disk.moment g.D.Disk.leaves c.args.disk.now c.sync.new.self c.fetch.new.disk
+    (unwritten g.D.Disk.shows g.D.Disk.moment g.D.Disk.leaves c.args.disk.now c.sync.new.self c.sync.ensures.shows c.sync.ensures.time)
+    (unwritten g.D.Disk.shows g.D.Disk.moment g.D.Disk.leaves c.sync.new.self c.fetch.new.disk c.fetch.ensures.shows c.fetch.ensures.time)

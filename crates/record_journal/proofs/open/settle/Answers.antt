@@ -3,6 +3,7 @@ use Rattle.std.specs.declared.alloc.Global.{Global}
 use Rattle.record_journal.specs.declared.parse.Found.{Found}
 use Rattle.record_journal.specs.Frames.{begun, front}
 use Rattle.record_journal.specs.Parsed.{IsFound}
+use Rattle.record_journal.proofs.Opening.{begins_short, begins_shut, opens_kept, opens_begun, refuses_begun}
 use Rattle.record_journal.proofs.Made.{reading_made}
 use Rattle.record_journal.proofs.Beginning.{short_empty, closed_empty, length-front}
 use Rattle.record_journal.specs.Journals.{journal_size}
@@ -59,3 +60,22 @@ returns-in_default-clause-sized g c = ap (λ (l : List (Vec ℕ Global)). journa
 
 pub returns-in_default-begin_shut-clause-sized : goal.returns-in_default-begin_shut-clause-sized
 returns-in_default-begin_shut-clause-sized g c = ap (λ (l : List (Vec ℕ Global)). journal_size (map (λ v. v.items) l)) (sym c.new-in-Shut.ensures.items)
+
+pub returns-in-Kept-clause-writes : goal.returns-in-Kept-clause-writes
+returns-in-Kept-clause-writes g c = opens_kept g.D.Disk.shows g.D.Disk.moment g.D.Disk.leaves c.args.root.now c.args.disk.now c.look.new.disk c.in-Kept.size c.in-Ok.found c.in-Kept.payloads c.in-Kept.is c.in-Ok.ensures.seen c.in-Ok.ensures.unwritten
+
+pub returns-in_default-clause-writes : goal.returns-in_default-clause-writes
+returns-in_default-clause-writes g c = opens_begun g.D.Disk.shows g.D.Disk.moment g.D.Disk.leaves c.args.root.now c.args.disk.now c.begin_short.new.disk _ (ap (λ (l : List (Vec ℕ Global)). map (λ v. v.items) l) c.new.ensures.items)
+    (begins_short g.D.Disk.shows g.D.Disk.moment g.D.Disk.leaves c.args.root.now c.args.disk.now c.look.new.disk c.begin_short.new.disk c.in-Ok.found c.in-Short.is c.in-Ok.ensures.seen c.in-Ok.ensures.found c.in-Ok.ensures.unwritten c.begin_short.ensures.any_moment) c.in_default.ensures.done
+
+pub returns-in_default-begin_shut-clause-writes : goal.returns-in_default-begin_shut-clause-writes
+returns-in_default-begin_shut-clause-writes g c = opens_begun g.D.Disk.shows g.D.Disk.moment g.D.Disk.leaves c.args.root.now c.args.disk.now c.begin_shut.new.disk _ (ap (λ (l : List (Vec ℕ Global)). map (λ v. v.items) l) c.new-in-Shut.ensures.items)
+    (begins_shut g.D.Disk.shows g.D.Disk.moment g.D.Disk.leaves c.args.root.now c.args.disk.now c.look.new.disk c.begin_shut.new.disk c.in-Ok.found c.in-Shut.is c.in-Ok.ensures.seen c.in-Ok.ensures.found c.in-Ok.ensures.unwritten c.begin_shut.ensures.any_moment) c.in_default-begin_shut.ensures.done
+
+pub returns-in-Err-begin_short-clause-writes_err : goal.returns-in-Err-begin_short-clause-writes_err
+returns-in-Err-begin_short-clause-writes_err g c = refuses_begun g.D.Disk.shows g.D.Disk.moment g.D.Disk.leaves c.args.root.now c.args.disk.now c.begin_short.new.disk c.in-Err-begin_short.fault c.in-Err-begin_short.ensures.fault
+    (begins_short g.D.Disk.shows g.D.Disk.moment g.D.Disk.leaves c.args.root.now c.args.disk.now c.look.new.disk c.begin_short.new.disk c.in-Ok.found c.in-Short.is c.in-Ok.ensures.seen c.in-Ok.ensures.found c.in-Ok.ensures.unwritten c.begin_short.ensures.any_moment) c.in-Err-begin_short.ensures.memory
+
+pub returns-in-Err-begin_shut-clause-writes_err : goal.returns-in-Err-begin_shut-clause-writes_err
+returns-in-Err-begin_shut-clause-writes_err g c = refuses_begun g.D.Disk.shows g.D.Disk.moment g.D.Disk.leaves c.args.root.now c.args.disk.now c.begin_shut.new.disk c.in-Err-begin_shut.fault c.in-Err-begin_shut.ensures.fault
+    (begins_shut g.D.Disk.shows g.D.Disk.moment g.D.Disk.leaves c.args.root.now c.args.disk.now c.look.new.disk c.begin_shut.new.disk c.in-Ok.found c.in-Shut.is c.in-Ok.ensures.seen c.in-Ok.ensures.found c.in-Ok.ensures.unwritten c.begin_shut.ensures.any_moment) c.in-Err-begin_shut.ensures.memory

@@ -7,7 +7,7 @@ keys-preserved c =
     let given = c.into_iter-key-iterator.ensures.into_iter_gives in
     let so_far = rest_so_far (λ p. p) c.keys.yielded _ _ c.keys.yielded_by in
     let more = rest_more (λ p. p) _ _ _ (c.in-Some.key, c.in-Some.gathered) c.in-Some.is c.next.ensures.steps in
-    books_next c.args.keys.entries _ _ _ c.keys.yielded c.in-Some.key c.in-Some.gathered c.keys.books _ c.into_record.result given.0 so_far more given.5 c.keys.invariant c.into_record.ensures c.in_ok-insert.ensures.inserted
+    books_next c.args.keys.entries _ _ _ c.keys.yielded c.in-Some.key c.in-Some.gathered c.keys.books _ c.in-Ok.record given.0 so_far more given.5 c.keys.invariant c.in-Ok.ensures c.in_ok-insert.ensures.inserted
 
 pub returns : goal.returns
 returns c =

@@ -4,4 +4,4 @@ use Rattle.record_replay.specs.Items.{items_in}
 use Rattle.record_replay.proofs.payloads.gather.Given as goal
 
 abbrev pub invariant-loop-payload : goal.invariant-loop-payload
-invariant-loop-payload l = IsGathered (items_in (map (λ v. v.items) (take l.payload-index l.payloads))) l.gathering.keys.entries l.gathering.states.entries
+invariant-loop-payload l = IsGathered (items_in (map (λ v. v.items) (take l.payload-index l.payloads))) l.histories.keys.entries l.histories.states.entries

@@ -4,7 +4,7 @@ use Rattle.std.specs.Ordering.{eq_by_cmp}
 use Rattle.std.proofs.lemmas.Map.Keys.{IsDistinct-from_sorted}
 use Rattle.edge_kit.specs.declared.bytes.PubKey.{PubKey}
 use Rattle.record_join.specs.Keys.{key_cmp}
-use Rattle.record_join.proofs.KeyLemmas.{each_keys, each_length}
+use Rattle.record_join.specs.EachKeyLaws.{each_keys, each_length}
 use Rattle.record_replay.specs.Gathering.{IsRecordOf}
 use Rattle.record_replay.proofs.BooksLemmas.{replayed, books_stand}
 use Rattle.record_replay.proofs.payloads.replay.Goals as goal
@@ -13,11 +13,11 @@ pub returns-clause-keys : goal.returns-clause-keys
 returns-clause-keys c = sym (each_keys IsRecordOf _ _ c.in-Ok-books_of.ensures) ∙ c.in-Ok.ensures.named
 
 pub returns-clause-each : goal.returns-clause-each
-returns-clause-each c = replayed _ c.in-Ok.gathering.keys.entries c.in-Ok-books_of.books c.in-Ok.ensures.each c.in-Ok-books_of.ensures
+returns-clause-each c = replayed _ c.in-Ok.histories.keys.entries c.in-Ok-books_of.books c.in-Ok.ensures.each c.in-Ok-books_of.ensures
 
 pub returns-clause-limit : goal.returns-clause-limit
 returns-clause-limit c =
-    let same : length c.in-Ok.gathering.keys.entries ≡ length c.in-Ok-books_of.books = each_length IsRecordOf _ _ c.in-Ok-books_of.ensures in
+    let same : length c.in-Ok.histories.keys.entries ≡ length c.in-Ok-books_of.books = each_length IsRecordOf _ _ c.in-Ok-books_of.ensures in
     let few : c.len-new.result ≤ 65536 = c.if-new-gt-KEY_LIMIT.false in
     omega (arith, same, few, c.len-new.ensures.len)
 

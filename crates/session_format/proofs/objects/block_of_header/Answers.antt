@@ -1,7 +1,7 @@
 use Rattle.std.proofs.Common.{Ok, Some, sym, ap, ◌∙◌}
 use Rattle.phase0_types.specs.Faults.{read_as}
 use Rattle.phase0_types.specs.Headers.{beacon_block_header_value}
-use Rattle.signer_link.specs.declared.signer.SignObject.TheVariants as object
+use Rattle.signer_link.specs.declared.request.SignObject.TheVariants as object
 use Rattle.session_format.specs.declared.request.Op.TheVariants as op
 use Rattle.session_format.proofs.ObjectLemmas.{header_block-read}
 use Rattle.session_format.proofs.objects.block_of_header.Goals as goal

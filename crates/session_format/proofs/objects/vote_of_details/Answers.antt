@@ -1,7 +1,7 @@
 use Rattle.std.proofs.Common.{Ok, Some, sym, ap, ◌∙◌}
 use Rattle.phase0_types.specs.Faults.{read_as}
 use Rattle.phase0_types.specs.Attestations.{attestation_data_value}
-use Rattle.signer_link.specs.declared.signer.SignObject.TheVariants as object
+use Rattle.signer_link.specs.declared.request.SignObject.TheVariants as object
 use Rattle.session_format.specs.declared.request.Op.TheVariants as op
 use Rattle.session_format.proofs.ObjectLemmas.{details_vote-read}
 use Rattle.session_format.proofs.objects.vote_of_details.Goals as goal

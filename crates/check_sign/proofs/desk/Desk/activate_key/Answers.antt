@@ -1,4 +1,4 @@
-use Rattle.std.proofs.Common.{◌≡◌, ℕ, arith, rules, List, [], ◌∷◌, refl, sym, ◌∙◌, ap, subst, max}
+use Rattle.std.proofs.Common.{ℕ, arith, rules, List, [], ◌∷◌, refl, sym, ◌∙◌, ap, subst, max}
 use Rattle.edge_kit.specs.declared.bytes.PubKey.{PubKey}
 use Rattle.protect_record.specs.Parts.{Parts}
 use Rattle.record_join.specs.Keys.{with_key}
@@ -8,10 +8,12 @@ use Rattle.record_codec.specs.declared.item.JournalItem.TheVariants as item
 use Rattle.record_replay.specs.Items.{items_in}
 use Rattle.record_replay.specs.declared.state.KeyState.TheVariants.{Active}
 use Rattle.check_sign.specs.Contents.{Contents}
-use Rattle.check_sign.specs.States.{State, DeskStands}
-use Rattle.check_sign.specs.Machine.{Reply, after, HasRoomFor}
-use Rattle.check_sign.specs.declared.call.DeskCall.TheVariants as DeskCall
-use Rattle.check_sign.specs.declared.call.DeskReply.{DeskReply}
+use Rattle.desk_machine.specs.States.{State}
+use Rattle.check_sign.specs.Standing.{DeskStands}
+use Rattle.desk_machine.specs.Machine.{Reply, after}
+use Rattle.desk_machine.specs.Written.{HasRoomFor}
+use Rattle.desk_machine.specs.declared.call.DeskCall.TheVariants as DeskCall
+use Rattle.desk_machine.specs.declared.call.DeskReply.{DeskReply}
 use Rattle.check_sign.proofs.MachineLemmas.{opened, none_at, same_length, not_fits, fits}
 use Rattle.check_sign.proofs.StepLemmas.{up_state, by_fault, grown}
 use Rattle.check_sign.proofs.MarkLemmas.{none_if, idle_at, later}
@@ -25,11 +27,11 @@ returns-then-not-fits_one-clause-machine g c = λ state stands.
         up_state _ _ state.torn s.torn (none_if c.failed.result c.self.inside.journal.torn c.failed.ensures c.if-failed.false),
         idle_at c.state_of.result c.self.inside.states.entries state.states c.args.key c.state_of.ensures.value s.states c.in-Known.is,
         none_at c.self.inside.books state.keys c.args.key s.keys room.0,
-        c.len.ensures ∙ same_length c.self.inside.books state.keys s.keys,
+        c.len.ensures.count ∙ same_length c.self.inside.books state.keys s.keys,
         refl,
-        omega (arith, c.len.ensures, room.1),
+        omega (arith, c.len.ensures.count, room.1),
       ),
-      later _ state _ _ _ _ _ c.args.now s s.keys refl refl c.max-self-inside.ensures,
+      later _ state _ _ _ _ _ _ c.args.now s s.keys refl refl refl c.max-self-inside.ensures,
     )
 
 pub returns-then-not-make_room-clause-machine : goal.returns-then-not-make_room-clause-machine
@@ -42,7 +44,7 @@ returns-then-not-make_room-clause-machine g c = λ state stands.
           fits c.fits_one.result c.self.inside.books state.keys c.args.key c.fits_one.ensures (search rules) s.keys,
         ),
       ),
-      later _ state _ _ _ _ _ c.args.now s s.keys refl c.make_room.ensures.kept c.max-self-inside.ensures,
+      later _ state _ _ _ _ _ _ c.args.now s s.keys refl c.make_room.ensures.kept c.make_room.ensures.next c.max-self-inside.ensures,
     )
 
 pub returns-in_default-clause-machine : goal.returns-in_default-clause-machine
@@ -56,7 +58,7 @@ returns-in_default-clause-machine g c = λ state stands.
           fits c.fits_one.result c.self.inside.books state.keys c.args.key c.fits_one.ensures (search rules) s.keys,
         ),
       ),
-      later _ state _ _ _ _ _ c.args.now s (subst B (sym c.in_default.ensures.err) s.keys) refl c.make_room.ensures.kept c.max-self-inside.ensures,
+      later _ state _ _ _ _ _ _ c.args.now s (subst B (sym c.in_default.ensures.err) s.keys) refl c.make_room.ensures.kept c.make_room.ensures.next c.max-self-inside.ensures,
     )
 
 pub returns-in_default-mark_active-clause-machine :
@@ -70,7 +72,7 @@ returns-in_default-mark_active-clause-machine g c = λ state stands.
           fits c.fits_one.result c.self.inside.books state.keys c.args.key c.fits_one.ensures (search rules) s.keys,
         ),
       ),
-      later _ state _ _ _ _ _ c.args.now s (c.take_back.ensures.stands c.self.inside.books state.keys c.in-Ok.ensures.fresh s.keys) c.in_default-mark_active.ensures.err c.make_room.ensures.kept c.max-self-inside.ensures,
+      later _ state _ _ _ _ _ _ c.args.now s (c.take_back.ensures.stands c.self.inside.books state.keys c.in-Ok.ensures.fresh s.keys) c.in_default-mark_active.ensures.err c.make_room.ensures.kept c.make_room.ensures.next c.max-self-inside.ensures,
     )
 
 pub returns-in-Err-clause-machine : goal.returns-in-Err-clause-machine
@@ -83,8 +85,8 @@ returns-in-Err-clause-machine g c = λ state stands.
       genesis = c.self.inside.genesis;
       keys = c.take_back-in-Err.new.self;
       states = c.unmark.new.states.entries;
-      grants = c.make_room.new.grants.items;
-      next = c.self.inside.next;
+      grants = c.make_room.new.grants.grants;
+      next = c.make_room.new.grants.next;
       latest = c.max-self-inside.result;
       watch = c.self.inside.watch;
       events = c.make_room.new.events.items;
@@ -105,7 +107,7 @@ returns-in-Err-clause-machine g c = λ state stands.
       keys = c.take_back-in-Err.ensures.stands c.self.inside.books state.keys c.in-Ok.ensures.fresh s.keys;
       states = c.unmark.ensures.same c.self.inside.states.entries c.in-Ok-mark_active.ensures.marked ∙ s.states;
       grants = c.make_room.ensures.kept ∙ s.grants;
-      next = s.next;
+      next = c.make_room.ensures.next ∙ s.next;
       latest = c.max-self-inside.ensures ∙ ap (λ m. max m c.args.now) s.latest;
       watch = s.watch;
     }))
@@ -114,7 +116,7 @@ pub invariant_of-self-2 : goal.invariant_of-self-2
 invariant_of-self-2 g c =
     let room = c.make_room.ensures.room (search rules) in (
       omega (arith, room.0, c.note.ensures.len, c.note.ensures.no_less),
-      omega (arith, c.self.invariant.1, c.note.ensures.len, c.make_room.ensures.events_len),
+      omega (arith, c.self.invariant.1, c.make_room.ensures.next, c.note.ensures.len, c.make_room.ensures.events_len),
       omega (arith, c.self.invariant.2, c.mark_active.ensures.count),
       c.write_items.ensures.holds c.self.inside.genesis c.self.invariant.3,
     )
@@ -141,8 +143,14 @@ returns-clause-machine g c = λ state stands.
             keys = c.in-Ok.ensures.known state.keys s.keys;
             states = c.in-Ok-mark_active.ensures.marked.now ∙ ap (λ l. with_key l c.args.key Active) s.states;
             grants = c.make_room.ensures.kept ∙ s.grants;
-            next = s.next;
+            next = c.make_room.ensures.next ∙ s.next;
             latest = c.max-self-inside.ensures ∙ ap (λ m. max m c.args.now) s.latest;
             watch = s.watch;
           }),
     )
+
+pub take_back-requires : goal.take_back-requires
+take_back-requires g c = (c.self.inside.books, c.in-Ok.ensures.fresh)
+
+pub take_back-requires-in-Err : goal.take_back-requires-in-Err
+take_back-requires-in-Err g c = (c.self.inside.books, c.in-Ok.ensures.fresh)

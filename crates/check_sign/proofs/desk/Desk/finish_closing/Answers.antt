@@ -2,7 +2,8 @@ use Rattle.std.proofs.Common.{◌≡◌, ◌≢◌, ◌≤◌, refl, sym, ap, �
 use Rattle.record_join.specs.Keys.{with_kept}
 use Rattle.record_replay.specs.declared.state.KeyState.TheVariants.{Closing, Closed}
 use Rattle.check_sign.specs.Marking.{count_active}
-use Rattle.check_sign.specs.States.{key_state, open_grants}
+use Rattle.desk_machine.specs.States.{key_state}
+use Rattle.desk_machine.specs.Grants.{open_grants}
 use Rattle.check_sign.specs.Writing.{journal_of}
 use Rattle.check_sign.proofs.MachineLemmas.{opened, none_at, some_at, is_some_of}
 use Rattle.check_sign.proofs.ProposalLemmas.{closing_at, closing_done, closing_fault, desk_moved, fewer_active, is_up, is_whole, may_close}
@@ -29,7 +30,7 @@ returns-then-grants-gt0-clause-machine g c = λ state stands.
         is_up _ state c.failed.result s c.failed.ensures c.if-failed.false,
         is_some_of _ at.0 at.1,
         closing_at c.self.inside.states.entries state.states c.args.key s.states (sym closing ∙ c.state_of-state.ensures.value),
-        c.count_of-grants.ensures ∙ ap (λ l. open_grants l c.args.key) (c.deref.ensures.value ∙ s.grants),
+        c.count_of-grants.ensures ∙ ap (λ l. open_grants l c.args.key) s.grants,
         c.if-grants-gt0.true,
       ),
       stands,
@@ -39,25 +40,25 @@ pub returns-in_default-export-clause-machine : goal.returns-in_default-export-cl
 returns-in_default-export-clause-machine g c = λ state stands.
     let s = opened c.args.self.now _ state c.self.view_is stands in
     let closing : c.state_of-state.result ≡ Closing = search rules in
-    ((is_up _ state c.failed.result s c.failed.ensures c.if-failed.false, may_close _ state c.args.key c.in-Some.record.now c.state_of-state.result c.count_of-grants.result _ s (search rules) c.state_of-state.ensures.value closing c.count_of-grants.ensures c.deref.ensures.value c.if-grants-gt0.false), stands)
+    ((is_up _ state c.failed.result s c.failed.ensures c.if-failed.false, may_close _ state c.args.key c.in-Some.record.now c.state_of-state.result c.count_of-grants.result _ s (search rules) c.state_of-state.ensures.value closing c.count_of-grants.ensures refl c.if-grants-gt0.false), stands)
 
-pub returns-in_default-export-2-clause-machine : goal.returns-in_default-export-2-clause-machine
-returns-in_default-export-2-clause-machine g c = λ state stands.
+pub returns-in_default-copy-clause-machine : goal.returns-in_default-copy-clause-machine
+returns-in_default-copy-clause-machine g c = λ state stands.
     let s = opened c.args.self.now _ state c.self.view_is stands in
     let closing : c.state_of-state.result ≡ Closing = search rules in
-    ((is_up _ state c.failed.result s c.failed.ensures c.if-failed.false, may_close _ state c.args.key c.in-Some.record.now c.state_of-state.result c.count_of-grants.result _ s (search rules) c.state_of-state.ensures.value closing c.count_of-grants.ensures c.deref.ensures.value c.if-grants-gt0.false), stands)
+    ((is_up _ state c.failed.result s c.failed.ensures c.if-failed.false, may_close _ state c.args.key c.in-Some.record.now c.state_of-state.result c.count_of-grants.result _ s (search rules) c.state_of-state.ensures.value closing c.count_of-grants.ensures refl c.if-grants-gt0.false), stands)
 
 pub returns-then-not-make_room-clause-machine : goal.returns-then-not-make_room-clause-machine
 returns-then-not-make_room-clause-machine g c = λ state stands.
     let s = opened c.args.self.now _ state c.self.view_is stands in
     let closing : c.state_of-state.result ≡ Closing = search rules in (
-      (is_up _ state c.failed.result s c.failed.ensures c.if-failed.false, may_close _ state c.args.key c.in-Some.record.now c.state_of-state.result c.count_of-grants.result _ s (search rules) c.state_of-state.ensures.value closing c.count_of-grants.ensures c.deref.ensures.value c.if-grants-gt0.false),
+      (is_up _ state c.failed.result s c.failed.ensures c.if-failed.false, may_close _ state c.args.key c.in-Some.record.now c.state_of-state.result c.count_of-grants.result _ s (search rules) c.state_of-state.ensures.value closing c.count_of-grants.ensures refl c.if-grants-gt0.false),
       record {
         genesis = s.genesis;
         keys = s.keys;
         states = s.states;
         grants = c.make_room.ensures.kept ∙ s.grants;
-        next = s.next;
+        next = c.make_room.ensures.next ∙ s.next;
         latest = s.latest;
         watch = s.watch;
         size = s.size;
@@ -70,14 +71,14 @@ pub returns-in-Err-clause-machine : goal.returns-in-Err-clause-machine
 returns-in-Err-clause-machine g c = λ state stands.
     let s = opened c.args.self.now _ state c.self.view_is stands in
     let closing : c.state_of-state.result ≡ Closing = search rules in
-    let proceeds = may_close _ state c.args.key c.in-Some.record.now c.state_of-state.result c.count_of-grants.result _ s (search rules) c.state_of-state.ensures.value closing c.count_of-grants.ensures c.deref.ensures.value c.if-grants-gt0.false in
+    let proceeds = may_close _ state c.args.key c.in-Some.record.now c.state_of-state.result c.count_of-grants.result _ s (search rules) c.state_of-state.ensures.value closing c.count_of-grants.ensures refl c.if-grants-gt0.false in
     closing_fault g.D.Disk.faults c.self.inside.journal c.write_items.new.journal _ state c.args.key c.in-Err.fault c.refusal.result proceeds c.in-Err.ensures.wrote s.payloads s.size c.self.invariant.3.size
     (is_whole c.failed.result _ c.failed.ensures c.if-failed.false) (is_up _ state c.failed.result s c.failed.ensures c.if-failed.false) (c.replay_laws.ensures.closed _ state.keys state.states c.args.key s.payloads.items proceeds.0 (is_some_of _ Closing proceeds.1)) refl refl refl (record {
       genesis = s.genesis;
       keys = s.keys;
       states = s.states;
       grants = c.make_room.ensures.kept ∙ s.grants;
-      next = s.next;
+      next = c.make_room.ensures.next ∙ s.next;
       latest = s.latest;
       watch = s.watch;
     }) c.refusal.ensures
@@ -92,7 +93,7 @@ invariant_of-self-2 g c =
     let noted = closing_at c.self.inside.states.entries c.self.inside.states.entries c.args.key refl (sym closing ∙ c.state_of-state.ensures.value) in
     let room = c.make_room.ensures.room (search rules) in (
       omega (arith, room.0, c.note.ensures.len, c.note.ensures.no_less),
-      omega (arith, c.self.invariant.1, c.make_room.ensures.events_len, c.note.ensures.len),
+      omega (arith, c.self.invariant.1, c.make_room.ensures.next, c.make_room.ensures.events_len, c.note.ensures.len),
       subst (λ l. count_active l ≤ c.self.inside.closable) (sym (c.set_state.ensures.set (is_some_of _ Closing noted))) (omega (arith, fewer_active c.self.inside.states.entries c.args.key, c.self.invariant.2)),
       c.write_items.ensures.holds c.self.inside.genesis c.self.invariant.3,
     )
@@ -101,7 +102,7 @@ pub returns-clause-machine : goal.returns-clause-machine
 returns-clause-machine g c = λ state stands.
     let s = opened c.args.self.now _ state c.self.view_is stands in
     let closing : c.state_of-state.result ≡ Closing = search rules in
-    let proceeds = may_close _ state c.args.key c.in-Some.record.now c.state_of-state.result c.count_of-grants.result _ s (search rules) c.state_of-state.ensures.value closing c.count_of-grants.ensures c.deref.ensures.value c.if-grants-gt0.false in
+    let proceeds = may_close _ state c.args.key c.in-Some.record.now c.state_of-state.result c.count_of-grants.result _ s (search rules) c.state_of-state.ensures.value closing c.count_of-grants.ensures refl c.if-grants-gt0.false in
     let noted = closing_at c.self.inside.states.entries c.self.inside.states.entries c.args.key refl (sym closing ∙ c.state_of-state.ensures.value) in
     let at = some_at c.self.inside.books state.keys c.args.key c.in-Some.record.now s.keys (search rules) in
     closing_done g.D.Disk.faults c.self.inside.journal c.write_items.new.journal _ state c.args.key c.in-Some.record.now at.0 c.in-Ok.book proceeds c.in_default-write_items.ensures.wrote s.size c.self.invariant.3.size
@@ -110,7 +111,7 @@ returns-clause-machine g c = λ state stands.
       keys = s.keys;
       states = c.set_state.ensures.set (is_some_of _ Closing noted) ∙ ap (λ l. with_kept l c.args.key Closed) s.states;
       grants = c.make_room.ensures.kept ∙ s.grants;
-      next = s.next;
+      next = c.make_room.ensures.next ∙ s.next;
       latest = s.latest;
       watch = s.watch;
     }) at.1 at.2 c.in-Ok.ensures.value

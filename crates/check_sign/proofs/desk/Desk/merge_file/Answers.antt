@@ -1,16 +1,14 @@
-use Rattle.std.proofs.Common.{◌≡◌, ◌+◌, ◌<◌, ◌≤◌, ◌++◌, List, Some, None, length, refl, sym, ◌∙◌, ap, subst, rules, arith}
+use Rattle.std.proofs.Common.{◌≡◌, ◌+◌, ◌<◌, ◌≤◌, List, length, refl, sym, ◌∙◌, subst, rules, arith}
 use Rattle.edge_kit.specs.declared.bytes.PubKey.{PubKey}
 use Rattle.slash_defs.specs.declared.book.Book.{Book}
-use Rattle.protect_record.specs.Parts.{Parts}
 use Rattle.interchange_io.specs.WrittenOrder.{canonical}
 use Rattle.record_join.specs.BooksPasts.{BooksStand, IsMergeFault, new_keys, with_file, key_limit}
 use Rattle.record_join.specs.Preparing.{IsPrepared}
 use Rattle.record_join.specs.declared.fault.MergeFault.{MergeFault}
 use Rattle.record_replay.specs.Batches.{file_items}
 use Rattle.record_replay.specs.Items.{items_in}
-use Rattle.check_sign.specs.Machine.{Reply, after}
-use Rattle.check_sign.specs.declared.call.DeskCall.{DeskCall}
-use Rattle.check_sign.specs.declared.call.DeskCall.TheVariants as call
+use Rattle.desk_machine.specs.Machine.{Reply, after}
+use Rattle.desk_machine.specs.declared.call.DeskCall.TheVariants as call
 use Rattle.check_sign.proofs.MachineLemmas.{opened, fits_file, over_file}
 use Rattle.check_sign.proofs.StepLemmas.{whole, grown, up_state}
 use Rattle.check_sign.proofs.DeskLemmas.{none_of, sized, by_reply}
@@ -31,7 +29,7 @@ returns-in-Err-TooManyKeys-clause-machine g c = λ state stands.
         keys = c.in-Err-TooManyKeys.ensures.err state.keys s.keys;
         states = s.states;
         grants = c.make_room-has_room.ensures.kept ∙ s.grants;
-        next = s.next;
+        next = c.make_room-has_room.ensures.next ∙ s.next;
         latest = s.latest;
         watch = s.watch;
       }) s.size s.payloads s.torn,
@@ -52,7 +50,7 @@ returns-in-Err-OutOfMemory-clause-machine g c = λ state stands.
         keys = c.in-Err-OutOfMemory.ensures.err state.keys s.keys;
         states = s.states;
         grants = c.make_room-has_room.ensures.kept ∙ s.grants;
-        next = s.next;
+        next = c.make_room-has_room.ensures.next ∙ s.next;
         latest = s.latest;
         watch = s.watch;
       }) s.size s.payloads s.torn,
@@ -76,7 +74,7 @@ returns-in-Err-clause-machine g c = λ state stands.
       keys = c.take_back.ensures.stands c.self.inside.books state.keys (c.prepared_law.ensures _ _ _ _ c.in-Ok.ensures.prepared) s.keys;
       states = s.states;
       grants = c.make_room-has_room.ensures.kept ∙ s.grants;
-      next = s.next;
+      next = c.make_room-has_room.ensures.next ∙ s.next;
       latest = s.latest;
       watch = s.watch;
     })
@@ -86,7 +84,7 @@ invariant_of-self-2 g c =
     let v = c.self.invariant in
     let room = c.make_room-has_room.ensures.room (c.in-Ok.ensures.room) in (
       omega (arith, room.0, c.note_merge.ensures.len, c.note_merge.ensures.no_less),
-      omega (arith, v.1, c.note_merge.ensures.no_fewer, c.make_room-has_room.ensures.events_len),
+      omega (arith, v.1, c.make_room-has_room.ensures.next, c.note_merge.ensures.no_fewer, c.make_room-has_room.ensures.events_len),
       v.2,
       c.in_default.ensures.holds c.self.inside.genesis v.3,
     )
@@ -107,11 +105,14 @@ returns-clause-machine g c = λ state stands.
           (c.replay_laws.ensures.merged (items_in c.self.inside.journal.payloads) state.keys state.states c.args.file s.payloads.items c.requires) refl up
           (record {
             genesis = s.genesis;
-            keys = subst K (c.as_slice-2.ensures) (c.merge_prepared.ensures c.self.inside.books c.in-Ok.fresh state.keys (subst R (c.as_slice.ensures ∙ sym c.as_slice-2.ensures) c.in-Ok.ensures.prepared) s.keys);
+            keys = subst K (c.as_slice-2.ensures) (c.merge_prepared.ensures.stands c.self.inside.books c.in-Ok.fresh state.keys (subst R (c.as_slice.ensures ∙ sym c.as_slice-2.ensures) c.in-Ok.ensures.prepared) s.keys);
             states = s.states;
             grants = c.make_room-has_room.ensures.kept ∙ s.grants;
-            next = s.next;
+            next = c.make_room-has_room.ensures.next ∙ s.next;
             latest = s.latest;
             watch = s.watch;
           }),
     )
+
+pub take_back-requires : goal.take_back-requires
+take_back-requires g c = (c.self.inside.books, c.prepared_law.ensures _ _ _ _ c.in-Ok.ensures.prepared)

@@ -1,41 +1,51 @@
-use Rattle.std.proofs.Common.{refl}
-use Rattle.check_sign.proofs.ReadLemmas.{brought_back, opened_read}
+use Rattle.std.proofs.Common.{List, ℕ, refl, subst}
+use Rattle.record_journal.specs.Journals.{MayRead}
+use Rattle.check_sign.specs.Contents.{Contents}
+use Rattle.check_sign.proofs.OpenLemmas.{may_open}
+use Rattle.check_sign.proofs.ReadLemmas.{brought_back, opened_stands}
 use Rattle.check_sign.proofs.desk.Desk.open.Goals as goal
 
-pub returns-clause-read : goal.returns-clause-read
-returns-clause-read g c = opened_read g.D.Disk.shows c.args.disks.first (record {
-  genesis = c.args.genesis;
-  keys = c.in-Ok-replay.replayed.books;
-  states = c.in-Ok-replay.replayed.states.entries;
-  grants = c.new.result.items;
-  next = 0;
-  latest = c.args.now;
-  watch = c.args.watch;
-  events = c.in-Ok-with_capacity.events.items;
-  payloads = c.in-Ok.journal.payloads;
-  size = c.in-Ok.journal.size;
-  torn = c.in-Ok.journal.torn;
-}) c.args.genesis c.args.watch c.args.now _ c.in-Ok.ensures.read (record {
-  genesis = refl;
-  grants = c.new.ensures.items;
-  next = refl;
-  latest = refl;
-  watch = refl;
-  size = c.in-Ok.ensures.size;
-  torn = c.in-Ok.ensures.whole;
-}) c.payloads.ensures.payloads c.in-Ok-replay.ensures.stands
-
-pub returns-clause-brought_back : goal.returns-clause-brought_back
-returns-clause-brought_back g c = brought_back (record {
-  genesis = c.args.genesis;
-  keys = c.in-Ok-replay.replayed.books;
-  states = c.in-Ok-replay.replayed.states.entries;
-  grants = c.new.result.items;
-  next = 0;
-  latest = c.args.now;
-  watch = c.args.watch;
-  events = c.in-Ok-with_capacity.events.items;
-  payloads = c.in-Ok.journal.payloads;
-  size = c.in-Ok.journal.size;
-  torn = c.in-Ok.journal.torn;
-}) _ c.payloads.ensures.payloads c.in-Ok-replay.ensures.keys c.in-Ok-replay.ensures.each c.in-Ok-replay.ensures.states
+pub returns-clause-opened : goal.returns-clause-opened
+returns-clause-opened g c =
+    let desk : Contents = record {
+      genesis = c.args.genesis;
+      keys = c.in-Ok-replay.replayed.books;
+      states = c.in-Ok-replay.replayed.states.entries;
+      grants = c.new.result.grants;
+      next = c.new.result.next;
+      latest = c.args.now;
+      watch = c.args.watch;
+      events = c.in-Ok-with_capacity.events.items;
+      payloads = c.in-Ok.journal.payloads;
+      size = c.in-Ok.journal.size;
+      torn = c.in-Ok.journal.torn;
+    } in
+    let files : List ℕ → Type 0 = λ root. (file : List ℕ) → g.D.Disk.leaves c.in-Ok.journal.disk (g.D.Disk.moment c.in-Ok.journal.disk) file → MayRead (record c.in-Ok.journal { root = root }) file in
+    record {
+      opened = record {
+        read = c.in-Ok.ensures.read;
+        brought_back = brought_back desk _ c.payloads.ensures.payloads c.in-Ok-replay.ensures.keys c.in-Ok-replay.ensures.limit c.in-Ok-replay.ensures.each c.in-Ok-replay.ensures.states;
+        stands = opened_stands desk c.args.genesis c.args.watch c.args.now _ (record {
+          genesis = refl;
+          grants = c.new.ensures.grants;
+          next = c.new.ensures.next;
+          latest = refl;
+          watch = refl;
+          size = c.in-Ok.ensures.size;
+          torn = c.in-Ok.ensures.whole;
+        }) c.payloads.ensures.payloads c.in-Ok-replay.ensures.stands;
+        genesis_is = refl;
+        none_open = c.new.ensures.grants;
+        none_given = c.new.ensures.next;
+        latest_is = refl;
+        watch_is = refl;
+        none_noted = c.in-Ok-with_capacity.ensures.items;
+        up = c.in-Ok.ensures.whole;
+      };
+      writes = c.in-Ok.ensures.writes;
+      moments = c.in-Ok.ensures.any_moment;
+      left = λ state stands file left. may_open (record { disk = c.in-Ok.journal.disk; second = c.args.disks.second; contents = desk }) state stands file (subst files c.in-Ok.ensures.root c.in-Ok.ensures.left file left);
+      holds = subst files c.in-Ok.ensures.root c.in-Ok.ensures.left;
+      later = c.in-Ok.ensures.later;
+      second_is = refl;
+    }

@@ -1,8 +1,6 @@
-use Rattle.std.proofs.Common.{◌≡◌, ℕ, ◌+◌, ◌<◌, ◌≤◌, ◌++◌, ◌∷◌, [], List, Option, Some, None, length, refl, sym, ◌∙◌, ap, subst, rules, arith}
-use Rattle.std.specs.Prelude.{IsSomeAnd}
+use Rattle.std.proofs.Common.{◌≡◌, ◌+◌, ◌++◌, ◌∷◌, [], List, refl, sym, ◌∙◌, ap, subst, rules, arith}
 use Rattle.edge_kit.specs.declared.bytes.PubKey.{PubKey}
 use Rattle.slash_defs.specs.declared.book.Book.{Book}
-use Rattle.protect_record.specs.Parts.{Parts}
 use Rattle.protect_record.specs.Pasts.{Past}
 use Rattle.record_codec.specs.declared.item.JournalItem.{JournalItem}
 use Rattle.record_join.specs.BooksPasts.{BooksStand, with_file}
@@ -12,11 +10,9 @@ use Rattle.record_replay.specs.Batches.{book_items}
 use Rattle.record_replay.specs.Items.{items_in}
 use Rattle.record_replay.specs.Pruning.{pruning_of}
 use Rattle.record_replay.specs.Replaying.{ItemsStand}
-use Rattle.check_sign.specs.Contents.{Seen}
-use Rattle.check_sign.specs.Machine.{Reply, after, HasRoomFor, prune_items, pruned_keys, frame_size}
-use Rattle.check_sign.specs.Writing.{Moved, journal_of}
-use Rattle.check_sign.specs.declared.call.DeskCall.{DeskCall}
-use Rattle.check_sign.specs.declared.call.DeskCall.TheVariants as call
+use Rattle.desk_machine.specs.Machine.{Reply, after, pruned_keys}
+use Rattle.desk_machine.specs.Written.{HasRoomFor, prune_items, frame_size}
+use Rattle.desk_machine.specs.declared.call.DeskCall.TheVariants as call
 use Rattle.check_sign.proofs.MachineLemmas.{opened, none_at, some_at, is_some_of, some_is}
 use Rattle.check_sign.proofs.StepLemmas.{whole, grown, up_state}
 use Rattle.check_sign.proofs.OpenLemmas.{moved_rooted}
@@ -36,8 +32,8 @@ returns-in_default-pruning_book-clause-machine g c = λ state stands.
     let at = some_at c.self.inside.books state.keys c.args.key c.in-Some.record.now s.keys (search rules) in
     ((up_state _ _ _ s.torn clean, is_some_of _ at.0 at.1), stands)
 
-pub returns-in_default-pruning_book-2-clause-machine : goal.returns-in_default-pruning_book-2-clause-machine
-returns-in_default-pruning_book-2-clause-machine g c = λ state stands.
+pub returns-in_default-copy-clause-machine : goal.returns-in_default-copy-clause-machine
+returns-in_default-copy-clause-machine g c = λ state stands.
     let s = opened c.args.self.now _ state c.self.view_is stands in
     let clean = none_of c.failed.result c.self.inside.journal.torn c.failed.ensures c.if-failed.false in
     let at = some_at c.self.inside.books state.keys c.args.key c.in-Some.record.now s.keys (search rules) in
@@ -54,7 +50,7 @@ returns-in_default-prepare-clause-machine g c = λ state stands.
         keys = c.in_default-prepare.ensures.err state.keys s.keys;
         states = s.states;
         grants = c.make_room-has_room.ensures.kept ∙ s.grants;
-        next = s.next;
+        next = c.make_room-has_room.ensures.next ∙ s.next;
         latest = s.latest;
         watch = s.watch;
       }) s.size s.payloads s.torn,
@@ -86,7 +82,7 @@ returns-in-Err-clause-machine g c = λ state stands.
       keys = c.take_back.ensures.stands c.self.inside.books state.keys (c.prepared_law.ensures _ _ _ _ c.in-Ok-prepare.ensures.prepared) s.keys;
       states = s.states;
       grants = c.make_room-has_room.ensures.kept ∙ s.grants;
-      next = s.next;
+      next = c.make_room-has_room.ensures.next ∙ s.next;
       latest = s.latest;
       watch = s.watch;
     })
@@ -96,7 +92,7 @@ invariant_of-self-2 g c =
     let v = c.self.invariant in
     let room = c.make_room-has_room.ensures.room (c.in-Ok-prepare.ensures.room) in (
       omega (arith, room.0, c.note.ensures.len, c.note.ensures.no_less),
-      omega (arith, v.1, c.note.ensures.len, c.make_room-has_room.ensures.events_len),
+      omega (arith, v.1, c.make_room-has_room.ensures.next, c.note.ensures.len, c.make_room-has_room.ensures.events_len),
       v.2,
       c.in_default-write_book.ensures.holds c.self.inside.genesis v.3,
     )
@@ -122,11 +118,14 @@ returns-clause-machine g c = λ state stands.
           (subst I (sym keys_are) (c.replay_laws.ensures.gained (items_in c.self.inside.journal.payloads) state.keys state.states c.args.key book s.payloads.items)) (ap (λ i. state.size + frame_size i) writes) up
           (record {
             genesis = s.genesis;
-            keys = subst K (sym keys_are) (subst L c.from_ref-2.ensures.value (c.merge_prepared.ensures c.self.inside.books c.in-Ok-prepare.fresh state.keys (subst F (c.from_ref.ensures.value ∙ sym c.from_ref-2.ensures.value) c.in-Ok-prepare.ensures.prepared) s.keys));
+            keys = subst K (sym keys_are) (subst L c.from_ref-2.ensures.value (c.merge_prepared.ensures.stands c.self.inside.books c.in-Ok-prepare.fresh state.keys (subst F (c.from_ref.ensures.value ∙ sym c.from_ref-2.ensures.value) c.in-Ok-prepare.ensures.prepared) s.keys));
             states = s.states;
             grants = c.make_room-has_room.ensures.kept ∙ s.grants;
-            next = s.next;
+            next = c.make_room-has_room.ensures.next ∙ s.next;
             latest = s.latest;
             watch = s.watch;
           }),
     )
+
+pub take_back-requires : goal.take_back-requires
+take_back-requires g c = (c.self.inside.books, c.prepared_law.ensures _ _ _ _ c.in-Ok-prepare.ensures.prepared)

@@ -1,7 +1,7 @@
 use Rattle.std.proofs.Common.{ap, refl, ◌∙◌, arith, length}
 use Rattle.std.proofs.lemmas.List.{length_push}
 use Rattle.edge_kit.specs.declared.mem_disk.DiskStep.TheVariants.{Shortened}
-use Rattle.edge_kit.proofs.MemDiskLemmas.{current_after, durable_stays, unsynced_stays, since_push, elapses_cut}
+use Rattle.edge_kit.proofs.MemDiskLemmas.{current_after, durable_stays, unsynced_stays, elapses_cut}
 use Rattle.edge_kit.proofs.mem_disk.MemDiskDisk.cut.Goals as goal
 
 pub invariant_of-self-in-Stops : goal.invariant_of-self-in-Stops
@@ -36,6 +36,3 @@ returns-clause-time c = elapses_cut c.args.self.now.first.items c.args.self.now.
 
 pub returns-clause-shows : goal.returns-clause-shows
 returns-clause-shows c = λ b shown. (c.args.self.now.held.items, refl, shown ∙ c.in-Ok.ensures.held)
-
-pub returns-clause-kept : goal.returns-clause-kept
-returns-clause-kept c = record { steps = c.in-Ok.ensures.steps; since = since_push c.args.self.now.steps.items c.change.new.steps.items c.args.self.now.synced (Shortened c.args.len) c.args.self.now.within c.in-Ok.ensures.steps }

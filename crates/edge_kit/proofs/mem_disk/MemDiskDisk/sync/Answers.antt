@@ -24,10 +24,10 @@ returns-clause-kept c =
     let d = c.args.self.now in
     let all : c.len-self.result ≡ length c.keep.new.steps.items = search rules in
     let some : 0 < length (drop d.synced d.steps.items) = omega (arith, length-drop d.synced d.steps.items, d.within) in
-    record { steps = sync_kept (drop d.synced d.steps.items) d.steps.items c.keep.new.steps.items some c.keep.ensures.steps; since = drop_all c.len-self.result c.keep.new.steps.items (omega (arith, all)) }
+    record { first = refl; bytes = refl; lacks = refl; steps = sync_kept (drop d.synced d.steps.items) d.steps.items c.keep.new.steps.items some c.keep.ensures.steps; since = drop_all c.len-self.result c.keep.new.steps.items (omega (arith, all)) }
 
 pub returns-then-self-len-clause-kept : goal.returns-then-self-len-clause-kept
 returns-then-self-len-clause-kept c =
     let d = c.args.self.now in
     let all : d.synced ≡ length d.steps.items = search rules in
-    record { steps = sync_left_out d.steps.items d.synced all; since = drop_all d.synced d.steps.items (omega (arith, all)) }
+    record { first = refl; bytes = refl; lacks = refl; steps = sync_left_out d.steps.items d.synced all; since = drop_all d.synced d.steps.items (omega (arith, all)) }

@@ -1,8 +1,12 @@
+use Rattle.std.proofs.Common.{rules, ◌+◌, ◌≤◌, length}
+use Rattle.record_join.specs.BooksPasts.{key_limit, new_keys}
 use Rattle.protect_record.specs.Parts.{SameParts}
 use Rattle.record_join.specs.Preparing.{parts_size}
 use Rattle.record_join.proofs.KeyLemmas.{each_self}
 use Rattle.record_join.proofs.BooksLemmas.{all_same_stand, same_itself}
-use Rattle.record_join.proofs.FileLemmas.{all_joined, length_after, over_is}
+use Rattle.record_join.specs.KeyByKey.{TakesRecord}
+use Rattle.record_join.proofs.TakeLemmas.{taken_all, takes_record_from}
+use Rattle.record_join.proofs.FileLemmas.{all_joined, length_after, over_is, within_after, within_same}
 use Rattle.record_join.proofs.books.Books.join.Goals as goal
 
 pub returns-in-Some-clause-fault : goal.returns-in-Some-clause-fault
@@ -21,3 +25,16 @@ returns-clause-joined c =
 
 pub returns-clause-len : goal.returns-clause-len
 returns-clause-len c = rw (← c.self.view_is, ← c.other.view_is) (length_after parts_size _ _ _ _ c.in-Ok.ensures.ready.0 c.in-Ok.ensures.ready.1 c.join_records.ensures.len)
+
+pub returns-clause-each : goal.returns-clause-each
+returns-clause-each c =
+    let ready = c.in-Ok.ensures.ready in
+    rw (← c.self.view_is, ← c.other.view_is) (taken_all TakesRecord takes_record_from _ _ _ _ ready.0 ready.1.prepared c.join_records.ensures.each)
+
+pub invariant_of-self : goal.invariant_of-self
+invariant_of-self c = within_same _ _ _ c.in_default-prepare_records.ensures.err c.self.invariant
+
+pub invariant_of-self-2 : goal.invariant_of-self-2
+invariant_of-self-2 c =
+    let within : length c.self.inside.kept.entries + new_keys c.self.inside.kept.entries c.other.inside.kept.entries ≤ key_limit = search rules in
+    within_after parts_size _ _ _ _ _ _ c.in-Ok.ensures.ready.1 c.join_records.ensures.len within

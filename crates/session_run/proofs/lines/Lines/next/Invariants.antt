@@ -1,6 +1,6 @@
 use Rattle.std.proofs.Common.{◌≤◌, ◌<◌, ◌+◌}
 use Rattle.session_run.specs.Reading.{ReadsMore}
-use Rattle.session_run.specs.Lines.{input_limit}
+use Rattle.program_end.specs.Limits.{input_limit}
 use Rattle.session_run.proofs.lines.Lines.next.Given as goal
 
 abbrev pub invariant-reads : goal.invariant-reads

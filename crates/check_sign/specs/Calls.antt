@@ -1,0 +1,86 @@
+-- One call of a desk.
+use Rattle.std.specs.Prelude.{◌≡◌, ◌⊎◌, ◌↔◌, ℕ, ◌≤◌, Bool, List, [], ◌∷◌, ◌++◌, None, Some, is_some, IsSome, IsSomeAnd, IsTrue, map, if◌then◌else◌}
+use Rattle.std.specs.Map.{keys_of}
+use Rattle.edge_kit.specs.Causes.{Rose}
+use Rattle.edge_kit.specs.Disks.{LeavesOnly}
+use Rattle.edge_kit.specs.declared.bytes.PubKey.{PubKey}
+use Rattle.slash_defs.specs.declared.message.Message.{Message}
+use Rattle.protect_record.specs.Parts.{Parts, SameParts}
+use Rattle.protect_record.specs.Verdicts.{IsVerdict}
+use Rattle.protect_record.specs.declared.verdict.Verdict.TheVariants as verdict
+use Rattle.record_join.specs.Keys.{kept_of, EachKey}
+use Rattle.record_join.specs.KeyByKey.{Takes, TakesMessage}
+use Rattle.record_join.specs.Repeats.{IsKeptIn}
+use Rattle.record_replay.specs.Batches.{message_item}
+use Rattle.record_replay.specs.declared.state.KeyState.TheVariants.{Active}
+use Rattle.desk_machine.specs.States.{State, key_state}
+use Rattle.desk_machine.specs.Machine.{Reply, after, latest_after}
+use Rattle.desk_machine.specs.Grants.{IsGrantFor, IsIdleOrBusy, IsNumbered, grants_after, next_after}
+use Rattle.desk_machine.specs.Kinds.{IsKind}
+use Rattle.desk_machine.specs.Noted.{noted}
+use Rattle.desk_machine.specs.declared.call.DeskCall.{DeskCall}
+use Rattle.desk_machine.specs.declared.call.DeskCall.TheVariants as call
+use Rattle.desk_machine.specs.declared.call.DeskReply.{DeskReply}
+use Rattle.desk_machine.specs.declared.call.DeskReply.TheVariants as reply
+use Rattle.check_sign.specs.Contents.{Contents, Seen}
+use Rattle.check_sign.specs.Standing.{DeskStands, MayOpen}
+use Rattle.check_sign.specs.Writing.{Moved, journal_of, payloads_of}
+
+-- whichever state the desk stood for, the machine may give this reply, and the desk stands for the state after it
+abbrev pub IsStep : Contents → DeskCall → DeskReply → Contents → Type 0
+IsStep old c r new = (state : State) → DeskStands old state → Reply state c r × DeskStands new (after state c r)
+
+-- what is so even of a desk that stands for no state: the reply is of the call's kinds; a grant is for what was proposed, has the
+-- next number and is open from now on; a grant that is settled is open no more; a key is closed where none of its grants is open;
+-- just the call is noted; and the chain is the same
+pub record Counted (old : Contents) (c : DeskCall) (r : DeskReply) (new : Contents) : Type 0 where
+  pub kind : IsKind c r
+  pub granted : IsGrantFor c r
+  pub number : IsNumbered old.next c r
+  pub grants : new.grants ≡ grants_after old.grants c r
+  pub next : new.next ≡ next_after old.next c r
+  pub idle : IsIdleOrBusy old.grants c r
+  pub latest : new.latest ≡ latest_after old.latest c
+  pub events : new.events ≡ old.events ++ noted old.latest c r
+  pub genesis : new.genesis ≡ old.genesis
+
+-- A grant rests on the key's own record, whatever is kept of other keys, and even where a record stands for no past: no disk has
+-- failed, the key is active, and its record lets the message pass; the message is written, unless the record keeps it already, and
+-- the record has it from now on. Each other record keeps what it kept.
+pub record IsOwnGrant (old : Contents) (key : PubKey) (m : Message) (new : Contents) : Type 0 where
+  pub up : old.torn ≡ None
+  pub active : kept_of old.states key ≡ Some Active
+  pub repeat : Bool
+  pub passes : IsSomeAnd (kept_of old.keys key) (λ parts. IsVerdict parts m verdict.Pass × (IsTrue repeat ↔ IsKeptIn parts m))
+  pub is_written : new.payloads ≡ old.payloads ++ payloads_of (if repeat then [] else message_item key m ∷ [])
+  pub roomier : List (PubKey × Parts)
+  pub same : EachKey SameParts old.keys roomier
+  pub added : Takes TakesMessage roomier new.keys key m
+  pub states : new.states ≡ old.states
+
+-- the same of what is told: the kept keys in order, each with its state; and whether the disk has failed
+abbrev pub IsOwn : Contents → DeskCall → DeskReply → Contents → Type 0
+IsOwn old (call.Propose key m now) (reply.Granted grant) new = IsOwnGrant old key m new
+IsOwn old call.Keys (reply.Keys listed) new = (listed ≡ map (λ key. (key, key_state old.states key)) (keys_of old.keys)) × (new.keys ≡ old.keys) × (new.states ≡ old.states)
+IsOwn old call.HasFailed (reply.HasFailed failed) new = failed ≡ is_some old.torn
+IsOwn old c r new = Unit {0}
+
+-- each image of the disk opens to what the desk stands for
+abbrev pub LeavesDesk : {D : Type 0} → (D → ℕ) → (D → ℕ → List ℕ → Type 0) → D → Contents → Type 0
+LeavesDesk moment leaves disk desk = (state : State) → DeskStands desk state → (file : List ℕ) → leaves disk (moment disk) file → MayOpen desk.genesis state file
+
+-- One call: a step of the machine. A crash at any moment of it leaves a file that opens to what lasts of the state before or of
+-- the state after, and from now on of the latter. The disk's count of faults has not fallen, and the desk fails, or answers so
+-- for the first time, only where it rose. The other disk is the same. What is said of the journal's payloads holds even where the
+-- desk stands for no state.
+pub record IsCallOf {D : Type 0} (moment : D → ℕ) (leaves : D → ℕ → List ℕ → Type 0) (faults : D → ℕ) (old new : Seen D) (c : DeskCall) (r : DeskReply) : Type 0 where
+  pub machine : IsStep old.contents c r new.contents
+  pub counted : Counted old.contents c r new.contents
+  pub own : IsOwn old.contents c r new.contents
+  pub journal : Moved moment leaves faults (journal_of old) (journal_of new)
+  pub moments : (state : State) → DeskStands old.contents state → LeavesOnly moment leaves old.disk new.disk (λ file. MayOpen old.contents.genesis state file ⊎ MayOpen old.contents.genesis (after state c r) file)
+  pub left : LeavesDesk moment leaves new.disk new.contents
+  pub later : faults old.disk ≤ faults new.disk
+  pub fails : old.contents.torn ≡ None → IsSome new.contents.torn → Rose (faults old.disk) (faults new.disk)
+  pub rose : r ≡ reply.Disk → old.contents.torn ≡ None → Rose (faults old.disk) (faults new.disk)
+  pub second : new.second ≡ old.second

@@ -1,0 +1,58 @@
+//! Proposals of active keys.
+ghost use Rattle.std.specs.Prelude.{◌≡◌, ◌≤◌, None};
+ghost use Rattle.edge_kit.specs.Causes.{Rose};
+ghost use Rattle.desk_machine.specs.Machine.{moment_limit};
+ghost use Rattle.check_sign.specs.Calls.{IsStep, IsOwn, Counted};
+ghost use Rattle.check_sign.specs.Writing.{Moved, journal_of};
+ghost use Rattle.desk_machine.specs.declared.call.DeskCall.TheVariants as DeskCall;
+
+use crate::desk::Desk;
+use crate::marking::state_of;
+use crate::room::{give, make_room};
+use crate::writing::{refusal, write_message};
+use desk_machine::DeskReply;
+use edge_kit::{Disk, PubKey};
+use record_join::Judged;
+use record_replay::{KeyState, replay_laws};
+use slash_defs::Message;
+
+impl<D: Disk> Desk<D> {
+    /// Grants a proposal of an active key whose past lets it pass, once it is on the disk.
+    pub(crate) fn propose_message(&mut self, key: PubKey, message: Message, now: u64) -> DeskReply
+        requires { now ≤ moment_limit }
+        ensures machine { IsStep self.old.contents (DeskCall.Propose key message now) result self.new.contents }
+        ensures counted { Counted self.old.contents (DeskCall.Propose key message now) result self.new.contents }
+        ensures own { IsOwn self.old.contents (DeskCall.Propose key message now) result self.new.contents }
+        ensures rose { result ≡ DeskReply.Disk → self.old.contents.torn ≡ None → Rose (D.faults self.old.disk) (D.faults self.new.disk) }
+        ensures moved { Moved D.moment D.leaves D.faults (journal_of self.old) (journal_of self.new) }
+        ensures second { self.new.second ≡ self.old.second }
+    {
+        self.latest = self.latest.max(now);
+        if self.journal.failed() {
+            return DeskReply::Disk;
+        }
+        let Some(_) = self.books.get(&key) else {
+            return DeskReply::Unknown;
+        };
+        match state_of(&self.states, &key) {
+            KeyState::Active => {}
+            KeyState::Closing => return DeskReply::Closing,
+            KeyState::Known | KeyState::Closed => return DeskReply::NotActive,
+        }
+        replay_laws();
+        let has_room = make_room(&mut self.events, &mut self.grants, self.closable);
+        let repeat = match self.books.judge(&key, &message, has_room) {
+            Judged::Unknown => return DeskReply::Unknown,
+            Judged::Refused(verdict) => return DeskReply::Refused(verdict),
+            Judged::NoRoom => return DeskReply::OutOfMemory,
+            Judged::Ready { repeat } => repeat,
+        };
+        if let Err(fault) = write_message(&mut self.journal, self.alloc, key, &message, repeat) {
+            return refusal(fault);
+        }
+        self.books.add(&key, &message);
+        let latest = self.latest;
+        let grant = give(&mut self.events, &mut self.grants, key, message, latest);
+        DeskReply::Granted(grant)
+    }
+}

@@ -1,0 +1,91 @@
+-- The states of the desk machine.
+use Rattle.std.specs.Prelude.{◌≡◌, ◌≢◌, ℕ, Bool, true, false, List, [], Option, None, Some, unwrap_or, if◌then◌else◌}
+use Rattle.std.specs.List.{list_any}
+use Rattle.std.specs.BTreeMap.{is_at}
+use Rattle.edge_kit.specs.declared.bytes.PubKey.{PubKey}
+use Rattle.edge_kit.specs.declared.bytes.Root.{Root}
+use Rattle.protect_record.specs.Pasts.{Past}
+use Rattle.record_join.specs.Keys.{key_cmp, kept_of}
+use Rattle.record_replay.specs.Replaying.{lasting_states}
+use Rattle.record_replay.specs.declared.state.KeyState.{KeyState}
+use Rattle.record_replay.specs.declared.state.KeyState.TheVariants.{Known, Active, Closing, Closed}
+use Rattle.desk_machine.specs.declared.open_grant.OpenGrant.{OpenGrant}
+
+-- what outlasts a stop: each kept key with its past, in key order; the state of each that was activated or closed; and the
+-- size of the journal in bytes
+pub record Lasting : Type 0 where
+  pub keys : List (PubKey × Past)
+  pub states : List (PubKey × KeyState)
+  pub size : ℕ
+
+-- beside that, the chain's genesis root; the open grants and the number of the next; the latest moment; whether keys are
+-- watched; and, where a fault of the disk tore a call, what would have outlasted its Ok: such a desk has failed
+pub record State : Type 0 where
+  pub genesis : Root
+  pub keys : List (PubKey × Past)
+  pub states : List (PubKey × KeyState)
+  pub grants : List OpenGrant
+  pub next : ℕ
+  pub latest : ℕ
+  pub watch : Bool
+  pub size : ℕ
+  pub torn : Option Lasting
+
+abbrev pub lasting : State → Lasting
+lasting state = record { keys = state.keys; states = state.states; size = state.size }
+
+-- nothing is kept, in a journal of its header alone
+abbrev pub nothing_lasts : Lasting
+nothing_lasts = record { keys = []; states = []; size = 42 }
+
+-- the state of a desk that is opened, at this moment, over what lasted: no grant is open, and a closing key is active
+abbrev pub reopened : Root → Lasting → Bool → ℕ → State
+reopened genesis l watch now = record {
+  genesis = genesis;
+  keys = l.keys;
+  states = lasting_states l.states;
+  grants = [];
+  next = 0;
+  latest = now;
+  watch = watch;
+  size = l.size;
+  torn = None;
+}
+
+-- the state of an empty desk
+abbrev pub no_state : Root → State
+no_state genesis = reopened genesis nothing_lasts false 0
+
+-- what was imported and recorded for a key, where it is kept
+abbrev pub past_of : State → PubKey → Option Past
+past_of state key = kept_of state.keys key
+
+-- the state of a key that is kept
+abbrev pub key_state : List (PubKey × KeyState) → PubKey → KeyState
+key_state states key = unwrap_or (kept_of states key) Known
+
+-- the key is among these
+abbrev pub is_among : List PubKey → PubKey → Bool
+is_among keys key = list_any (is_at (key_cmp key)) keys
+
+abbrev pub is_active : KeyState → Bool
+is_active Known = false
+is_active Active = true
+is_active Closing = false
+is_active Closed = false
+
+-- the key may sign
+abbrev pub IsActive : State → PubKey → Type 0
+IsActive state key = kept_of state.states key ≡ Some Active
+
+-- the key is being closed
+abbrev pub IsClosing : State → PubKey → Type 0
+IsClosing state key = kept_of state.states key ≡ Some Closing
+
+-- neither: it may become active
+abbrev pub IsIdle : State → PubKey → Type 0
+IsIdle state key = (kept_of state.states key ≢ Some Active) × (kept_of state.states key ≢ Some Closing)
+
+-- the past of a key that may sign
+abbrev pub active_past : State → PubKey → Option Past
+active_past state key = if is_active (key_state state.states key) then past_of state key else None

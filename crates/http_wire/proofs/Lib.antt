@@ -1,0 +1,19 @@
+pub mod ListLemmas
+pub mod FrontLemmas
+pub mod BlankLemmas
+mod BoundLemmas
+pub mod ListenLemmas
+pub mod TakeLemmas
+pub mod HeadLemmas
+pub mod FramingLemmas
+pub mod FramingRuleLemmas
+pub mod StepLemmas
+pub mod ChunkedLemmas
+pub mod RequestLemmas
+pub mod ResponseLemmas
+pub mod UniqueLemmas
+pub mod WriteLemmas
+pub mod ReadBackLemmas
+pub mod ResponseBackLemmas
+pub mod RefusalLemmas
+pub mod ResponseLaws

@@ -1,0 +1,7 @@
+use Rattle.std.proofs.Common.{arith}
+use Rattle.std.proofs.lemmas.Grind.{common_steps}
+use Rattle.std.proofs.lemmas.Bool.Decides.{nat_tests}
+use Rattle.http_wire.proofs.write.push_body_fields.Goals as goal
+
+pub returns : goal.returns
+returns c = grind (arith, nat_tests, common_steps)

@@ -1,0 +1,17 @@
+pub mod Fronts
+pub mod Listening
+pub mod Looks
+pub mod Heads
+pub mod Ends
+pub mod Framings
+pub mod FramingRules
+pub mod Parts
+pub mod Chunks
+pub mod Sizes
+pub mod Bodies
+pub mod Bounds
+pub mod Steps
+pub mod Messages
+pub mod Spellings
+pub mod ReadBack
+pub mod Codings

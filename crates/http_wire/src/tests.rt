@@ -1,0 +1,260 @@
+//! Messages that are read and written over a link.
+ghost use Rattle.std.specs.Prelude.{None};
+
+use crate::{
+    Field, Request, Response, WireFault, read_request, read_response, write_request, write_response,
+};
+use edge_kit::{Failed, Link, MemLink};
+use http::Method;
+use std::alloc::{AllocError, Global};
+use std::test::Fail;
+
+/// How what a peer says is cut into pieces.
+#[derive(Clone, Copy)]
+enum Cut {
+    /// Into two, behind so many bytes.
+    Behind(usize),
+    /// Into single bytes.
+    Each,
+}
+
+/// A link whose peer says these bytes in pieces. It tells nothing.
+#[derive(Drop)]
+struct CutLink<'a> {
+    bytes: &'a [u8],
+    cut: Cut,
+}
+
+impl<'a> Link for CutLink<'a> {
+    ghost left = { λ _. None };
+
+    ghost coming = { λ _. None };
+
+    ghost held = { λ _. None };
+
+    ghost faults = { λ _. 0 };
+
+    fn connect(&mut self) -> Result<(), Failed> {
+        Ok(())
+    }
+
+    fn send(&mut self, piece: &[u8]) -> Result<usize, Failed> {
+        Ok(piece.len())
+    }
+
+    fn recv(&mut self, buf: &mut [u8]) -> Result<usize, Failed> {
+        let most = match self.cut {
+            Cut::Behind(count) if count > 0 => count,
+            Cut::Behind(_) => self.bytes.len(),
+            Cut::Each => 1,
+        };
+        let count = most.min(buf.len()).min(self.bytes.len());
+        buf[..count].copy_from_slice(&self.bytes[..count]);
+        self.bytes = &self.bytes[count..];
+        if let Cut::Behind(before) = self.cut {
+            self.cut = Cut::Behind(before.saturating_sub(count));
+        }
+        Ok(count)
+    }
+
+    fn hang_up(&mut self) -> Result<(), Failed> {
+        Ok(())
+    }
+}
+
+/// The body of the request that the bytes spell and how many bytes are left behind it, or its fault.
+fn request_words(alloc: Global, bytes: &[u8], cut: Cut) -> Result<String, AllocError> {
+    let mut link = CutLink { bytes, cut };
+    match read_request(alloc, &mut link) {
+        Ok(request) => {
+            let body = String::from_utf8_lossy(alloc, request.body.as_slice())?;
+            format!(in alloc; "{} {}", body.as_str(), link.bytes.len())
+        }
+        Err(fault) => format!(in alloc; "{fault:?}"),
+    }
+}
+
+/// The status and the body of the response that the bytes spell and how many bytes are left behind it, or
+/// its fault.
+fn response_words(alloc: Global, bytes: &[u8], cut: Cut) -> Result<String, AllocError> {
+    let mut link = CutLink { bytes, cut };
+    match read_response(alloc, &mut link) {
+        Ok(response) => {
+            let body = String::from_utf8_lossy(alloc, response.body.as_slice())?;
+            format!(in alloc;
+                "{} {} {}",
+                response.status,
+                body.as_str(),
+                link.bytes.len()
+            )
+        }
+        Err(fault) => format!(in alloc; "{fault:?}"),
+    }
+}
+
+/// Whether a request is read as these words, byte by byte and however it is cut into two.
+fn is_request(alloc: Global, bytes: &[u8], wanted: &str) -> Result<bool, AllocError> {
+    let words = request_words(alloc, bytes, Cut::Each)?;
+    let mut is_same = words.as_str() == wanted;
+    for count in 0..bytes.len() {
+        let words = request_words(alloc, bytes, Cut::Behind(count))?;
+        is_same = is_same && words.as_str() == wanted;
+    }
+    Ok(is_same)
+}
+
+/// Whether a response is, likewise.
+fn is_response(alloc: Global, bytes: &[u8], wanted: &str) -> Result<bool, AllocError> {
+    let words = response_words(alloc, bytes, Cut::Each)?;
+    let mut is_same = words.as_str() == wanted;
+    for count in 0..bytes.len() {
+        let words = response_words(alloc, bytes, Cut::Behind(count))?;
+        is_same = is_same && words.as_str() == wanted;
+    }
+    Ok(is_same)
+}
+
+/// What follows the first line, and what is read.
+const REQUESTS: [(&str, &str); 21] = [
+    ("Content-Length: 5\r\n\r\nhellonext", "hello 4"),
+    ("Content-Length: 5\r\n\r\nhell", "BadBody"),
+    ("Content-Length: 16777217\r\n\r\n", "TooLong(16777216)"),
+    ("Content-Length: +5\r\n\r\nhello", "BadBody"),
+    ("Content-Length: 5, 5\r\n\r\nhello", "BadBody"),
+    ("Content-Length: 5 5\r\n\r\nhello", "BadBody"),
+    ("Content-Length: 0x5\r\n\r\nhello", "BadBody"),
+    ("Content-Length:\r\n\r\n", "BadBody"),
+    ("Content-Length: 18446744073709551621\r\n\r\n", "BadBody"),
+    ("content-length: 5\nContent-Length: 5\n\nhello", "hello 0"),
+    ("Content-Length: 1\r\nContent-Length: 2\r\n\r\n", "BadBody"),
+    ("Content-Length : 5\r\n\r\nhello", "BadHead"),
+    ("A: b\rContent-Length: 5\r\n\r\nhello", "BadHead"),
+    ("A: b\r\n Content-Length: 5\r\n\r\nhello", "BadHead"),
+    ("Transfer-Encoding: gzip\r\n\r\n", "BadBody"),
+    ("Transfer-Encoding: gzip, chunked\r\n\r\n", "BadBody"),
+    ("\r\nnext", " 4"),
+    ("no field\r\n\r\n", "BadHead"),
+    ("A: b\r\n", "BadHead"),
+    ("Content-Encoding: br\r\n\r\nx", "Encoded([98, 114])"),
+    ("Content-Encoding: Identity\r\n\r\nx", " 1"),
+];
+
+/// What follows a field that says chunked, and what is read.
+const CHUNKED: [(&str, &str); 10] = [
+    ("\r\n5\r\nhello\r\n0\r\n\r\nnext", "hello 4"),
+    ("\r\n5\r\nhello\r\n", "BadBody"),
+    ("\r\nFFFFFFFFFFFFFFFFF\r\n", "BadBody"),
+    ("\r\n1000001\r\n", "TooLong(16777216)"),
+    ("\r\n1;x=y\r\nhxx", "BadBody"),
+    ("\r\n5\nhello\n0\n\n", "BadBody"),
+    ("\r\n1\r\nh\r\n0\r\nA: b\r\n\r\nx", "h 1"),
+    ("\r\n0\r\nno field\r\n\r\n", "BadBody"),
+    ("Content-Length: 5\r\n\r\n0\r\n\r\n", "BadBody"),
+    ("Transfer-Encoding: chunked\r\n\r\n0\r\n\r\n", "BadBody"),
+];
+
+#[test]
+fn requests_are_what_the_bytes_spell_however_they_are_cut(rt: HostRuntime) -> Result<(), Fail> {
+    for (rest, wanted) in REQUESTS {
+        let text = format!(in rt.alloc(); "\r\n\nPOST /a HTTP/1.1\r\n{rest}")?;
+        let is_same = is_request(rt.alloc(), text.as_bytes(), wanted)?;
+        assert!(rt; is_same, "at {rest}");
+    }
+    Ok(())
+}
+
+#[test]
+fn chunks_are_what_the_bytes_spell_however_they_are_cut(rt: HostRuntime) -> Result<(), Fail> {
+    let head = "POST /a HTTP/1.1\r\nTransfer-Encoding: chunked\r\n";
+    for (rest, wanted) in CHUNKED {
+        let text = format!(in rt.alloc(); "{head}{rest}")?;
+        let is_same = is_request(rt.alloc(), text.as_bytes(), wanted)?;
+        assert!(rt; is_same, "at {rest}");
+    }
+    Ok(())
+}
+
+const INTERIM: &str = "HTTP/1.1 103 Hints\r\n\r\n";
+
+const LOUD: &str = "HTTP/1.1 200\nTransfer-Encoding: CHUNKED\n\n1\r\nx\r\n0\r\nA: b\r\n\r\ny";
+
+const RESPONSES: [(u8, &str, &str); 8] = [
+    (0, "HTTP/1.1 200 OK\r\n\r\nhello", "200 hello 0"),
+    (1, "HTTP/1.1 412\r\nContent-Length:1\r\n\r\nxy", "412 x 1"),
+    (0, LOUD, "200 x 1"),
+    (0, "HTTP/1.1 20\r\n\r\n", "BadHead"),
+    (0, "HTTP/1.1 204 No Content\r\n\r\n", "204  0"),
+    (0, "HTTP/1.1 100 Continue\r\n\r\n", "BadHead"),
+    (8, "HTTP/1.1 200 OK\r\n\r\nx", "200 x 0"),
+    (9, "HTTP/1.1 200 OK\r\n\r\nx", "BadHead"),
+];
+
+#[test]
+fn responses_are_what_the_bytes_spell_however_they_are_cut(rt: HostRuntime) -> Result<(), Fail> {
+    for (interim, response, wanted) in RESPONSES {
+        let mut bytes = Vec::new(rt.alloc());
+        for _ in 0..interim {
+            bytes.extend_from_slice(INTERIM.as_bytes())?;
+        }
+        bytes.extend_from_slice(response.as_bytes())?;
+        let is_same = is_response(rt.alloc(), bytes.as_slice(), wanted)?;
+        assert!(rt; is_same, "at {interim} {response}");
+    }
+    Ok(())
+}
+
+/// A link that is connected, whose peer says these bytes, and whose call of this number fails.
+fn saying(alloc: Global, bytes: &[u8], failing: u64) -> Result<MemLink, AllocError> {
+    let mut conversations = Vec::new(alloc);
+    conversations.push(Vec::from_slice(alloc, bytes)?)?;
+    let mut calls = Vec::new(alloc);
+    calls.push(failing)?;
+    let mut link = MemLink::new(alloc, conversations, 1000, calls)?;
+    let _ = link.connect();
+    Ok(link)
+}
+
+#[test]
+fn a_read_that_fails_is_the_links_fault(rt: HostRuntime) -> Result<(), Fail> {
+    let bytes = b"GET /a HTTP/1.1\r\n\r\n";
+    for call in 1..=20u64 {
+        let mut link = saying(rt.alloc(), bytes, call)?;
+        let is_link = matches!(read_request(rt.alloc(), &mut link), Err(WireFault::Link));
+        assert_eq!(rt; is_link, call <= 19, "at {call}");
+    }
+    Ok(())
+}
+
+#[test]
+fn messages_are_written_in_one_way(rt: HostRuntime) -> Result<(), Fail> {
+    let alloc = rt.alloc();
+    let mut link = saying(alloc, b"", 100)?;
+    let request = Request {
+        method: Method::POST,
+        target: Vec::from_slice(alloc, b"/a")?,
+        fields: Vec::new(alloc),
+        body: Vec::from_slice(alloc, b"[]")?,
+    };
+    let Ok(()) = write_request(alloc, &mut link, &request) else {
+        return Err(Fail::from("not written"));
+    };
+    let mut fields = Vec::new(alloc);
+    fields.push(Field {
+        name: Vec::from_slice(alloc, b"A")?,
+        value: Vec::from_slice(alloc, b"b")?,
+    })?;
+    let response = Response {
+        status: 401,
+        fields,
+        body: Vec::from_slice(alloc, b"{}")?,
+    };
+    let Ok(()) = write_response(alloc, &mut link, &response) else {
+        return Err(Fail::from("not written"));
+    };
+    let sent = String::from_utf8_lossy(alloc, link.into_sent().as_slice())?;
+    assert_eq!(rt;
+        sent.as_str(),
+        "POST /a HTTP/1.1\r\nAccept: application/json\r\nConnection: close\r\nContent-Type: application/json\r\nContent-Length: 2\r\n\r\n[]HTTP/1.1 401 Unauthorized\r\nA: b\r\nContent-Type: application/json\r\nContent-Length: 2\r\nConnection: close\r\n\r\n{}"
+    );
+    Ok(())
+}

@@ -1,0 +1,27 @@
+use Rattle.std.proofs.Common.{◌+◌, ◌*◌, length}
+use Rattle.json_walk.proofs.WalkLemmas.{ItemsWalk, MembersWalk}
+use Rattle.json_walk.proofs.skipping.+skip.Given as goal
+
+abbrev pub decreases-skip : goal.decreases-skip
+decreases-skip l = 3 * l.depth + 1
+
+abbrev pub decreases-skip_rest : goal.decreases-skip_rest
+decreases-skip_rest l = 3 * l.depth
+
+abbrev pub decreases-skip_items : goal.decreases-skip_items
+decreases-skip_items l = 3 * l.depth + 2
+
+abbrev pub decreases-skip_members : goal.decreases-skip_members
+decreases-skip_members l = 3 * l.depth + 2
+
+abbrev pub invariant-skip_items-items : goal.invariant-skip_items-items
+invariant-skip_items-items l = ItemsWalk (λ before. Unit {0}) l.depth l.initial.reader l.reader
+
+abbrev pub decreases-skip_items-items : goal.decreases-skip_items-items
+decreases-skip_items-items l = length l.reader
+
+abbrev pub invariant-skip_members-members : goal.invariant-skip_members-members
+invariant-skip_members-members l = MembersWalk (λ found. Unit {0}) l.depth l.initial.reader l.reader
+
+abbrev pub decreases-skip_members-members : goal.decreases-skip_members-members
+decreases-skip_members-members l = length l.reader

@@ -1,0 +1,4 @@
+pub mod Closing
+pub mod Codes
+pub mod Endings
+pub mod Limits

@@ -1,0 +1,5 @@
+//! Tests of the records of keys: the worked rows of imported books, the order of entries, and the steps of a check.
+#![tactic(auto)]
+
+#[cfg(test)]
+mod records;

@@ -1,0 +1,10 @@
+//! The address of a service that is called over HTTP.
+#![tactic(auto)]
+
+mod ends;
+mod service;
+
+pub use service::ServiceUrl;
+
+#[cfg(test)]
+mod tests;

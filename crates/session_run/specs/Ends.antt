@@ -1,0 +1,116 @@
+-- How a session ends.
+use Rattle.std.specs.Prelude.{◌≡◌, ℕ, ◌<◌, ◌⊎◌, List, [], ◌∷◌, ◌++◌, length, take, Option, None, IsSome, Result}
+use Rattle.std.proofs.Common.{inl, inr}
+use Rattle.std.specs.Io.KnownBytes.{Appends}
+use Rattle.edge_kit.specs.Causes.{Rose}
+use Rattle.edge_kit.specs.declared.bytes.Root.{Root}
+use Rattle.sign_roots.specs.declared.domains.Domains.{Domains}
+use Rattle.desk_machine.specs.States.{State}
+use Rattle.check_sign.specs.Standing.{MayOpen}
+use Rattle.check_sign.specs.Calls.{LeavesDesk}
+use Rattle.desk_machine.specs.declared.call.Outcome.TheVariants.{Dropped}
+use Rattle.session_format.specs.Requests.{request_of}
+use Rattle.session_format.specs.declared.request.Request.{Request}
+use Rattle.session_format.specs.declared.member.Member.{Member}
+use Rattle.program_end.specs.Closing.{closing_text}
+use Rattle.program_end.specs.declared.closing.ClosingLine.{ClosingLine}
+use Rattle.program_end.specs.declared.closing.ClosingLine.TheVariants as closing
+use Rattle.program_end.specs.declared.status.Status.{Status}
+use Rattle.program_end.specs.declared.status.Status.TheVariants as status
+use Rattle.check_sign.specs.Images.{OpensEither}
+use Rattle.session_run.specs.Acts.{AtBench, Unanswered}
+use Rattle.session_run.specs.Inputs.{HasRead, ReadsWhole, ReadsFirst, IsNext, StopsReading, StoppedShort, PassesLimit}
+use Rattle.session_run.specs.Runs.{Run, Ran, Laws}
+use Rattle.session_run.specs.Moments.{Images}
+use Rattle.session_run.specs.Turns.{Turn, moment_after, state_after, text_of, written}
+
+-- what an input and an output tell, and how often each failed
+pub record Wires : Type 0 where
+  pub left : Option (List ℕ)
+  pub held : Option (List ℕ)
+  pub reads_failed : ℕ
+  pub writes_failed : ℕ
+
+-- Why a closing line is written behind the answers of these turns, over a desk with its disk: the input failed within a line, or
+-- passed a limit, and the desk is up; or the disk failed at the last of the turns, which are whole lines.
+abbrev pub Because : {D : Type 0} → (D → ℕ) → List Turn → AtBench D → AtBench D → Wires → Wires → ClosingLine → Type 0
+Because faults turns bench_before bench_now before now closing.ReadFault =
+    Rose before.reads_failed now.reads_failed × StopsReading before.left now.left turns StoppedShort × (bench_now.desk.contents.torn ≡ None)
+Because faults turns bench_before bench_now before now (closing.TooLong l) =
+    StopsReading before.left now.left turns (PassesLimit l) × (bench_now.desk.contents.torn ≡ None)
+Because faults turns bench_before bench_now before now closing.DiskFault =
+    Rose (faults bench_before.desk.disk) (faults bench_now.desk.disk) × IsSome bench_now.desk.contents.torn × ReadsFirst before.left now.left turns
+Because faults turns bench_before bench_now before now (closing.Damaged offset byte) = ⊥
+Because faults turns bench_before bench_now before now (closing.GenesisDiffers kept given) = ⊥
+Because faults turns bench_before bench_now before now (closing.FileRefused r) = ⊥
+Because faults turns bench_before bench_now before now (closing.Usage line) = ⊥
+
+-- a text was written, or a front of it that isn't the whole
+abbrev pub IsWhole : Option (List ℕ) → Option (List ℕ) → List ℕ → Type 0
+IsWhole held_before held_now text = Appends held_before held_now text
+
+abbrev pub IsFront : Option (List ℕ) → Option (List ℕ) → List ℕ → Type 0
+IsFront held_before held_now text = (count : ℕ) × (count < length text) × Appends held_before held_now (take count text)
+
+-- each turn was answered, and then this line was written so
+pub record Closed {D : Type 0} (faults : D → ℕ) (turns : List Turn) (bench_before bench_now : AtBench D) (before now : Wires) (line : ClosingLine) (IsWritten : Option (List ℕ) → Option (List ℕ) → List ℕ → Type 0) : Type 0 where
+  pub because : Because faults turns bench_before bench_now before now line
+  pub held : Option (List ℕ)
+  pub answered : Appends before.held held (written turns)
+  pub closed : IsWritten held now.held (closing_text line)
+
+-- each turn but the last was answered, and of the answer of the last a front was written
+pub record CutShort (turns : List Turn) (before now : Wires) : Type 0 where
+  pub front : List Turn
+  pub last : Turn
+  pub turns_are : turns ≡ front ++ last ∷ []
+  pub first : ReadsFirst before.left now.left turns
+  pub held : Option (List ℕ)
+  pub answered : Appends before.held held (written front)
+  pub cut : IsFront held now.held (text_of last)
+
+-- each turn was answered, and of the line behind them nothing was written: none was begun, or the next one, at a desk that was up
+pub record LeavesOff {D : Type 0} (turns : List Turn) (line : List ℕ) (mid bench_now : AtBench D) (before now : Wires) : Type 0 where
+  pub pending : List ℕ
+  pub total : ℕ
+  pub has_read : HasRead before.left now.left turns pending total
+  pub answered : Appends before.held now.held (written turns)
+  pub up : mid.desk.contents.torn ≡ None
+  pub is_next : (bench_now ≡ mid) ⊎ IsNext now.left pending line
+
+-- What each status says of the turns: what was read, what was written, and why. `mid` is the bench behind the last turn.
+abbrev pub EndsBy : {D : Type 0} → (D → ℕ) → List Turn → List ℕ → AtBench D → AtBench D → AtBench D → Wires → Wires → Status → Type 0
+EndsBy faults turns line bench_before mid bench_now before now status.Done =
+    (bench_now ≡ mid) × ReadsWhole before.left now.left turns × Appends before.held now.held (written turns) × (bench_now.desk.contents.torn ≡ None)
+EndsBy faults turns line bench_before mid bench_now before now status.ReadFault = (bench_now ≡ mid) × Closed faults turns bench_before bench_now before now closing.ReadFault IsWhole
+EndsBy faults turns line bench_before mid bench_now before now (status.InputTooLong l) = (bench_now ≡ mid) × Closed faults turns bench_before bench_now before now (closing.TooLong l) IsWhole
+EndsBy faults turns line bench_before mid bench_now before now status.DiskFault = (bench_now ≡ mid) × Closed faults turns bench_before bench_now before now closing.DiskFault IsWhole
+EndsBy faults turns line bench_before mid bench_now before now status.WriteFault =
+    (bench_now ≡ mid) × Rose before.writes_failed now.writes_failed
+    × (CutShort turns before now ⊎ ((own : ClosingLine) × Closed faults turns bench_before bench_now before now own IsFront))
+EndsBy faults turns line bench_before mid bench_now before now status.OutOfMemory = LeavesOff turns line mid bench_now before now
+EndsBy faults turns line bench_before mid bench_now before now status.Usage = ⊥
+EndsBy faults turns line bench_before mid bench_now before now status.Damaged = ⊥
+EndsBy faults turns line bench_before mid bench_now before now status.GenesisDiffers = ⊥
+EndsBy faults turns line bench_before mid bench_now before now status.FileRefused = ⊥
+
+-- behind the last turn: what lasts of the state after it, or after the call of a line that is not answered
+abbrev pub OpensLast : {D : Type 0} (moment : D → ℕ) (leaves : D → ℕ → List ℕ → Type 0) (faults : D → ℕ) (domains : Domains) (latest : ℕ) (q : Result Request Member) (before now : AtBench D)
+    → Unanswered moment leaves faults domains latest q before now → Root → State → List ℕ → Type 0
+OpensLast moment leaves faults domains latest q before now (inl same) genesis state file = MayOpen genesis state file
+OpensLast moment leaves faults domains latest q before now (inr undone) genesis state file = OpensEither genesis (λ s. state_after s undone.call undone.reply Dropped) state file
+
+-- How a session ends, over the bench and the wires before it and now. Some lines were served, a turn each, and behind them one may
+-- have been begun and not answered, where memory ran out. What the status says, the images of the disk at each moment, and the
+-- laws are of these turns.
+pub record Ends {D : Type 0} (moment : D → ℕ) (leaves : D → ℕ → List ℕ → Type 0) (faults : D → ℕ) (domains : Domains) (bench_before bench_now : AtBench D) (before now : Wires) (result : Status) : Type 0 where
+  pub turns : List Turn
+  pub mid : AtBench D
+  pub line : List ℕ
+  pub run : Run moment leaves faults domains 0 turns bench_before mid
+  pub unanswered : Unanswered moment leaves faults domains (moment_after 0 turns) (request_of domains line) mid bench_now
+  pub ends : EndsBy faults turns line bench_before mid bench_now before now result
+  pub ran : Ran faults domains 0 turns bench_before mid
+  pub laws : Laws 0 turns bench_before
+  pub images : LeavesDesk moment leaves bench_before.desk.disk bench_before.desk.contents
+      → Images moment leaves bench_before.desk bench_now.desk (OpensLast moment leaves faults domains (moment_after 0 turns) (request_of domains line) mid bench_now unanswered bench_before.desk.contents.genesis) 0 turns

@@ -1,0 +1,44 @@
+-- What is signed that is no block and no vote, and the root that is asked for.
+use Rattle.std.specs.Prelude.{◌≢◌, ℕ, ◌/◌, List}
+use Rattle.phase0_types.specs.Roots.{root_of}
+use Rattle.phase0_types.specs.Shapes.{uint64}
+use Rattle.phase0_types.specs.Containers.{voluntary_exit}
+use Rattle.phase0_blocks.specs.Operations.{voluntary_exit_value}
+use Rattle.sign_roots.specs.Domains.{domain_of}
+use Rattle.sign_roots.specs.SigningRoots.{signing_root_of, slots_per_epoch}
+use Rattle.sign_roots.specs.declared.kind.DomainKind.{DomainKind}
+use Rattle.sign_roots.specs.declared.kind.DomainKind.TheVariants as kind
+use Rattle.signer_link.specs.declared.request.PlainObject.{PlainObject}
+use Rattle.signer_link.specs.declared.request.PlainObject.TheVariants as object
+use Rattle.signer_link.specs.declared.request.PlainRequest.{PlainRequest}
+
+-- the kind of the domain (consensus-specs, "Domain types")
+abbrev pub plain_kind : PlainObject → DomainKind
+plain_kind (object.RandaoReveal epoch) = kind.Randao
+plain_kind (object.AggregationSlot slot) = kind.SelectionProof
+plain_kind (object.VoluntaryExit exit) = kind.VoluntaryExit
+
+-- the epoch of the domain
+abbrev pub plain_epoch : PlainObject → ℕ
+plain_epoch (object.RandaoReveal epoch) = epoch
+plain_epoch (object.AggregationSlot slot) = slot / slots_per_epoch
+plain_epoch (object.VoluntaryExit exit) = exit.epoch
+
+-- the object's own root
+abbrev pub plain_object_root : PlainObject → List ℕ
+plain_object_root (object.RandaoReveal epoch) = root_of uint64 epoch
+plain_object_root (object.AggregationSlot slot) = root_of uint64 slot
+plain_object_root (object.VoluntaryExit exit) = root_of voluntary_exit (voluntary_exit_value exit)
+
+-- the domain (consensus-specs, `get_domain`)
+abbrev pub plain_domain : PlainRequest → List ℕ
+plain_domain q = domain_of (record { fork = q.fork; genesis = q.genesis }) (plain_kind q.object) (plain_epoch q.object)
+
+-- the root that is asked for (consensus-specs, `compute_signing_root`)
+abbrev pub plain_root : PlainRequest → List ℕ
+plain_root q = signing_root_of (plain_object_root q.object) (plain_domain q)
+
+-- it is under no proposer's and no attester's domain
+pub record IsPlain (q : PlainRequest) : Type 0 where
+  pub no_proposer : plain_kind q.object ≢ kind.BeaconProposer
+  pub no_attester : plain_kind q.object ≢ kind.BeaconAttester

@@ -1,0 +1,133 @@
+//! What the signing service is asked.
+ghost use Rattle.std.specs.Prelude.{◌≡◌};
+ghost use Rattle.signer_link.specs.Plain.{plain_domain, plain_epoch, plain_kind, plain_object_root, plain_root};
+
+use edge_kit::{Items, PubKey, Root};
+use phase0_blocks::VoluntaryExit;
+use phase0_types::{AttestationData, BeaconBlockHeader, Fork, Shaped};
+use sign_roots::{DomainKind, Domains, signing_root};
+use slash_defs::Message;
+
+/// How many slots an epoch has (consensus-specs, `SLOTS_PER_EPOCH`).
+const SLOTS_PER_EPOCH: u64 = 32;
+
+/// The object that a message was made of (Web3Signer: `beacon_block` with a header, `attestation`).
+#[derive(Clone, Copy, PartialEq, Eq, Debug)]
+pub enum SignObject {
+    /// The header of a block.
+    Header(BeaconBlockHeader),
+    /// The data of a vote.
+    Attestation(AttestationData),
+}
+
+/// What goes to the service beside the key and the message of the grant. The type of the request is the
+/// message's: `BLOCK_V2` for a block, `ATTESTATION` for a vote.
+#[derive(Clone, Copy, PartialEq, Eq, Debug)]
+pub struct SignRequest {
+    /// The chain's fork.
+    pub fork: Fork,
+    /// The root of the chain's genesis validators.
+    pub genesis: Root,
+    /// What the message was made of, where it is known.
+    pub object: Option<SignObject>,
+}
+
+/// What is signed that is no block and no vote, and so can be in no slashable pair.
+#[derive(Clone, Copy, PartialEq, Eq, Debug)]
+pub enum PlainObject {
+    /// The epoch that a proposer reveals its randomness for (Web3Signer: `RANDAO_REVEAL`).
+    RandaoReveal { epoch: u64 },
+    /// The slot that an aggregator is chosen for (`AGGREGATION_SLOT`).
+    AggregationSlot { slot: u64 },
+    /// An exit (`VOLUNTARY_EXIT`).
+    VoluntaryExit(VoluntaryExit),
+}
+
+impl PlainObject {
+    /// The kind of the domain that it is signed under, which is no proposer's and no attester's.
+    fn kind(&self) -> DomainKind
+        ensures { result ≡ plain_kind self.now }
+    {
+        match self {
+            PlainObject::RandaoReveal { .. } => DomainKind::Randao,
+            PlainObject::AggregationSlot { .. } => DomainKind::SelectionProof,
+            PlainObject::VoluntaryExit(_) => DomainKind::VoluntaryExit,
+        }
+    }
+
+    /// The epoch of its domain.
+    fn epoch(&self) -> u64
+        ensures { result ≡ plain_epoch self.now }
+    {
+        match self {
+            PlainObject::RandaoReveal { epoch } => *epoch,
+            PlainObject::AggregationSlot { slot } => *slot / SLOTS_PER_EPOCH,
+            PlainObject::VoluntaryExit(exit) => exit.epoch,
+        }
+    }
+
+    /// Its own root.
+    #[tactic(auto, unfolding(phase0_types::specs::Roots::root_of))]
+    fn root(&self) -> Root
+        ensures { result.0 ≡ plain_object_root self.now }
+    {
+        match self {
+            PlainObject::RandaoReveal { epoch } => epoch.root(),
+            PlainObject::AggregationSlot { slot } => slot.root(),
+            PlainObject::VoluntaryExit(exit) => exit.root(),
+        }
+    }
+}
+
+/// What goes to the service beside the key for what is no block and no vote.
+#[derive(Clone, Copy, PartialEq, Eq, Debug)]
+pub struct PlainRequest {
+    /// The chain's fork.
+    pub fork: Fork,
+    /// The root of the chain's genesis validators.
+    pub genesis: Root,
+    /// What is to be signed.
+    pub object: PlainObject,
+}
+
+impl PlainRequest {
+    /// The root that is to be signed: the object's, under the domain of its kind and epoch
+    /// (consensus-specs, `get_epoch_signature`, `get_slot_signature`, `VoluntaryExit`).
+    pub fn signing_root(&self) -> Root
+        ensures { result.0 ≡ plain_root self.now }
+    {
+        signing_root(self.object.root(), self.domain())
+    }
+
+    /// The domain of the object's kind and epoch.
+    fn domain(&self) -> [u8; 32]
+        ensures { result ≡ plain_domain self.now }
+    {
+        let domains = Domains::new(self.fork, self.genesis);
+        domains.domain(self.object.kind(), self.object.epoch())
+    }
+}
+
+/// A call for the signature of a message: the key, the message whose root is to be signed, and what goes
+/// with it.
+#[derive(Clone, Copy, PartialEq, Eq, Debug)]
+pub struct SignCall {
+    pub key: PubKey,
+    pub message: Message,
+    pub request: SignRequest,
+}
+
+/// A call for another signature: the key, and what is to be signed.
+#[derive(Clone, Copy, PartialEq, Eq, Debug)]
+pub struct PlainCall {
+    pub key: PubKey,
+    pub request: PlainRequest,
+}
+
+/// A call to take a key in: the key, and the bytes of its keystore's text (EIP-2335) and of its password.
+#[derive(Drop)]
+pub struct ImportCall {
+    pub key: PubKey,
+    pub keystore: Items<u8>,
+    pub password: Items<u8>,
+}

@@ -1,0 +1,81 @@
+-- A session over the desk of a journal.
+use Rattle.std.proofs.Common.{◌≡◌, ℕ, ◌≤◌, List, Option, refl, sym, subst, inr, arith}
+use Rattle.std.specs.Prelude.{false}
+use Rattle.edge_kit.specs.Causes.{Rose}
+use Rattle.edge_kit.specs.declared.disk.Disks.{Disks}
+use Rattle.sign_roots.specs.declared.domains.Domains.{Domains}
+use Rattle.signer_link.specs.declared.reply.Told.{Told}
+use Rattle.desk_machine.specs.declared.event.DeskEvent.{DeskEvent}
+use Rattle.check_sign.specs.Contents.{Seen}
+use Rattle.check_sign.specs.Calls.{LeavesDesk}
+use Rattle.check_sign.specs.Opening.{Opening}
+use Rattle.program_end.specs.declared.status.Status.{Status}
+use Rattle.program_end.specs.declared.status.Status.TheVariants as status
+use Rattle.session_run.specs.Acts.{AtBench, DeskFares}
+use Rattle.session_run.specs.Ends.{Ends, Wires}
+use Rattle.session_run.specs.Inputs.{WithinLimits}
+use Rattle.session_run.proofs.EndLemmas.{ends_disk, ends_fares, ends_read, ends_within, ends_write}
+use Rattle.command_line.specs.declared.planned.Plan.{Plan}
+use Rattle.command_line.specs.declared.planned.Plan.TheVariants as plan
+use Rattle.journal_commands.proofs.OpeningLemmas.{Fares, Handed, had_desk}
+use Rattle.validator_cli.specs.Endings.{Outside, IsSessionComplete, SessionEnds, bench_at, wires_of}
+
+-- the domains of a plan, if it has any
+abbrev pub domains_of : Domains → Plan → Domains
+domains_of none (plan.Session genesis journal fork signer) = record { fork = fork; genesis = genesis }
+domains_of none (plan.Merge genesis journal) = none
+domains_of none (plan.Show genesis journal) = none
+domains_of none (plan.Shown text) = none
+
+pub at_bench : {D : Type 0} (b : AtBench D) (desk : Seen D) (told : Option (List Told)) (failed denied : ℕ) → b.desk ≡ desk → b.told ≡ told → b.signs_failed ≡ failed → b.signs_denied ≡ denied → b ≡ record { desk = desk; told = told; signs_failed = failed; signs_denied = denied }
+at_bench b desk told failed denied d t f n = λ i. record { desk = d i; told = t i; signs_failed = f i; signs_denied = n i }
+
+fares_as : {D : Type 0} (faults : D → ℕ) (old new : Seen D) → DeskFares faults old new → Fares faults old new
+fares_as faults old new f = record { genesis = f.genesis; second = f.second; later = f.later; fails = f.fails }
+
+module _ {D : Type 0} (shows : D → List ℕ → Type 0) (moment : D → ℕ) (leaves : D → ℕ → List ℕ → Type 0) (faults : D → ℕ) (domains : Domains) (before now : Outside) (result : Status) (opened ended : Seen D) where
+  abbrev pub Served : Status → Type 0
+  Served st = Ends moment leaves faults domains (bench_at opened before) (bench_at ended now) (wires_of before.view) (wires_of now.view) st
+
+  -- the lines were served at these benches, for these domains
+  pub served_at : (own : Domains) (bench_before bench_now : AtBench D) → own ≡ domains → bench_before ≡ bench_at opened before → bench_now ≡ bench_at ended now
+      → Ends moment leaves faults own bench_before bench_now (wires_of before.view) (wires_of now.view) result → Served result
+  served_at own bench_before bench_now d b n ends =
+      let E : Domains → Type 0 = λ x. Ends moment leaves faults x bench_before bench_now (wires_of before.view) (wires_of now.view) result in
+      let B : AtBench D → Type 0 = λ x. Ends moment leaves faults domains x bench_now (wires_of before.view) (wires_of now.view) result in
+      let N : AtBench D → Type 0 = λ x. Ends moment leaves faults domains (bench_at opened before) x (wires_of before.view) (wires_of now.view) result in
+      subst N n (subst B b (subst E d ends))
+
+  module _ (first last : Disks D) (events : List DeskEvent) (opening : Opening shows moment leaves faults first.first first.second domains.genesis false 0 opened) (handed : Handed ended last events) (ends : Served result) where
+    pub session_ended : LeavesDesk moment leaves ended.disk ended.contents → SessionEnds shows moment leaves faults domains first last before now events result
+    session_ended left = inr (had_desk moment leaves faults shows domains.genesis first last events
+        (λ o e. Ends moment leaves faults domains (bench_at o before) (bench_at e now) (wires_of before.view) (wires_of now.view) result) opened ended opening ends
+        (fares_as faults opened ended (ends_fares moment leaves faults domains (bench_at opened before) (bench_at ended now) (wires_of before.view) (wires_of now.view) result ends)) left handed)
+
+    pub session_read : result ≡ status.ReadFault → Rose before.view.failed now.view.failed
+    session_read = ends_read moment leaves faults domains (bench_at opened before) (bench_at ended now) (wires_of before.view) (wires_of now.view) result ends
+
+    pub session_write : result ≡ status.WriteFault → Rose before.view.out.failed now.view.out.failed
+    session_write = ends_write moment leaves faults domains (bench_at opened before) (bench_at ended now) (wires_of before.view) (wires_of now.view) result ends
+
+    pub session_disk : result ≡ status.DiskFault → Rose (faults first.first) (faults last.first)
+    session_disk is =
+        let R : D → Type 0 = λ disk. Rose (faults first.first) (faults disk) in
+        let rose = ends_disk moment leaves faults domains (bench_at opened before) (bench_at ended now) (wires_of before.view) (wires_of now.view) result ends is in
+        subst R (sym handed.first) (earlier (faults first.first) (faults opened.disk) (faults ended.disk) opening.later rose) where
+          earlier : (x y z : ℕ) → x ≤ y → Rose y z → Rose x z
+          earlier x y z low r = omega arith
+
+    pub session_complete : WithinLimits before.view.left → ¬ (Rose before.view.failed now.view.failed) → ¬ (Rose before.view.out.failed now.view.out.failed) → ¬ (Rose (faults first.first) (faults last.first)) → IsSessionComplete result
+    session_complete within reads writes disk = at result refl where
+      at : (st : Status) → result ≡ st → IsSessionComplete st
+      at status.Done is = tt
+      at status.OutOfMemory is = tt
+      at status.Damaged is = tt
+      at status.GenesisDiffers is = tt
+      at status.Usage is = absurd (subst Served is ends).ends
+      at status.FileRefused is = absurd (subst Served is ends).ends
+      at status.ReadFault is = absurd (reads (session_read is))
+      at status.WriteFault is = absurd (writes (session_write is))
+      at status.DiskFault is = absurd (disk (session_disk is))
+      at (status.InputTooLong l) is = absurd (ends_within moment leaves faults domains (bench_at opened before) (bench_at ended now) (wires_of before.view) (wires_of now.view) result ends within l is)

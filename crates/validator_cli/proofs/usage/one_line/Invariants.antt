@@ -1,6 +1,0 @@
-use Rattle.std.proofs.Common.{string_bytes}
-use Rattle.std.specs.Str.Iter.{LacksByte}
-use Rattle.validator_cli.proofs.usage.one_line.Given as goal
-
-abbrev pub invariant-words : goal.invariant-words
-invariant-words l = LacksByte 10 (string_bytes l.line)

@@ -1,0 +1,62 @@
+//! A session: a request a line in, an answer a line out.
+ghost use Rattle.std.specs.Prelude.{◌≡◌, ◌≤◌, ℕ, List, Option};
+ghost use Rattle.edge_kit.specs.Causes.{Rose};
+ghost use Rattle.edge_kit.specs.declared.bytes.Root.{Root};
+ghost use Rattle.phase0_types.specs.declared.fork.Fork.{Fork};
+ghost use Rattle.service_url.specs.Services.{Service};
+ghost use Rattle.session_run.specs.Inputs.{WithinLimits};
+ghost use Rattle.validator_cli.specs.Endings.{IsSession, IsSessionComplete, SessionEnds, outside_of};
+
+use check_sign::{Desk, Events};
+use command_line::Plan;
+use edge_kit::{Disk, Disks, Sink, Source};
+use journal_commands::close_unopened;
+use program_end::Status;
+use session_run::{Bench, serve_lines};
+use sign_roots::Domains;
+use signer_link::Signer;
+use std::alloc::Global;
+
+/// Does what a session's plan says: serves the lines of the input, a request each, over the desk of the journal
+/// on the first disk, which is begun where there is none. The second disk comes back untouched.
+///
+/// The status is that of the lines (`serve_lines`); or, with a line that closes the output, `DiskFault`,
+/// `Damaged`, `GenesisDiffers` and `InputTooLong(Limit::Keys)` where the journal is not opened, and nothing was
+/// read or asked then. `WriteFault` comes where the output failed, and `OutOfMemory` where memory was wanted.
+pub fn run_session<D: Disk, S: Signer, I: Source, O: Sink>(
+    alloc: Global,
+    plan: &Plan,
+    disks: Disks<D>,
+    signer: S,
+    input: &mut I,
+    out: &mut O,
+) -> (Status, Disks<D>, S, Events)
+    requires { IsSession plan.now }
+    ensures ends { (genesis : Root) (journal : Option (List ℕ)) (fork : Fork) (signer_at : Option Service) → plan.now ≡ Plan.Session genesis journal fork signer_at
+        → SessionEnds D.shows D.moment D.leaves D.faults (record { fork = fork; genesis = genesis }) disks result.1
+        (outside_of I.left I.faults O.held O.faults S.told S.faults S.denials input.old out.old signer) (outside_of I.left I.faults O.held O.faults S.told S.faults S.denials input.new out.new result.2) result.3 result.0 }
+    ensures second { result.1.second ≡ disks.second }
+    ensures read_fault { result.0 ≡ Status.ReadFault → Rose (I.faults input.old) (I.faults input.new) }
+    ensures write_fault { result.0 ≡ Status.WriteFault → Rose (O.faults out.old) (O.faults out.new) }
+    ensures disk_fault { result.0 ≡ Status.DiskFault → Rose (D.faults disks.first) (D.faults result.1.first) }
+    ensures complete { WithinLimits (I.left input.old)
+        → ¬ (Rose (I.faults input.old) (I.faults input.new)) → ¬ (Rose (O.faults out.old) (O.faults out.new)) → ¬ (Rose (D.faults disks.first) (D.faults result.1.first))
+        → IsSessionComplete result.0 }
+{
+    let Plan::Session { genesis, fork, .. } = plan else {
+        unreachable!()
+    };
+    let desk = match Desk::open(alloc, disks, *genesis, false, 0) {
+        Ok(desk) => desk,
+        Err((fault, disks)) => {
+            let status = close_unopened(alloc, out, fault);
+            return (status, disks, signer, Events::new(alloc));
+        }
+    };
+    let domains = Domains::new(*fork, *genesis);
+    let mut bench = Bench::new(desk, signer);
+    let status = serve_lines(alloc, &domains, &mut bench, input, out);
+    let (desk, signer) = bench.into_parts();
+    let (disks, events) = desk.end();
+    (status, disks, signer, events)
+}

@@ -1,0 +1,195 @@
+//! Sessions whose signatures a service makes, over a link in memory.
+use crate::marks::filled;
+use crate::outside::{Ended, fresh_disks, no_faults, run};
+use crate::sessions::SESSION;
+use edge_kit::{MemLink, PubKey, Root, Sig};
+use service_url::ServiceUrl;
+use signer_link::{SignReply, Told, Web3Signer};
+use slash_defs::Message;
+use std::alloc::{AllocError, Global};
+use std::sync::Wait;
+use std::test::Fail;
+use std::thread::Threads;
+use validator_cli::Status;
+
+/// Activates K1 and signs a block.
+const INPUT: &str = r#"{"op":"activate","pubkey":"<K1>"}
+{"op":"block","pubkey":"<K1>","signing_root":"<Ra>","slot":"1"}
+"#;
+
+/// The address of the service.
+const ADDRESS: &str = "http://signer.example:9000/eth/";
+
+/// What the service is sent.
+const REQUEST: &str =
+    "POST /eth/api/v1/eth2/sign/<K1> HTTP/1.1\r\nHost: signer.example:9000\r\nAccept: application/json\r\nConnection: close\r\nContent-Type: application/json\r\nContent-Length: 295\r\n\r\n{\"fork_info\":{\"fork\":{\"current_version\":\"0x00000000\",\"epoch\":\"0\",\"previous_version\":\"0x00000000\"},\"genesis_validators_root\":\"<G0>\"},\"signingRoot\":\"<Ra>\",\"type\":\"BLOCK_V2\"}";
+
+/// What the service says, which calls of the link fail, and the members of the answer behind `answer`.
+#[derive(Clone, Copy)]
+struct Said {
+    response: &'static str,
+    failing: &'static [u64],
+    answer: &'static str,
+}
+
+/// The message of `INPUT`.
+const BLOCK: Message = Message::Block {
+    slot: 1,
+    root: Root([0xaa; 32]),
+};
+
+const SIGNED: &str = "\"signed\",\"signature\":\"<S7>\",\"signing_root\":\"<Ra>\"";
+
+const FAULT: &str = "\"unsigned\",\"cause\":\"fault\"";
+
+const TEXT: &str = "HTTP/1.1 200 OK\r\n\r\n<S7>";
+
+const SAID: [Said; 13] = [
+    Said {
+        response: TEXT,
+        failing: &[],
+        answer: SIGNED,
+    },
+    Said {
+        response: "HTTP/1.1 200 OK\r\n\r\n \r\n<S7>\n ",
+        failing: &[],
+        answer: SIGNED,
+    },
+    Said {
+        response: "HTTP/1.1 200 OK\r\n\r\n{\"note\":1,\"signature\":\"<S7>\"}",
+        failing: &[],
+        answer: SIGNED,
+    },
+    Said {
+        response: "HTTP/1.1 404 Not Found\r\n\r\n<S7>",
+        failing: &[],
+        answer: "\"unsigned\",\"cause\":\"no_key\"",
+    },
+    Said {
+        response: "HTTP/1.1 412 Precondition Failed\r\n\r\n<S7>",
+        failing: &[],
+        answer: "\"unsigned\",\"cause\":\"denied\",\"status\":\"412\"",
+    },
+    Said {
+        response: "HTTP/1.1 500 Internal Server Error\r\n\r\n",
+        failing: &[],
+        answer: "\"unsigned\",\"cause\":\"denied\",\"status\":\"500\"",
+    },
+    Said {
+        response: "HTTP/1.1 200 OK\r\n\r\nno\n",
+        failing: &[],
+        answer: "\"unsigned\",\"body\":\"6e6f0a\",\"cause\":\"bad_answer\"",
+    },
+    Said {
+        response: "HTTP/1.1 200 OK\r\nContent-Length: 5\r\nContent-Length: 6\r\n\r\n<S7>",
+        failing: &[],
+        answer: "\"unsigned\",\"body\":\"\",\"cause\":\"bad_answer\"",
+    },
+    Said {
+        response: TEXT,
+        failing: &[0],
+        answer: FAULT,
+    },
+    Said {
+        response: TEXT,
+        failing: &[1],
+        answer: FAULT,
+    },
+    Said {
+        response: TEXT,
+        failing: &[2],
+        answer: FAULT,
+    },
+    Said {
+        response: TEXT,
+        failing: &[3],
+        answer: FAULT,
+    },
+    Said {
+        response: "",
+        failing: &[],
+        answer: "\"unsigned\",\"body\":\"\",\"cause\":\"bad_answer\"",
+    },
+];
+
+/// The link to a service that says this, and the service's address.
+fn link_to(alloc: Global, said: &Said) -> Result<(MemLink, ServiceUrl), AllocError> {
+    let response = filled(alloc, said.response)?;
+    let mut conversations = Vec::new(alloc);
+    conversations.push(response.into_bytes())?;
+    let failing = Vec::from_slice(alloc, said.failing)?;
+    let link = MemLink::new(alloc, conversations, 4096, failing)?;
+    match ServiceUrl::read(alloc, ADDRESS)? {
+        Some(service) => Ok((link, service)),
+        None => Err(AllocError),
+    }
+}
+
+/// Runs a session over `INPUT` with this signer.
+fn run_over<T: Threads + Wait + Sync>(
+    rt: &T,
+    alloc: Global,
+    signer: Web3Signer<MemLink>,
+) -> Result<Ended<Web3Signer<MemLink>>, AllocError> {
+    let input = filled(alloc, INPUT)?;
+    let disks = fresh_disks(alloc)?;
+    run(
+        rt,
+        alloc,
+        SESSION,
+        disks,
+        input.as_bytes(),
+        signer,
+        no_faults(alloc),
+    )
+}
+
+/// Runs it with a service that says this.
+fn run_said<T: Threads + Wait + Sync>(
+    rt: &T,
+    alloc: Global,
+    said: &Said,
+) -> Result<Ended<Web3Signer<MemLink>>, AllocError> {
+    let (link, service) = link_to(alloc, said)?;
+    run_over(rt, alloc, Web3Signer::new(link, service))
+}
+
+#[test]
+fn a_service_is_read_by_its_answer(rt: HostRuntime) -> Result<(), Fail> {
+    let alloc = rt.alloc();
+    for said in SAID {
+        let response = said.response;
+        let ended = run_said(&rt, alloc, &said)?;
+        assert_eq!(rt; ended.status, Status::Done, "{response}");
+        let answer = said.answer;
+        let output = format!(in alloc; "{{\"answer\":\"active\"}}\n{{\"answer\":{answer}}}\n")?;
+        assert!(rt; ended.wrote(alloc, output.as_str())?, "{response}");
+    }
+    Ok(())
+}
+
+#[test]
+fn a_service_is_sent_the_root_of_the_granted_message(rt: HostRuntime) -> Result<(), Fail> {
+    let alloc = rt.alloc();
+    let ended = run_said(&rt, alloc, &SAID[0])?;
+    let sent = ended.signer.into_link().into_sent();
+    assert_eq!(rt; sent.as_slice(), filled(alloc, REQUEST)?.as_bytes());
+    Ok(())
+}
+
+#[test]
+fn a_service_that_tells_has_told_the_one_call(rt: HostRuntime) -> Result<(), Fail> {
+    let alloc = rt.alloc();
+    let (link, service) = link_to(alloc, &SAID[0])?;
+    let ended = run_over(&rt, alloc, Web3Signer::telling(link, service))?;
+    assert_eq!(rt; ended.status, Status::Done);
+    match ended.signer.told() {
+        Some([Told::Sign(call, SignReply::Signed(signature))]) => {
+            assert_eq!(rt; call.key, PubKey([0x11; 48]));
+            assert_eq!(rt; call.message, BLOCK);
+            assert_eq!(rt; *signature, Sig([0x77; 96]));
+            Ok(())
+        }
+        _ => Err(Fail::new("another list is told")),
+    }
+}
