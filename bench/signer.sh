@@ -2,7 +2,8 @@
 # The built program with a signing service, over TCP: a small HTTP server in Python answers the signing
 # call; each signature must be the server's, and each request's body must carry the type, the fork and the
 # root. In the midst the server is killed and started again. It prints signatures a second beside a Python
-# client that sends the same requests to the same server.
+# client and a plain socket that send the same requests to the same server, and what the service's part of a
+# signature takes: the time of a session in memory with the service, less that of one whose signer is in memory.
 # Usage: bench/signer.sh [BLOCKS]
 set -eu
 cd "$(dirname "$0")/.."
@@ -62,11 +63,26 @@ def signature_of(root):
 def root_of(n):
     return '0x' + hashlib.sha256(b'root %d' % n).hexdigest()
 
-def session():
+with_journal = ['--journal', os.path.join(folder, 'j')]
+with_signer = ['--signer', 'http://127.0.0.1:%d' % port]
+
+def session(*options):
     return subprocess.Popen(
-        [program, 'session', '--genesis', genesis, '--journal', os.path.join(folder, 'j'),
-         '--signer', 'http://127.0.0.1:%d' % port, '--fork', '0x00000001:0x00000002:7'],
+        [program, 'session', '--genesis', genesis, '--fork', '0x00000001:0x00000002:7', *options],
         stdin=subprocess.PIPE, stdout=subprocess.PIPE, text=True, bufsize=1)
+
+# how long a session over these objects takes for all blocks
+def timed(*options):
+    child = session(*options)
+    ask(child, op='activate', pubkey=key)
+    start = time.time()
+    for n in range(1, blocks + 1):
+        if ask(child, op='block', pubkey=key, slot=str(n), signing_root=root_of(n))['answer'] != 'signed':
+            fail('block', n, 'is not signed')
+    taken = time.time() - start
+    child.stdin.close()
+    child.wait()
+    return taken
 
 def ask(child, **members):
     child.stdin.write(json.dumps(members) + '\n')
@@ -78,7 +94,7 @@ def fail(*words):
     sys.exit(1)
 
 server = serve()
-child = session()
+child = session(*with_journal, *with_signer)
 assert ask(child, op='activate', pubkey=key) == {'answer': 'active'}
 start = time.time()
 for n in range(1, blocks + 1):
@@ -146,8 +162,11 @@ for text in texts:
         while s.recv(65536):
             pass
 plain = time.time() - start
+in_memory = timed(*with_signer)
+unasked = timed()
 server.kill()
-print('%d blocks: all signatures and requests are right; %.0f signatures a second with a journal' % (blocks, blocks / ours))
+micros = lambda seconds: seconds / blocks * 1e6
+print('%d blocks: all signatures and requests are right; %.0f signatures a second with a journal, %.0f without' % (blocks, blocks / ours, blocks / in_memory))
 print('Python client: %.0f requests a second, plain socket: %.0f a second' % (blocks / theirs, blocks / plain))
-print('time beside the Python client: %.2f; beside the plain socket: %.2f' % (ours / theirs, ours / plain))
+print('the service\'s part of a signature: %.0f us; beside the Python client %.2f, beside the plain socket %.2f' % (micros(in_memory - unasked), (in_memory - unasked) / theirs, (in_memory - unasked) / plain))
 PY

@@ -1,0 +1,4 @@
+pub mod Requests
+pub mod Said
+pub mod Readings
+pub mod Calls

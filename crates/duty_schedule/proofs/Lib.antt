@@ -1,0 +1,5 @@
+pub mod OrderLemmas
+pub mod HeldLemmas
+pub mod HoldingLemmas
+pub mod StandLemmas
+pub mod LawLemmas

@@ -1,0 +1,2 @@
+mod FittingLemmas
+mod ReplyLemmas

@@ -1,0 +1,4 @@
+pub mod Aggregation
+pub mod Asking
+pub mod Fitting
+pub mod InMemory

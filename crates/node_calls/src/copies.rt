@@ -1,0 +1,229 @@
+//! The same values again, of what holds lists. Each error is want of memory.
+ghost use Rattle.std.specs.Prelude.{◌≡◌, IfOk, OnOk, true};
+ghost use Rattle.node_calls.specs.Asking.{is_given};
+
+use crate::answer::{Answer, NodeFault};
+use crate::ask::Ask;
+use crate::post::Post;
+use edge_kit::Items;
+use phase0_blocks::{
+    Attestation, AttesterSlashing, BeaconBlock, BeaconBlockBody, IndexedAttestation, Signed,
+};
+use phase0_types::BoundedList;
+use std::alloc::{AllocError, Global};
+
+impl Ask {
+    /// The same question again. The error is want of memory.
+    pub fn copy(&self, alloc: Global) -> Result<Ask, AllocError>
+        ensures { IfOk result (λ copy. copy ≡ self.now) }
+    {
+        Ok(match self {
+            Ask::Genesis => Ask::Genesis,
+            Ask::Fork => Ask::Fork,
+            Ask::Syncing => Ask::Syncing,
+            Ask::Validators { keys } => Ask::Validators {
+                keys: items_copy(alloc, keys)?,
+            },
+            Ask::Proposer { epoch } => Ask::Proposer { epoch: *epoch },
+            Ask::Attester { epoch, indices } => Ask::Attester {
+                epoch: *epoch,
+                indices: items_copy(alloc, indices)?,
+            },
+            Ask::Data {
+                slot,
+                committee_index,
+            } => Ask::Data {
+                slot: *slot,
+                committee_index: *committee_index,
+            },
+            Ask::Block {
+                slot,
+                randao_reveal,
+            } => Ask::Block {
+                slot: *slot,
+                randao_reveal: *randao_reveal,
+            },
+            Ask::Liveness { epoch, indices } => Ask::Liveness {
+                epoch: *epoch,
+                indices: items_copy(alloc, indices)?,
+            },
+        })
+    }
+}
+
+impl Answer {
+    /// The same answer again. The error is want of memory.
+    pub fn copy(&self, alloc: Global) -> Result<Answer, AllocError>
+        ensures { IfOk result (λ copy. copy ≡ self.now) }
+    {
+        Ok(match self {
+            Answer::Genesis {
+                genesis_time,
+                genesis_validators_root,
+            } => Answer::Genesis {
+                genesis_time: *genesis_time,
+                genesis_validators_root: *genesis_validators_root,
+            },
+            Answer::Fork(fork) => Answer::Fork(*fork),
+            Answer::Syncing { is_syncing } => Answer::Syncing {
+                is_syncing: *is_syncing,
+            },
+            Answer::Validators(rows) => Answer::Validators(items_copy(alloc, rows)?),
+            Answer::Proposer {
+                dependent_root,
+                rows,
+            } => Answer::Proposer {
+                dependent_root: *dependent_root,
+                rows: items_copy(alloc, rows)?,
+            },
+            Answer::Attester {
+                dependent_root,
+                rows,
+            } => Answer::Attester {
+                dependent_root: *dependent_root,
+                rows: items_copy(alloc, rows)?,
+            },
+            Answer::Data(details) => Answer::Data(*details),
+            Answer::Block(block) => Answer::Block(block_copy(alloc, block)?),
+            Answer::Liveness(rows) => Answer::Liveness(items_copy(alloc, rows)?),
+        })
+    }
+}
+
+impl NodeFault {
+    /// The same fault again. The error is want of memory, and stands for `OutOfMemory` too.
+    pub fn copy(&self, alloc: Global) -> Result<NodeFault, AllocError>
+        ensures same { IfOk result (λ copy. copy ≡ self.now) }
+        ensures given { OnOk result (is_given self.now ≡ true) }
+    {
+        match self {
+            NodeFault::Fault => Ok(NodeFault::Fault),
+            NodeFault::Status(status) => Ok(NodeFault::Status(*status)),
+            NodeFault::Unreadable(body) if body.is_empty() => {
+                Ok(NodeFault::Unreadable(Items::new(alloc)))
+            }
+            NodeFault::Unreadable(body) => Ok(NodeFault::Unreadable(items_copy(alloc, body)?)),
+            NodeFault::OutOfMemory => Err(AllocError),
+        }
+    }
+}
+
+impl Post {
+    /// The same post again. The error is want of memory.
+    pub fn copy(&self, alloc: Global) -> Result<Post, AllocError>
+        ensures { IfOk result (λ copy. copy ≡ self.now) }
+    {
+        Ok(match self {
+            Post::Vote(vote) => Post::Vote(attestation_copy(alloc, vote)?),
+            Post::Block(block) => Post::Block(Signed {
+                message: block_copy(alloc, &block.message)?,
+                signature: block.signature,
+            }),
+        })
+    }
+}
+
+fn items_copy<T: Copy + Drop>(alloc: Global, items: &Items<T>) -> Result<Items<T>, AllocError>
+    ensures { IfOk result (λ copy. copy ≡ items.now) }
+{
+    Ok(Items::from_vec(Vec::from_slice(alloc, items.as_slice())?))
+}
+
+fn bounded_copy<T: Copy + Drop, const LIMIT: usize>(
+    alloc: Global,
+    items: &BoundedList<T, LIMIT>,
+) -> Result<BoundedList<T, LIMIT>, AllocError>
+    ensures { IfOk result (λ copy. copy ≡ items.now) }
+{
+    bounded(Vec::from_slice(alloc, items.as_slice())?)
+}
+
+fn bounded<T: Drop, const LIMIT: usize>(items: Vec<T>) -> Result<BoundedList<T, LIMIT>, AllocError>
+    ensures { IfOk result (λ list. list ≡ items.items) }
+{
+    match BoundedList::try_new(items) {
+        Ok(list) => Ok(list),
+        Err(_) => Err(AllocError),
+    }
+}
+
+fn attestation_copy(alloc: Global, vote: &Attestation) -> Result<Attestation, AllocError>
+    ensures { IfOk result (λ copy. copy ≡ vote.now) }
+{
+    Ok(Attestation {
+        aggregation_bits: bounded_copy(alloc, &vote.aggregation_bits)?,
+        details: vote.details,
+        signature: vote.signature,
+    })
+}
+
+fn indexed_copy(alloc: Global, vote: &IndexedAttestation) -> Result<IndexedAttestation, AllocError>
+    ensures { IfOk result (λ copy. copy ≡ vote.now) }
+{
+    Ok(IndexedAttestation {
+        attesting_indices: bounded_copy(alloc, &vote.attesting_indices)?,
+        details: vote.details,
+        signature: vote.signature,
+    })
+}
+
+fn slashing_copy(alloc: Global, slashing: &AttesterSlashing) -> Result<AttesterSlashing, AllocError>
+    ensures { IfOk result (λ copy. copy ≡ slashing.now) }
+{
+    Ok(AttesterSlashing {
+        attestation_1: indexed_copy(alloc, &slashing.attestation_1)?,
+        attestation_2: indexed_copy(alloc, &slashing.attestation_2)?,
+    })
+}
+
+fn attestations_copy(alloc: Global, votes: &[Attestation]) -> Result<Vec<Attestation>, AllocError>
+    ensures { IfOk result (λ copies. copies.items ≡ votes.now) }
+{
+    let mut copies = Vec::with_capacity(alloc, votes.len())?;
+    'votes: for vote in votes {
+        copies.push(attestation_copy(alloc, vote)?)?;
+    }
+    Ok(copies)
+}
+
+fn slashings_copy(
+    alloc: Global,
+    slashings: &[AttesterSlashing],
+) -> Result<Vec<AttesterSlashing>, AllocError>
+    ensures { IfOk result (λ copies. copies.items ≡ slashings.now) }
+{
+    let mut copies = Vec::with_capacity(alloc, slashings.len())?;
+    'slashings: for slashing in slashings {
+        copies.push(slashing_copy(alloc, slashing)?)?;
+    }
+    Ok(copies)
+}
+
+fn body_copy(alloc: Global, body: &BeaconBlockBody) -> Result<BeaconBlockBody, AllocError>
+    ensures { IfOk result (λ copy. copy ≡ body.now) }
+{
+    let attester_slashings = slashings_copy(alloc, body.attester_slashings.as_slice())?;
+    let attestations = attestations_copy(alloc, body.attestations.as_slice())?;
+    Ok(BeaconBlockBody {
+        randao_reveal: body.randao_reveal,
+        eth1_data: body.eth1_data,
+        graffiti: body.graffiti,
+        proposer_slashings: bounded_copy(alloc, &body.proposer_slashings)?,
+        attester_slashings: bounded(attester_slashings)?,
+        attestations: bounded(attestations)?,
+        deposits: bounded_copy(alloc, &body.deposits)?,
+        voluntary_exits: bounded_copy(alloc, &body.voluntary_exits)?,
+    })
+}
+
+fn block_copy(alloc: Global, block: &BeaconBlock) -> Result<BeaconBlock, AllocError>
+    ensures { IfOk result (λ copy. copy ≡ block.now) }
+{
+    Ok(BeaconBlock {
+        slot: block.slot,
+        proposer_index: block.proposer_index,
+        parent_root: block.parent_root,
+        state_root: block.state_root,
+        body: body_copy(alloc, &block.body)?,
+    })
+}

@@ -1,0 +1,6 @@
+pub mod Seen
+pub mod InOrder
+pub mod Refreshing
+pub mod Turns
+pub mod FirstAnswer
+pub mod Texts

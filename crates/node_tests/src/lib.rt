@@ -1,0 +1,7 @@
+//! Tests of the calls to beacon nodes: the bytes that are sent, and what answers mean.
+#![tactic(auto)]
+
+#[cfg(test)]
+mod bodies;
+#[cfg(test)]
+mod replies;
