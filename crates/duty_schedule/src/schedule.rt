@@ -1,5 +1,5 @@
 //! The duty answers that stand, and what is due by them.
-ghost use Rattle.std.specs.Prelude.{◌≡◌, ℕ, max, map, List, [], ◌∷◌, ◌++◌, IfOk, OnOk, OnErr};
+ghost use Rattle.std.specs.Prelude.{◌≡◌, ℕ, max, map, List, [], ◌∷◌, ◌++◌, IfOk};
 ghost use Rattle.duty_schedule.specs.Answers.{TakenAnswer, taken_answer, verdict};
 ghost use Rattle.duty_schedule.specs.Due.{IsDue};
 ghost use Rattle.duty_schedule.specs.Holding.{MovesOn};
@@ -40,19 +40,18 @@ impl Schedule {
     /// Takes an answer of the duties of an epoch. `asked` are the validator indices that the question named, none
     /// for proposers, who are asked for without. What is held of its kind and epoch stays where it has this
     /// dependent root and these indices; else this answer is held from now on. Answers of epochs older than the
-    /// one before the newest are dropped. The error is want of memory, and then the schedule is as it was.
+    /// one before the newest are dropped. Takes no memory.
     pub fn take_answer(
         &mut self,
         epoch: u64,
         asked: Items<u64>,
         dependent_root: Root,
         rows: DutyRows,
-    ) -> Result<Taken, AllocError>
-        ensures stands { OnOk result ((answers : List TakenAnswer) → Stands self.old answers
-            → Stands self.new (answers ++ taken_answer epoch asked dependent_root rows ∷ [])) }
-        ensures taken { IfOk result (λ taken. (answers : List TakenAnswer) → Stands self.old answers
-            → taken ≡ verdict answers (taken_answer epoch asked dependent_root rows)) }
-        ensures err { OnErr result ((answers : List TakenAnswer) → Stands self.old answers → Stands self.new answers) }
+    ) -> Taken
+        ensures stands { (answers : List TakenAnswer) → Stands self.old answers
+            → Stands self.new (answers ++ taken_answer epoch asked dependent_root rows ∷ []) }
+        ensures taken { (answers : List TakenAnswer) → Stands self.old answers
+            → result ≡ verdict answers (taken_answer epoch asked dependent_root rows) }
     {
         self.move_on(epoch);
         let basis = Basis {
@@ -63,11 +62,11 @@ impl Schedule {
         match rows {
             DutyRows::Proposer(rows) => {
                 let answer = DutyAnswer { basis, rows };
-                Ok(self.proposers.take(newest, epoch, answer))
+                self.proposers.take(newest, epoch, answer)
             }
             DutyRows::Attester(rows) => {
                 let answer = DutyAnswer { basis, rows };
-                Ok(self.attesters.take(newest, epoch, answer))
+                self.attesters.take(newest, epoch, answer)
             }
         }
     }

@@ -104,7 +104,7 @@ fn an_answer_that_rests_on_the_same_changes_nothing(rt: HostRuntime) -> Result<(
         (3, [7, 9], OTHER_ROOT, 3, Taken::Replaced, None),
     ] {
         let rows = votes(alloc, &[vote(FIRST, 32 * epoch, committee)])?;
-        let outcome = schedule.take_answer(epoch, indices(alloc, &asked)?, root, rows)?;
+        let outcome = schedule.take_answer(epoch, indices(alloc, &asked)?, root, rows);
         assert_eq!(rt; outcome, taken);
         let duties = schedule.due(96, &[FIRST])?;
         let voting = match duties.first() {
@@ -130,14 +130,14 @@ fn blocks_come_first_and_keys_in_order(rt: HostRuntime) -> Result<(), Fail> {
             vote(FIRST, 96, 4),
         ],
     )?;
-    schedule.take_answer(3, indices(alloc, &[7])?, ONE_ROOT, rows)?;
+    schedule.take_answer(3, indices(alloc, &[7])?, ONE_ROOT, rows);
     let block = ProposerRow {
         pubkey: SECOND,
         validator_index: 8,
         slot: 96,
     };
     let blocks = DutyRows::Proposer(Items::from_vec(Vec::from_slice(alloc, &[block])?));
-    schedule.take_answer(3, Items::new(alloc), OTHER_ROOT, blocks)?;
+    schedule.take_answer(3, Items::new(alloc), OTHER_ROOT, blocks);
     let duties = schedule.due(96, &[SECOND, FIRST, SECOND])?;
     let expected = [
         Duty::Block(block),
