@@ -2,7 +2,7 @@
 use crate::bodies;
 use beacon_node::BeaconNode;
 use edge_kit::{Items, MemLink, PubKey, Root, Sig};
-use node_calls::{Answer, Ask, Node, NodeFault, Post, aggregation_bits};
+use node_calls::{Answer, Ask, Node, NodeFault, Post, ValidatorRow, aggregation_bits};
 use phase0_blocks::{Attestation, Signed};
 use phase0_types::{AttestationData, Checkpoint};
 use service_url::ServiceUrl;
@@ -52,6 +52,17 @@ fn node(alloc: Global, said: Vec<u8>, failing: Vec<u64>) -> Result<BeaconNode<Me
     }
 }
 
+/// How many validators there are, the index of the first and the first byte of the last one's key.
+fn validators_words(alloc: Global, rows: &[ValidatorRow]) -> Result<String, Fail> {
+    match (rows.first(), rows.last()) {
+        (Some(first), Some(last)) => {
+            let byte = last.pubkey.0[0];
+            Ok(format!(in alloc; "validators {} {} {byte}", rows.len(), first.index)?)
+        }
+        _ => Ok(String::from_str(alloc, "validators 0")?),
+    }
+}
+
 /// What an answer says, in a few words.
 fn answer_words(alloc: Global, answer: &Answer) -> Result<String, Fail> {
     Ok(match answer {
@@ -63,16 +74,7 @@ fn answer_words(alloc: Global, answer: &Answer) -> Result<String, Fail> {
             format!(in alloc; "fork {} {}", fork.current_version[0], fork.epoch)?
         }
         Answer::Syncing { is_syncing } => format!(in alloc; "syncing {is_syncing}")?,
-        Answer::Validators(rows) => {
-            let rows = rows.as_slice();
-            match (rows.first(), rows.last()) {
-                (Some(first), Some(last)) => {
-                    let byte = last.pubkey.0[0];
-                    format!(in alloc; "validators {} {} {byte}", rows.len(), first.index)?
-                }
-                _ => String::from_str(alloc, "validators 0")?,
-            }
-        }
+        Answer::Validators(rows) => validators_words(alloc, rows.as_slice())?,
         Answer::Proposer {
             dependent_root,
             rows,
