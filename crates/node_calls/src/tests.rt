@@ -44,13 +44,18 @@ fn proposers(alloc: Global, slots: &[u64]) -> Result<Answer, Fail> {
     })
 }
 
-#[test]
-fn duties_are_of_the_epoch_that_was_asked_for(rt: HostRuntime) -> Result<(), Fail> {
-    let alloc = rt.alloc();
+/// Whether these can be the votes of epoch 3.
+fn vote(alloc: Global, rows: &[AttesterRow]) -> Result<bool, Fail> {
     let ask = Ask::Attester {
         epoch: 3,
         indices: Items::new(alloc),
     };
+    Ok(attesters(alloc, rows)?.fits(alloc, &ask)?)
+}
+
+#[test]
+fn votes_are_of_the_epoch_that_was_asked_for(rt: HostRuntime) -> Result<(), Fail> {
+    let alloc = rt.alloc();
     for (row, fits) in [
         (attester(KEY, 95, 0, 1), false),
         (attester(KEY, 96, 0, 1), true),
@@ -60,28 +65,36 @@ fn duties_are_of_the_epoch_that_was_asked_for(rt: HostRuntime) -> Result<(), Fai
         (attester(KEY, 100, 0, 0), false),
         (attester(KEY, 100, 0, 2049), false),
     ] {
-        assert_eq!(rt; attesters(alloc, &[row])?.fits(alloc, &ask)?, fits);
+        assert_eq!(rt; vote(alloc, &[row])?, fits);
     }
     Ok(())
 }
 
 #[test]
-fn no_two_duties_are_for_one(rt: HostRuntime) -> Result<(), Fail> {
+fn no_two_votes_are_of_one_key(rt: HostRuntime) -> Result<(), Fail> {
     let alloc = rt.alloc();
-    let ask = Ask::Attester {
-        epoch: 3,
-        indices: Items::new(alloc),
-    };
     let first = attester(KEY, 96, 0, 1);
-    let twice = attesters(alloc, &[first, attester(KEY, 97, 0, 1)])?;
-    assert!(rt; !twice.fits(alloc, &ask)?);
-    let apart = attesters(alloc, &[first, attester(OTHER, 96, 0, 1)])?;
-    assert!(rt; apart.fits(alloc, &ask)?);
-    assert!(rt; !apart.fits(alloc, &Ask::Proposer { epoch: 3 })?);
-    let proposer = Ask::Proposer { epoch: 0 };
-    assert!(rt; proposers(alloc, &[0, 31])?.fits(alloc, &proposer)?);
-    assert!(rt; !proposers(alloc, &[0, 0])?.fits(alloc, &proposer)?);
-    assert!(rt; !proposers(alloc, &[32])?.fits(alloc, &proposer)?);
+    for (second, fits) in [
+        (attester(KEY, 97, 0, 1), false),
+        (attester(OTHER, 96, 0, 1), true),
+    ] {
+        assert_eq!(rt; vote(alloc, &[first, second])?, fits);
+    }
+    Ok(())
+}
+
+#[test]
+fn no_two_blocks_are_for_one_slot(rt: HostRuntime) -> Result<(), Fail> {
+    let alloc = rt.alloc();
+    for (first, second, epoch, fits) in [
+        (0, 31, 0, true),
+        (0, 0, 0, false),
+        (0, 32, 0, false),
+        (32, 33, 1, true),
+    ] {
+        let answer = proposers(alloc, &[first, second])?;
+        assert_eq!(rt; answer.fits(alloc, &Ask::Proposer { epoch })?, fits);
+    }
     Ok(())
 }
 
