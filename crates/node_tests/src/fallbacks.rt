@@ -2,7 +2,7 @@
 use duty_schedule::{DutyRows, Schedule, Taken};
 use edge_kit::{Items, PubKey, Root};
 use node_calls::{Answer, Ask, AttesterRow, MemNode};
-use node_fallback::{NoAnswer, Nodes};
+use node_fallback::{Cause, NoAnswer, Nodes};
 use std::alloc::Global;
 use std::test::Fail;
 
@@ -25,6 +25,33 @@ fn answer(alloc: Global, root: u8, slot: u64) -> Result<Answer, Fail> {
     })
 }
 
+/// What becomes of an answer, in a word.
+fn take(alloc: Global, schedule: &mut Schedule, answer: Answer) -> Result<String, Fail> {
+    let (root, rows) = match answer {
+        Answer::Attester {
+            dependent_root,
+            rows,
+        } => (dependent_root, rows),
+        _other => return Err(Fail::new("another answer")),
+    };
+    let asked = Items::from_vec(vec![in alloc; 7]?);
+    let word = match schedule.take_answer(3, asked, root, DutyRows::Attester(rows)) {
+        Taken::Replaced => "replaced",
+        Taken::Kept => "kept",
+    };
+    Ok(String::from_str(alloc, word)?)
+}
+
+/// The causes, each behind a space.
+fn words_of(alloc: Global, causes: &[Cause]) -> Result<String, Fail> {
+    let mut text = String::from_str(alloc, "no node:")?;
+    'causes: for cause in causes {
+        let word = format!(in alloc; " {cause}")?;
+        text.push_str(word.as_str())?;
+    }
+    Ok(text)
+}
+
 /// What the nodes answer to the question for epoch 3, taken by the schedule, in a word.
 fn taken(
     alloc: Global,
@@ -35,30 +62,12 @@ fn taken(
         epoch: 3,
         indices: Items::from_vec(vec![in alloc; 7]?),
     };
-    let text = match nodes.ask(&ask) {
-        Ok(
-            Answer::Attester {
-                dependent_root,
-                rows,
-            },
-        ) => {
-            let asked = Items::from_vec(vec![in alloc; 7]?);
-            let rows = DutyRows::Attester(rows);
-            match schedule.take_answer(3, asked, dependent_root, rows) {
-                Taken::Replaced => String::from_str(alloc, "replaced")?,
-                Taken::Kept => String::from_str(alloc, "kept")?,
-            }
-        }
-        Err(NoAnswer::NoNode(causes)) => {
-            let mut text = String::from_str(alloc, "no node:")?;
-            'causes: for cause in causes.as_slice() {
-                text.push_str(format!(in alloc; " {cause}")?.as_str())?;
-            }
-            text
-        }
-        _ => String::from_str(alloc, "none")?,
-    };
-    Ok(text)
+    let reply = nodes.ask(&ask);
+    match reply {
+        Ok(answer) => take(alloc, schedule, answer),
+        Err(NoAnswer::NoNode(causes)) => words_of(alloc, causes.as_slice()),
+        Err(NoAnswer::OutOfMemory) => Err(Fail::new("no memory")),
+    }
 }
 
 /// How many duties there are at slots 96 and 97.

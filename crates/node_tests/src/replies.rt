@@ -1,7 +1,7 @@
 //! A beacon node over a link in memory.
 use crate::bodies;
 use beacon_node::BeaconNode;
-use edge_kit::{Items, MemLink, PubKey, Root, Sig};
+use edge_kit::{Items, MemLink, PubKey, Root, Sig, hex_text};
 use node_calls::{Answer, Ask, Node, NodeFault, Post, ValidatorRow, aggregation_bits};
 use phase0_blocks::{Attestation, Signed};
 use phase0_types::{AttestationData, Checkpoint};
@@ -157,56 +157,87 @@ const DATA: Ask = Ask::Data {
     committee_index: 2,
 };
 
-#[test]
-fn each_question_has_its_answer(rt: HostRuntime) -> Result<(), Fail> {
-    let alloc = rt.alloc();
-    let proposer = Ask::Proposer { epoch: 3 };
-    for (ask, body, words) in [
-        (&Ask::Genesis, bodies::GENESIS, "genesis 1606824023 149"),
-        (&Ask::Fork, bodies::FORK, "fork 1 74240"),
-        (&Ask::Fork, bodies::SPACED_FORK, "fork 1 74240"),
-        (&Ask::Syncing, bodies::SYNCING, "syncing true"),
-        (&proposer, bodies::PROPOSER, "proposer 170 2"),
-        (&attester(alloc)?, bodies::ATTESTER, "attester 187 1"),
-        (&DATA, bodies::DATA, "data 100 3"),
-        (&block(), bodies::BLOCK, "block 100 12"),
-        (&validators(alloc)?, bodies::VALIDATORS, "validators 2 7 34"),
-        (
-            &liveness(alloc)?,
-            bodies::LIVENESS,
-            "liveness [LivenessRow { index: 7, is_live: true }, LivenessRow { index: 9, is_live: false }]",
-        ),
+/// Whether a question has this answer by this body at a status of success, and each other reply.
+fn is_answered(alloc: Global, ask: &Ask, body: &str, words: &str) -> Result<bool, Fail> {
+    for (status, said, wanted) in [
+        (200, body, words),
+        (299, body, words),
+        (503, body, "status 503"),
+        (404, body, "status 404"),
+        (200, "{}", "unreadable {}"),
+        (200, "no", "unreadable no"),
     ] {
-        assert_eq!(rt; asked_at(alloc, ask, 200, body)?.as_str(), words);
-        assert_eq!(rt; asked_at(alloc, ask, 299, body)?.as_str(), words);
-        assert_eq!(rt; asked_at(alloc, ask, 503, body)?.as_str(), "status 503");
-        assert_eq!(rt; asked_at(alloc, ask, 404, body)?.as_str(), "status 404");
-        assert_eq!(rt; asked_at(alloc, ask, 200, "{}")?.as_str(), "unreadable {}");
-        assert_eq!(rt; asked_at(alloc, ask, 200, "no")?.as_str(), "unreadable no");
+        if asked_at(alloc, ask, status, said)?.as_str() != wanted {
+            return Ok(false);
+        }
     }
+    Ok(true)
+}
+
+#[test]
+fn each_question_about_the_chain_has_its_answer(rt: HostRuntime) -> Result<(), Fail> {
+    let alloc = rt.alloc();
+    let ask = Ask::Genesis;
+    assert!(rt; is_answered(alloc, &ask, bodies::GENESIS, "genesis 1606824023 149")?);
+    let ask = Ask::Fork;
+    assert!(rt; is_answered(alloc, &ask, bodies::FORK, "fork 1 74240")?);
+    assert!(rt; is_answered(alloc, &ask, bodies::SPACED_FORK, "fork 1 74240")?);
+    let ask = Ask::Syncing;
+    assert!(rt; is_answered(alloc, &ask, bodies::SYNCING, "syncing true")?);
     Ok(())
 }
 
 #[test]
-fn an_answer_that_does_not_fit_cannot_be_read(rt: HostRuntime) -> Result<(), Fail> {
+fn each_question_about_a_slot_has_its_answer(rt: HostRuntime) -> Result<(), Fail> {
+    let alloc = rt.alloc();
+    let ask = Ask::Proposer { epoch: 3 };
+    assert!(rt; is_answered(alloc, &ask, bodies::PROPOSER, "proposer 170 2")?);
+    assert!(rt; is_answered(alloc, &DATA, bodies::DATA, "data 100 3")?);
+    assert!(rt; is_answered(alloc, &block(), bodies::BLOCK, "block 100 12")?);
+    Ok(())
+}
+
+const LIVE: &str =
+    "liveness [LivenessRow { index: 7, is_live: true }, LivenessRow { index: 9, is_live: false }]";
+
+#[test]
+fn each_question_with_a_list_has_its_answer(rt: HostRuntime) -> Result<(), Fail> {
     let alloc = rt.alloc();
     let ask = attester(alloc)?;
-    for (ask, body) in [
-        (&ask, bodies::LATE_ATTESTER),
-        (&Ask::Proposer { epoch: 2 }, bodies::PROPOSER),
-        (&ask, bodies::PROPOSER),
-        (&block(), bodies::LATER_BLOCK),
-        (&Ask::Syncing, r#"{"data":{"is_syncing":"true"}}"#),
-        (
-            &liveness(alloc)?,
-            r#"{"data":[{"index":7,"is_live":true}]}"#,
-        ),
-        (&Ask::Genesis, r#"{"data":{"genesis_time":"1"}}"#),
-        (&Ask::Fork, r#"{"data":[]}"#),
-    ] {
-        let words = asked_at(alloc, ask, 200, body)?;
-        assert!(rt; words.as_str().strip_prefix("unreadable ") == Some(body));
-    }
+    assert!(rt; is_answered(alloc, &ask, bodies::ATTESTER, "attester 187 1")?);
+    let ask = validators(alloc)?;
+    assert!(rt; is_answered(alloc, &ask, bodies::VALIDATORS, "validators 2 7 34")?);
+    let ask = liveness(alloc)?;
+    assert!(rt; is_answered(alloc, &ask, bodies::LIVENESS, LIVE)?);
+    Ok(())
+}
+
+/// Whether a body of status 200 cannot be read as the answer to a question.
+fn is_unreadable(alloc: Global, ask: &Ask, body: &str) -> Result<bool, Fail> {
+    let words = asked_at(alloc, ask, 200, body)?;
+    Ok(words.as_str().strip_prefix("unreadable ") == Some(body))
+}
+
+#[test]
+fn duties_that_do_not_fit_cannot_be_read(rt: HostRuntime) -> Result<(), Fail> {
+    let alloc = rt.alloc();
+    let ask = attester(alloc)?;
+    assert!(rt; is_unreadable(alloc, &ask, bodies::LATE_ATTESTER)?);
+    assert!(rt; is_unreadable(alloc, &ask, bodies::PROPOSER)?);
+    let ask = Ask::Proposer { epoch: 2 };
+    assert!(rt; is_unreadable(alloc, &ask, bodies::PROPOSER)?);
+    Ok(())
+}
+
+#[test]
+fn members_of_another_form_cannot_be_read(rt: HostRuntime) -> Result<(), Fail> {
+    let alloc = rt.alloc();
+    assert!(rt; is_unreadable(alloc, &block(), bodies::LATER_BLOCK)?);
+    assert!(rt; is_unreadable(alloc, &Ask::Syncing, r#"{"data":{"is_syncing":"true"}}"#)?);
+    assert!(rt; is_unreadable(alloc, &Ask::Genesis, r#"{"data":{"genesis_time":"1"}}"#)?);
+    assert!(rt; is_unreadable(alloc, &Ask::Fork, r#"{"data":[]}"#)?);
+    let ask = liveness(alloc)?;
+    assert!(rt; is_unreadable(alloc, &ask, r#"{"data":[{"index":7,"is_live":true}]}"#)?);
     Ok(())
 }
 
@@ -218,20 +249,22 @@ fn a_link_that_fails_is_a_fault_and_what_is_no_response_unreadable(
     let short = Vec::from_slice(alloc, b"HTTP/1.1 200 X\r\nContent-Length: 9\r\n\r\nshort")?;
     let words = asked(alloc, &Ask::Genesis, short, Vec::new(alloc))?;
     assert_eq!(rt; words.as_str(), "unreadable ");
-    let mut faults = 0;
-    'calls: for number in 0..100 {
+    // Connecting, the request, each byte of the head (39), the body and hanging up.
+    assert_eq!(rt; failing_calls(alloc)?, 43);
+    Ok(())
+}
+
+/// How many calls of the link there are of which each makes the question of genesis a fault.
+fn failing_calls(alloc: Global) -> Result<u64, Fail> {
+    for number in 0..100 {
         let failing = vec![in alloc; number]?;
         let said = response(alloc, 200, bodies::GENESIS)?;
         let words = asked(alloc, &Ask::Genesis, said, failing)?;
         if words.as_str() != "fault" {
-            assert_eq!(rt; words.as_str(), "genesis 1606824023 149");
-            break 'calls;
+            return Ok(number);
         }
-        faults += 1;
     }
-    // Connecting, the request, each byte of the head (39), the body and hanging up.
-    assert_eq!(rt; faults, 43);
-    Ok(())
+    Ok(100)
 }
 
 /// The line of what was sent, and its body.
@@ -244,45 +277,60 @@ fn sent_words(alloc: Global, node: BeaconNode<MemLink>) -> Result<String, Fail> 
     Ok(format!(in alloc; "{line}|{body}")?)
 }
 
+/// Whether a question is sent as this line and this body.
+fn is_sent_as(alloc: Global, ask: &Ask, words: &str) -> Result<bool, Fail> {
+    let mut node = node(alloc, Vec::new(alloc), Vec::new(alloc))?;
+    let _ = node.ask(ask);
+    Ok(sent_words(alloc, node)?.as_str() == words)
+}
+
 #[test]
-fn each_question_is_the_beacon_api_s_request(rt: HostRuntime) -> Result<(), Fail> {
+fn questions_about_the_chain_are_sent_as_the_beacon_api_has_them(
+    rt: HostRuntime,
+) -> Result<(), Fail> {
     let alloc = rt.alloc();
-    for (ask, words) in [
-        (&Ask::Genesis, "GET /base/eth/v1/beacon/genesis HTTP/1.1|"),
-        (
-            &Ask::Fork,
-            "GET /base/eth/v1/beacon/states/head/fork HTTP/1.1|",
-        ),
-        (&Ask::Syncing, "GET /base/eth/v1/node/syncing HTTP/1.1|"),
-        (
-            &validators(alloc)?,
-            "GET /base/eth/v1/beacon/states/head/validators?id=0x111111111111111111111111111111111111111111111111111111111111111111111111111111111111111111111111&id=0x222222222222222222222222222222222222222222222222222222222222222222222222222222222222222222222222 HTTP/1.1|",
-        ),
-        (
-            &Ask::Proposer { epoch: 3 },
-            "GET /base/eth/v1/validator/duties/proposer/3 HTTP/1.1|",
-        ),
-        (
-            &attester(alloc)?,
-            "POST /base/eth/v1/validator/duties/attester/3 HTTP/1.1|[\"7\",\"9\"]",
-        ),
-        (
-            &DATA,
-            "GET /base/eth/v1/validator/attestation_data?slot=100&committee_index=2 HTTP/1.1|",
-        ),
-        (
-            &block(),
-            "GET /base/eth/v2/validator/blocks/100?randao_reveal=0x444444444444444444444444444444444444444444444444444444444444444444444444444444444444444444444444444444444444444444444444444444444444444444444444444444444444444444444444444444444444444444444444&graffiti=0x0000000000000000000000000000000000000000000000000000000000000000 HTTP/1.1|",
-        ),
-        (
-            &liveness(alloc)?,
-            "POST /base/eth/v1/validator/liveness/3 HTTP/1.1|[\"7\"]",
-        ),
-    ] {
-        let mut node = node(alloc, Vec::new(alloc), Vec::new(alloc))?;
-        let _ = node.ask(ask);
-        assert_eq!(rt; sent_words(alloc, node)?.as_str(), words);
-    }
+    let words = "GET /base/eth/v1/beacon/genesis HTTP/1.1|";
+    assert!(rt; is_sent_as(alloc, &Ask::Genesis, words)?);
+    let words = "GET /base/eth/v1/beacon/states/head/fork HTTP/1.1|";
+    assert!(rt; is_sent_as(alloc, &Ask::Fork, words)?);
+    let words = "GET /base/eth/v1/node/syncing HTTP/1.1|";
+    assert!(rt; is_sent_as(alloc, &Ask::Syncing, words)?);
+    Ok(())
+}
+
+#[test]
+fn questions_about_duties_are_sent_as_the_beacon_api_has_them(rt: HostRuntime) -> Result<(), Fail> {
+    let alloc = rt.alloc();
+    let words = "GET /base/eth/v1/validator/duties/proposer/3 HTTP/1.1|";
+    assert!(rt; is_sent_as(alloc, &Ask::Proposer { epoch: 3 }, words)?);
+    let words = "POST /base/eth/v1/validator/duties/attester/3 HTTP/1.1|[\"7\",\"9\"]";
+    assert!(rt; is_sent_as(alloc, &attester(alloc)?, words)?);
+    let words = "POST /base/eth/v1/validator/liveness/3 HTTP/1.1|[\"7\"]";
+    assert!(rt; is_sent_as(alloc, &liveness(alloc)?, words)?);
+    let words = "GET /base/eth/v1/validator/attestation_data?slot=100&committee_index=2 HTTP/1.1|";
+    assert!(rt; is_sent_as(alloc, &DATA, words)?);
+    Ok(())
+}
+
+#[test]
+fn keys_and_a_reveal_are_sent_in_the_query(rt: HostRuntime) -> Result<(), Fail> {
+    let alloc = rt.alloc();
+    let one = hex_text(alloc, &[0x11; 48])?;
+    let two = hex_text(alloc, &[0x22; 48])?;
+    let words = format!(in alloc;
+        "GET /base/eth/v1/beacon/states/head/validators?id={}&id={} HTTP/1.1|",
+        one.as_str(),
+        two.as_str()
+    )?;
+    assert!(rt; is_sent_as(alloc, &validators(alloc)?, words.as_str())?);
+    let reveal = hex_text(alloc, &[0x44; 96])?;
+    let graffiti = hex_text(alloc, &[0; 32])?;
+    let words = format!(in alloc;
+        "GET /base/eth/v2/validator/blocks/100?randao_reveal={}&graffiti={} HTTP/1.1|",
+        reveal.as_str(),
+        graffiti.as_str()
+    )?;
+    assert!(rt; is_sent_as(alloc, &block(), words.as_str())?);
     Ok(())
 }
 
