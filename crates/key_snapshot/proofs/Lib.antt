@@ -1,0 +1,4 @@
+pub mod CutLemmas
+pub mod BatchLemmas
+pub mod RestoreLemmas
+pub mod TakeLemmas

@@ -1,0 +1,4 @@
+pub mod Cuts
+pub mod Snapshots
+pub mod Taking
+pub mod Restoring

@@ -1,0 +1,11 @@
+//! The batches of one key's snapshot: what a journal has to say of the key so that its replay brings the key back.
+#![tactic(auto)]
+
+mod entries;
+mod laws;
+mod snapshot;
+#[cfg(test)]
+mod tests;
+
+pub use laws::{batches_law, restoring_law};
+pub use snapshot::snapshot_batches;
