@@ -281,10 +281,8 @@ fn the_first_in_file_order_is_named(rt: HostRuntime) -> Result<(), Fail> {
         );
     }
     let double = Message::Block { slot: 7, root: RB };
-    assert_eq!(rt;
-        record.check(&double),
-        Verdict::DoubleBlock(block(7, Some(RA)))
-    );
+    let first = Verdict::DoubleBlock(block(7, Some(RA)));
+    assert_eq!(rt; record.check(&double), first);
     assert!(rt; record.keeps(&double));
     assert!(rt; !record.keeps(&Message::Block { slot: 9, root: RA }));
     Ok(())
