@@ -1,0 +1,13 @@
+//! Clocks: what they show, and waiting until a moment. Moments are seconds since 1970.
+#![tactic(auto)]
+
+mod clock;
+mod mem_clock;
+mod system_clock;
+
+pub use clock::Clock;
+pub use mem_clock::{Delay, MemClock};
+pub use system_clock::SystemClock;
+
+#[cfg(test)]
+mod tests;
