@@ -1,7 +1,10 @@
 -- What a signer keeps of its calls, where it keeps any.
-use Rattle.std.specs.Prelude.{◌<◌, List, Option, Some, None, option_map, vec_len, vec_capacity, ⊤}
+use Rattle.std.specs.Prelude.{◌≡◌, ◌<◌, List, [], Option, Some, None, option_map, vec_len, vec_capacity, ⊤}
 use Rattle.std.specs.Global.{Vec}
+use Rattle.signer_link.specs.declared.request.SignCall.{SignCall}
+use Rattle.signer_link.specs.declared.reply.SignReply.{SignReply}
 use Rattle.signer_link.specs.declared.reply.Told.{Told}
+use Rattle.signer_link.specs.Signing.{told_sign}
 
 -- the calls with their answers
 abbrev pub kept : Option (Vec Told) → Option (List Told)
@@ -11,3 +14,13 @@ kept told = option_map (λ v. v.items) told
 abbrev pub HasRoom : Option (Vec Told) → Type 0
 HasRoom None = ⊤
 HasRoom (Some told) = vec_len told < vec_capacity told
+
+-- what is to be kept of a call for the signature of a message: nothing where no calls are kept
+abbrev pub IsReady : Option (Vec Told) → Option SignCall → SignCall → Type 0
+IsReady None call given = call ≡ None
+IsReady (Some told) call given = call ≡ Some given
+
+-- what is told of it with its answer
+abbrev pub told_ready : Option SignCall → SignReply → List Told
+told_ready None answer = []
+told_ready (Some call) answer = told_sign call answer

@@ -1,7 +1,9 @@
 -- What the signing service is asked, and what it tells.
-use Rattle.std.specs.Prelude.{ℕ, List, [], ◌∷◌, if◌then◌else◌}
+use Rattle.std.specs.Prelude.{ℕ, List, [], ◌∷◌, Bool, true, false, Option, Some, None, if◌then◌else◌}
 use Rattle.edge_kit.specs.declared.bytes.PubKey.{PubKey}
 use Rattle.slash_defs.specs.declared.message.Message.{Message}
+use Rattle.signer_link.specs.declared.request.SignObject.{SignObject}
+use Rattle.signer_link.specs.declared.request.SignObject.TheVariants as made_of
 use Rattle.signer_link.specs.declared.request.SignRequest.{SignRequest}
 use Rattle.signer_link.specs.declared.request.SignCall.{SignCall}
 use Rattle.signer_link.specs.declared.request.PlainRequest.{PlainRequest}
@@ -13,6 +15,17 @@ use Rattle.signer_link.specs.declared.reply.DeleteReply.{DeleteReply}
 use Rattle.signer_link.specs.Outcomes.{sign_given, import_given, delete_given}
 use Rattle.signer_link.specs.declared.reply.Told.{Told}
 use Rattle.signer_link.specs.declared.reply.Told.TheVariants as told
+
+-- a whole block: the one object whose copy takes memory
+abbrev pub is_block : SignObject → Bool
+is_block (made_of.Header header) = false
+is_block (made_of.Block block) = true
+is_block (made_of.Attestation details) = false
+
+-- a message was made of one
+abbrev pub has_block : Option SignObject → Bool
+has_block None = false
+has_block (Some object) = is_block object
 
 -- to sign the message's root by the key
 abbrev pub asked : PubKey → Message → SignRequest → SignCall

@@ -1,17 +1,20 @@
-//! What a signer keeps of its calls.
+//! What a signer that tells its calls keeps of them, one that tells none keeping nothing: a list of calls with their
+//! answers, and `None`. Before the service is asked a signer makes room (`make_room`) and copies what it will keep
+//! (`sign_call`); behind its answer it keeps both (`tell_sign` and the like).
 ghost use Rattle.std.specs.Prelude.{◌≡◌, ◌⊎◌, ◌<◌, ◌++◌, ◌∷◌, [], true, vec_len, vec_capacity, IfOk, OnOk};
 ghost use Rattle.edge_kit.specs.Tellings.{Tells};
-ghost use Rattle.signer_link.specs.Keeping.{HasRoom, kept};
+ghost use Rattle.signer_link.specs.Keeping.{HasRoom, IsReady, kept, told_ready};
 ghost use Rattle.signer_link.specs.Outcomes.{delete_given, import_given, sign_given};
-ghost use Rattle.signer_link.specs.Signing.{imported, told_delete, told_import, told_plain, told_sign};
+ghost use Rattle.signer_link.specs.Signing.{asked, imported, told_delete, told_import, told_plain};
 
 use crate::reply::{DeleteReply, ImportReply, SignReply, Told};
-use crate::request::{ImportCall, PlainCall, SignCall};
+use crate::request::{ImportCall, PlainCall, SignCall, SignRequest};
 use edge_kit::{Items, PubKey};
+use slash_defs::Message;
 use std::alloc::{AllocError, Global};
 
 /// Makes room for one call, where calls are kept. The error is want of memory.
-pub(crate) fn make_room(told: &mut Option<Vec<Told>>) -> Result<(), AllocError>
+pub fn make_room(told: &mut Option<Vec<Told>>) -> Result<(), AllocError>
     ensures kept { kept told.new ≡ kept told.old }
     ensures room { OnOk result (HasRoom told.new) }
 {
@@ -29,19 +32,43 @@ pub(crate) fn keep(told: &mut Vec<Told>, call: Told)
     let _ = told.push(call);
 }
 
+/// What is to be kept of a call for the signature of a message, where calls are kept. The error is want of memory.
+pub fn sign_call(
+    alloc: Global,
+    told: &Option<Vec<Told>>,
+    key: &PubKey,
+    message: &Message,
+    request: &SignRequest,
+) -> Result<Option<SignCall>, AllocError>
+    ensures { IfOk result (λ call. IsReady told.now call (asked key.now message.now request.now)) }
+{
+    if told.is_none() {
+        return Ok(None);
+    }
+    let request = request.copy(alloc)?;
+    Ok(Some(SignCall {
+        key: *key,
+        message: *message,
+        request,
+    }))
+}
+
 /// Keeps a call for the signature of a message with its answer, where calls are kept, and hands the answer on.
 /// Where memory lacks nothing is kept, and the answer is `OutOfMemory`.
-pub(crate) fn tell_sign(
+pub fn tell_sign(
     alloc: Global,
     told: &mut Option<Vec<Told>>,
-    call: SignCall,
+    call: Option<SignCall>,
     answer: SignReply,
 ) -> SignReply
     requires { HasRoom told.old }
-    ensures told { Tells (kept told.old) (kept told.new) (told_sign call result) }
+    ensures told { Tells (kept told.old) (kept told.new) (told_ready call result) }
     ensures answer { (result ≡ answer) ⊎ (result ≡ SignReply.OutOfMemory) }
 {
     let Some(calls) = told else {
+        return answer;
+    };
+    let Some(call) = call else {
         return answer;
     };
     match sign_copy(alloc, &answer) {
@@ -54,7 +81,7 @@ pub(crate) fn tell_sign(
 }
 
 /// Keeps a call for another signature, likewise.
-pub(crate) fn tell_plain(
+pub fn tell_plain(
     alloc: Global,
     told: &mut Option<Vec<Told>>,
     call: PlainCall,
@@ -77,7 +104,7 @@ pub(crate) fn tell_plain(
 }
 
 /// Keeps a call to take a key in, likewise.
-pub(crate) fn tell_import(
+pub fn tell_import(
     alloc: Global,
     told: &mut Option<Vec<Told>>,
     key: &PubKey,
@@ -105,7 +132,7 @@ pub(crate) fn tell_import(
 }
 
 /// Keeps a call to give a key up, likewise.
-pub(crate) fn tell_delete(
+pub fn tell_delete(
     alloc: Global,
     told: &mut Option<Vec<Told>>,
     key: &PubKey,

@@ -1,16 +1,12 @@
-//! The service that signs.
+//! The service that signs: what it is asked, what it replies, and one in memory.
 #![tactic(auto)]
 
-mod blanks;
-mod keeping;
+pub mod keeping;
 mod laws;
 mod mem_signer;
 mod reply;
 mod request;
 mod signer;
-mod web3_replies;
-mod web3_requests;
-mod web3_signer;
 
 pub use laws::plain_law;
 pub use mem_signer::MemSigner;
@@ -19,4 +15,3 @@ pub use request::{
     ImportCall, PlainCall, PlainObject, PlainRequest, SignCall, SignObject, SignRequest,
 };
 pub use signer::Signer;
-pub use web3_signer::Web3Signer;

@@ -1,28 +1,48 @@
 //! What the signing service is asked.
-ghost use Rattle.std.specs.Prelude.{◌≡◌};
+ghost use Rattle.std.specs.Prelude.{◌≡◌, true, IfOk, OnErr};
+ghost use Rattle.signer_link.specs.Signing.{has_block, is_block};
 ghost use Rattle.signer_link.specs.Plain.{plain_domain, plain_epoch, plain_kind, plain_object_root, plain_root};
 
+use block_copies::block_copy;
 use edge_kit::{Items, PubKey, Root};
-use phase0_blocks::VoluntaryExit;
+use phase0_blocks::{BeaconBlock, VoluntaryExit};
 use phase0_types::{AttestationData, BeaconBlockHeader, Fork, Shaped};
 use sign_roots::{DomainKind, Domains, signing_root};
 use slash_defs::Message;
+use std::alloc::{AllocError, Global};
 
 /// How many slots an epoch has (consensus-specs, `SLOTS_PER_EPOCH`).
 const SLOTS_PER_EPOCH: u64 = 32;
 
-/// The object that a message was made of (Web3Signer: `beacon_block` with a header, `attestation`).
-#[derive(Clone, Copy, PartialEq, Eq, Debug)]
+/// The object that a message was made of (Web3Signer: `beacon_block` with `block_header` or `block`,
+/// `attestation`).
+#[derive(Drop, Debug)]
 pub enum SignObject {
     /// The header of a block.
     Header(BeaconBlockHeader),
+    /// A whole block.
+    Block(BeaconBlock),
     /// The data of a vote.
     Attestation(AttestationData),
 }
 
+impl SignObject {
+    /// The same object again. The error is want of memory, which only a whole block takes.
+    pub fn copy(&self, alloc: Global) -> Result<SignObject, AllocError>
+        ensures same { IfOk result (λ copy. copy ≡ self.now) }
+        ensures memory { OnErr result (is_block self.now ≡ true) }
+    {
+        match self {
+            SignObject::Header(header) => Ok(SignObject::Header(*header)),
+            SignObject::Block(block) => Ok(SignObject::Block(block_copy(alloc, block)?)),
+            SignObject::Attestation(details) => Ok(SignObject::Attestation(*details)),
+        }
+    }
+}
+
 /// What goes to the service beside the key and the message of the grant. The type of the request is the
 /// message's: `BLOCK_V2` for a block, `ATTESTATION` for a vote.
-#[derive(Clone, Copy, PartialEq, Eq, Debug)]
+#[derive(Drop, Debug)]
 pub struct SignRequest {
     /// The chain's fork.
     pub fork: Fork,
@@ -30,6 +50,24 @@ pub struct SignRequest {
     pub genesis: Root,
     /// What the message was made of, where it is known.
     pub object: Option<SignObject>,
+}
+
+impl SignRequest {
+    /// The same request again. The error is want of memory, which only a whole block takes.
+    pub fn copy(&self, alloc: Global) -> Result<SignRequest, AllocError>
+        ensures same { IfOk result (λ copy. copy ≡ self.now) }
+        ensures memory { OnErr result (has_block self.now.object ≡ true) }
+    {
+        let object = match &self.object {
+            Some(object) => Some(object.copy(alloc)?),
+            None => None,
+        };
+        Ok(SignRequest {
+            fork: self.fork,
+            genesis: self.genesis,
+            object,
+        })
+    }
 }
 
 /// What is signed that is no block and no vote, and so can be in no slashable pair.
@@ -110,7 +148,7 @@ impl PlainRequest {
 
 /// A call for the signature of a message: the key, the message whose root is to be signed, and what goes
 /// with it.
-#[derive(Clone, Copy, PartialEq, Eq, Debug)]
+#[derive(Drop, Debug)]
 pub struct SignCall {
     pub key: PubKey,
     pub message: Message,

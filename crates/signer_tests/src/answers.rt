@@ -1,15 +1,16 @@
 //! Web3Signer over a link in memory.
-use edge_kit::{Items, MemLink, PubKey, Root, hex_text};
-use phase0_blocks::VoluntaryExit;
-use phase0_types::{BeaconBlockHeader, Fork};
+use edge_kit::{Items, MemLink, PubKey, Root, Sig, hex_text};
+use phase0_blocks::{BeaconBlock, BeaconBlockBody, VoluntaryExit};
+use phase0_types::{BeaconBlockHeader, BoundedList, Eth1Data, Fork};
 use service_url::ServiceUrl;
 use signer_link::{
-    DeleteReply, ImportReply, PlainObject, PlainRequest, SignObject, SignReply, SignRequest,
-    Signer, Web3Signer,
+    DeleteReply, ImportReply, PlainObject, PlainRequest, SignObject, SignReply, SignRequest, Signer,
 };
 use slash_defs::{Granted, Message};
 use std::alloc::Global;
+use std::process::Abort;
 use std::test::Fail;
+use web3_signer::Web3Signer;
 
 /// Allows one message to be signed by one key.
 #[derive(Clone, Copy)]
@@ -60,7 +61,8 @@ fn signer(alloc: Global, said: Vec<u8>, failing: Vec<u64>) -> Result<Web3Signer<
     }
 }
 
-fn request() -> SignRequest {
+/// To sign a block that was made of this.
+fn request_of(object: SignObject) -> SignRequest {
     SignRequest {
         fork: Fork {
             previous_version: [0, 0, 0, 1],
@@ -68,14 +70,50 @@ fn request() -> SignRequest {
             epoch: 7,
         },
         genesis: Root([3; 32]),
-        object: Some(SignObject::Header(BeaconBlockHeader {
-            slot: 9,
-            proposer_index: 5,
-            parent_root: Root([4; 32]),
-            state_root: Root([5; 32]),
-            body_root: Root([6; 32]),
-        })),
+        object: Some(object),
     }
+}
+
+fn header() -> SignObject {
+    SignObject::Header(BeaconBlockHeader {
+        slot: 9,
+        proposer_index: 5,
+        parent_root: Root([4; 32]),
+        state_root: Root([5; 32]),
+        body_root: Root([6; 32]),
+    })
+}
+
+fn none<T: Drop, const LIMIT: usize>(alloc: Global) -> Result<BoundedList<T, LIMIT>, Fail> {
+    match BoundedList::try_new(Vec::new(alloc)) {
+        Ok(list) => Ok(list),
+        Err(_) => Err(Fail::new("no list")),
+    }
+}
+
+/// A whole block whose lists are empty.
+fn whole_block(alloc: Global) -> Result<SignObject, Fail> {
+    let body = BeaconBlockBody {
+        randao_reveal: Sig([7; 96]),
+        eth1_data: Eth1Data {
+            deposit_root: Root([8; 32]),
+            deposit_count: 6,
+            block_hash: Root([10; 32]),
+        },
+        graffiti: [11; 32],
+        proposer_slashings: none(alloc)?,
+        attester_slashings: none(alloc)?,
+        attestations: none(alloc)?,
+        deposits: none(alloc)?,
+        voluntary_exits: none(alloc)?,
+    };
+    Ok(SignObject::Block(BeaconBlock {
+        slot: 9,
+        proposer_index: 5,
+        parent_root: Root([4; 32]),
+        state_root: Root([5; 32]),
+        body,
+    }))
 }
 
 fn with_body(alloc: Global, name: &str, body: &Items<u8>) -> Result<String, Fail> {
@@ -97,7 +135,7 @@ fn sign_words(alloc: Global, reply: &SignReply) -> Result<String, Fail> {
 /// What `sign` answers where the peer says these bytes and the link fails at these calls.
 fn signed(alloc: Global, said: Vec<u8>, failing: Vec<u64>) -> Result<String, Fail> {
     let mut signer = signer(alloc, said, failing)?;
-    sign_words(alloc, &signer.sign(&request(), &PERMIT))
+    sign_words(alloc, &signer.sign(&request_of(header()), &PERMIT))
 }
 
 /// What `sign` answers to a status and a body.
@@ -223,21 +261,37 @@ const FIELDS: &str =
 const INFO: &str =
     r#""fork_info":{"fork":{"current_version":"0x00000002","epoch":"7","previous_version":"0x00000001"},"genesis_validators_root":"0x0303030303030303030303030303030303030303030303030303030303030303"}"#;
 
-/// A block in a body, before `INFO` and behind it.
+/// A block's header, and a whole block, in a body before `INFO`, and what stands behind it.
 const HEADER: &str =
     r#"{"beacon_block":{"block_header":{"body_root":"0x0606060606060606060606060606060606060606060606060606060606060606","parent_root":"0x0404040404040404040404040404040404040404040404040404040404040404","proposer_index":"5","slot":"9","state_root":"0x0505050505050505050505050505050505050505050505050505050505050505"},"version":"PHASE0"},"#;
+
+const WHOLE: &str =
+    r#"{"beacon_block":{"block":{"body":{"attestations":[],"attester_slashings":[],"deposits":[],"eth1_data":{"block_hash":"0x0a0a0a0a0a0a0a0a0a0a0a0a0a0a0a0a0a0a0a0a0a0a0a0a0a0a0a0a0a0a0a0a","deposit_count":"6","deposit_root":"0x0808080808080808080808080808080808080808080808080808080808080808"},"graffiti":"0x0b0b0b0b0b0b0b0b0b0b0b0b0b0b0b0b0b0b0b0b0b0b0b0b0b0b0b0b0b0b0b0b","proposer_slashings":[],"randao_reveal":"0x070707070707070707070707070707070707070707070707070707070707070707070707070707070707070707070707070707070707070707070707070707070707070707070707070707070707070707070707070707070707070707070707","voluntary_exits":[]},"parent_root":"0x0404040404040404040404040404040404040404040404040404040404040404","proposer_index":"5","slot":"9","state_root":"0x0505050505050505050505050505050505050505050505050505050505050505"},"version":"PHASE0"},"#;
 
 const BLOCK: &str =
     r#","signingRoot":"0x0202020202020202020202020202020202020202020202020202020202020202","type":"BLOCK_V2"}"#;
 
+/// Asks for a block that was made of this, and looks at what is sent: the length of the body, and what stands in
+/// it before `INFO`.
+fn compare_asked(
+    rt: &impl Abort,
+    alloc: Global,
+    object: SignObject,
+    len: u16,
+    front: &str,
+) -> Result<(), Fail> {
+    let mut signer = signer(alloc, Vec::new(alloc), Vec::new(alloc))?;
+    let _ = signer.sign(&request_of(object), &PERMIT);
+    let wanted = format!(in alloc; "POST {PATH} {FIELDS} {len}\r\n\r\n{front}{INFO}{BLOCK}")?;
+    assert_eq!(rt; sent(alloc, signer)?.as_str(), wanted.as_str());
+    Ok(())
+}
+
 #[test]
 fn a_block_is_asked_for_with_these_bytes(rt: HostRuntime) -> Result<(), Fail> {
     let alloc = rt.alloc();
-    let mut signer = signer(alloc, Vec::new(alloc), Vec::new(alloc))?;
-    let _ = signer.sign(&request(), &PERMIT);
-    let wanted = format!(in alloc; "POST {PATH} {FIELDS} 626\r\n\r\n{HEADER}{INFO}{BLOCK}")?;
-    assert_eq!(rt; sent(alloc, signer)?.as_str(), wanted.as_str());
-    Ok(())
+    compare_asked(&rt, alloc, header(), 626, HEADER)?;
+    compare_asked(&rt, alloc, whole_block(alloc)?, 1141, WHOLE)
 }
 
 /// Another object that is signed, the length of the body, and what stands in the body before `INFO` and behind it.
@@ -268,7 +322,7 @@ const PLAIN: [(PlainObject, u16, &str, &str); 3] = [
 #[test]
 fn each_other_object_is_asked_for_with_these_bytes(rt: HostRuntime) -> Result<(), Fail> {
     let alloc = rt.alloc();
-    let SignRequest { fork, genesis, .. } = request();
+    let SignRequest { fork, genesis, .. } = request_of(header());
     for (object, len, front, behind) in PLAIN {
         let mut signer = signer(alloc, Vec::new(alloc), Vec::new(alloc))?;
         let request = PlainRequest {

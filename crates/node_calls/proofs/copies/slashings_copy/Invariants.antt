@@ -1,6 +1,0 @@
-use Rattle.std.proofs.Common.{◌≡◌, take}
-use Rattle.node_calls.proofs.copies.slashings_copy.Given as goal
-
--- the copies so far are of the slashings in front
-abbrev pub invariant-slashings : goal.invariant-slashings
-invariant-slashings l = l.copies.items ≡ take l.slashing-index l.slashings

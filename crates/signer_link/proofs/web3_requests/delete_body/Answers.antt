@@ -1,8 +1,0 @@
-use Rattle.std.proofs.Common.{◌∙◌, ap}
-use Rattle.serde_json.specs.Written.{has_float, compact_text}
-use Rattle.signer_link.specs.Web3.{delete_body}
-use Rattle.signer_link.proofs.web3_requests.delete_body.Goals as goal
-
-pub returns : goal.returns
-unfolding delete_body
-returns c = ap (λ v. v.items) c.into_bytes.ensures.value ∙ c.in_ok-text.ensures.text (ap has_float c.in_ok-delete_value.ensures) ∙ ap compact_text c.in_ok-delete_value.ensures

@@ -1,0 +1,41 @@
+-- No body holds a float.
+use Rattle.std.proofs.Common.{◌≡◌, false, codes, refl, Option, Some, None}
+use Rattle.serde_json.specs.Written.{has_float}
+use Rattle.phase0_types.specs.Writing.{write}
+use Rattle.phase0_types.specs.Containers.{fork, attestation_data, beacon_block, beacon_block_header, voluntary_exit, checkpoint}
+use Rattle.phase0_types.specs.Attestations.{attestation_data_value}
+use Rattle.phase0_types.specs.Forks.{fork_value}
+use Rattle.phase0_types.specs.Headers.{beacon_block_header_value}
+use Rattle.phase0_blocks.specs.Blocks.{beacon_block_value}
+use Rattle.phase0_blocks.specs.Operations.{voluntary_exit_value}
+use Rattle.phase0_blocks.specs.declared.block.BeaconBlock.{BeaconBlock}
+use Rattle.block_copies.proofs.PlainLemmas.{neither, write_plain}
+use Rattle.slash_defs.specs.declared.message.Message.{Message}
+use Rattle.web3_signer.specs.Web3.{sign_data, plain_data, versioned}
+use Rattle.signer_link.specs.declared.request.SignObject.TheVariants as made_of
+use Rattle.signer_link.specs.declared.request.SignObject.{SignObject}
+use Rattle.signer_link.specs.declared.request.SignRequest.{SignRequest}
+use Rattle.signer_link.specs.declared.request.PlainObject.{PlainObject}
+use Rattle.signer_link.specs.declared.request.PlainObject.TheVariants as plain
+use Rattle.signer_link.specs.declared.request.PlainRequest.{PlainRequest}
+
+-- nor does a whole block
+block_plain : (block : BeaconBlock) → has_float (versioned (codes "block") (write beacon_block (beacon_block_value block))) ≡ false
+block_plain block = neither (has_float (write beacon_block (beacon_block_value block))) false (write_plain beacon_block (beacon_block_value block)) refl
+
+pub sign_plain_numbers : (request : SignRequest) (m : Message) → has_float (sign_data request m) ≡ false
+unfolding write fork fork_value attestation_data attestation_data_value checkpoint beacon_block_header beacon_block_header_value
+sign_plain_numbers request m = at request.object where
+  at : (object : Option SignObject) → has_float (sign_data (record request { object = object }) m) ≡ false
+  at None = refl
+  at (Some (made_of.Header header)) = refl
+  at (Some (made_of.Block block)) = neither (has_float (versioned (codes "block") (write beacon_block (beacon_block_value block)))) false (block_plain block) refl
+  at (Some (made_of.Attestation details)) = refl
+
+pub plain_plain_numbers : (request : PlainRequest) → has_float (plain_data request) ≡ false
+unfolding write fork fork_value voluntary_exit voluntary_exit_value
+plain_plain_numbers request = at request.object where
+  at : (object : PlainObject) → has_float (plain_data (record request { object = object })) ≡ false
+  at (plain.RandaoReveal epoch) = refl
+  at (plain.AggregationSlot slot) = refl
+  at (plain.VoluntaryExit exit) = refl

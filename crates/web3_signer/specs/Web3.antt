@@ -1,0 +1,122 @@
+-- What Web3Signer is asked: the paths and the JSON bodies of its calls (Web3Signer API, `eth2/sign`; Keymanager API,
+-- `keystores`). Bodies are compact JSON, members in byte order of their names.
+use Rattle.std.specs.Prelude.{ℕ, List, ◌++◌, Option, Some, None, codes, decimal}
+use Rattle.edge_kit.specs.Texts.{hex_text}
+use Rattle.edge_kit.specs.declared.bytes.PubKey.{PubKey}
+use Rattle.edge_kit.specs.declared.bytes.Root.{Root}
+use Rattle.serde_json.specs.Data.{Data, string, array, object, item, no_items, Members, member, no_members}
+use Rattle.serde_json.specs.Written.{compact_text}
+use Rattle.slash_defs.specs.declared.message.Message.{Message}
+use Rattle.slash_defs.specs.declared.message.Message.TheVariants as message
+use Rattle.slash_defs.specs.Signing.{signing_root_of}
+use Rattle.phase0_types.specs.Writing.{write}
+use Rattle.phase0_types.specs.Containers.{fork, attestation_data, beacon_block, beacon_block_header, voluntary_exit}
+use Rattle.phase0_types.specs.Attestations.{attestation_data_value}
+use Rattle.phase0_types.specs.Forks.{fork_value}
+use Rattle.phase0_types.specs.Headers.{beacon_block_header_value}
+use Rattle.phase0_types.specs.declared.fork.Fork.{Fork}
+use Rattle.phase0_blocks.specs.Blocks.{beacon_block_value}
+use Rattle.phase0_blocks.specs.Operations.{voluntary_exit_value}
+use Rattle.signer_link.specs.Plain.{plain_root}
+use Rattle.signer_link.specs.declared.request.SignObject.{SignObject}
+use Rattle.signer_link.specs.declared.request.SignObject.TheVariants as made_of
+use Rattle.signer_link.specs.declared.request.SignRequest.{SignRequest}
+use Rattle.signer_link.specs.declared.request.PlainObject.{PlainObject}
+use Rattle.signer_link.specs.declared.request.PlainObject.TheVariants as plain
+use Rattle.signer_link.specs.declared.request.PlainRequest.{PlainRequest}
+
+-- ---- the paths
+
+abbrev pub sign_path : PubKey → List ℕ
+sign_path key = codes "/api/v1/eth2/sign/" ++ hex_text key.0
+
+abbrev pub keystores_path : List ℕ
+keystores_path = codes "/eth/v1/keystores"
+
+-- ---- to sign
+
+-- an object of one member
+abbrev pub one_member : List ℕ → Data → Data
+one_member name value = object (member name value no_members)
+
+-- `fork_info`
+abbrev pub fork_info : Fork → Root → Data
+fork_info f genesis =
+    object (member (codes "fork") (write fork (fork_value f))
+    (member (codes "genesis_validators_root") (string (hex_text genesis.0)) no_members))
+
+-- `beacon_block` of a header or a whole block, under its name
+abbrev pub versioned : List ℕ → Data → Data
+versioned name value =
+    object (member name value
+    (member (codes "version") (string (codes "PHASE0")) no_members))
+
+-- the type of a request for a message
+abbrev pub type_of : Message → List ℕ
+type_of (message.Block slot root) = codes "BLOCK_V2"
+type_of (message.Vote source target root) = codes "ATTESTATION"
+
+-- the members of each request, with those that stand behind
+abbrev pub with_root : Data → Data → List ℕ → Members → Members
+with_root info root type behind =
+    member (codes "fork_info") info
+    (member (codes "signingRoot") root
+    (member (codes "type") (string type) behind))
+
+-- a root
+abbrev pub root_data : List ℕ → Data
+root_data root = string (hex_text root)
+
+-- the object that a message was made of stands before them, where it is known
+abbrev pub with_object : Option SignObject → Members → Members
+with_object None others = others
+with_object (Some (made_of.Header header)) others = member (codes "beacon_block") (versioned (codes "block_header") (write beacon_block_header (beacon_block_header_value header))) others
+with_object (Some (made_of.Block block)) others = member (codes "beacon_block") (versioned (codes "block") (write beacon_block (beacon_block_value block))) others
+with_object (Some (made_of.Attestation details)) others = member (codes "attestation") (write attestation_data (attestation_data_value details)) others
+
+-- the request for the signature of a message: of its root, under the fork and the genesis root of the chain
+abbrev pub sign_data : SignRequest → Message → Data
+sign_data request m = object (with_object request.object (with_root (fork_info request.fork request.genesis) (root_data (signing_root_of m).0) (type_of m) no_members))
+
+-- the request for another signature, whose object stands by its name among the members
+abbrev pub plain_members : PlainObject → Data → Data → Members
+plain_members (plain.RandaoReveal epoch) info root =
+    member (codes "fork_info") info
+    (member (codes "randao_reveal") (one_member (codes "epoch") (string (decimal epoch)))
+    (member (codes "signingRoot") root
+    (member (codes "type") (string (codes "RANDAO_REVEAL")) no_members)))
+plain_members (plain.AggregationSlot slot) info root =
+    member (codes "aggregation_slot") (one_member (codes "slot") (string (decimal slot)))
+    (with_root info root (codes "AGGREGATION_SLOT") no_members)
+plain_members (plain.VoluntaryExit exit) info root =
+    with_root info root (codes "VOLUNTARY_EXIT")
+    (member (codes "voluntary_exit") (write voluntary_exit (voluntary_exit_value exit)) no_members)
+
+abbrev pub plain_data : PlainRequest → Data
+plain_data request = object (plain_members request.object (fork_info request.fork request.genesis) (root_data (plain_root request)))
+
+-- ---- to take a key in, and to give one up
+
+-- a list of one text
+abbrev pub one_text : List ℕ → Data
+one_text text = array (item (string text) no_items)
+
+abbrev pub import_data : List ℕ → List ℕ → Data
+import_data keystore password = object (member (codes "keystores") (one_text keystore) (member (codes "passwords") (one_text password) no_members))
+
+abbrev pub delete_data : PubKey → Data
+delete_data key = one_member (codes "pubkeys") (one_text (hex_text key.0))
+
+-- ---- the bodies
+
+unfoldable pub sign_body : SignRequest → Message → List ℕ
+sign_body request m = compact_text (sign_data request m)
+
+unfoldable pub plain_body : PlainRequest → List ℕ
+plain_body request = compact_text (plain_data request)
+
+unfoldable pub import_body : List ℕ → List ℕ → List ℕ
+import_body keystore password = compact_text (import_data keystore password)
+
+unfoldable pub delete_body : PubKey → List ℕ
+delete_body key = compact_text (delete_data key)
