@@ -1,6 +1,7 @@
 pub mod DeskLemmas
 pub mod ExportLemmas
 pub mod ImageLemmas
+pub mod LeaveLemmas
 pub mod MachineLemmas
 pub mod MarkLemmas
 pub mod OpenLemmas

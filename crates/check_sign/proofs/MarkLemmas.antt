@@ -22,6 +22,7 @@ use Rattle.check_sign.specs.Contents.{Contents}
 use Rattle.desk_machine.specs.declared.event.DeskEvent.{DeskEvent}
 use Rattle.desk_machine.specs.declared.open_grant.OpenGrant.{OpenGrant}
 use Rattle.desk_machine.specs.States.{State, key_state, is_active}
+use Rattle.desk_machine.specs.Watches.{KeptWatches, WatchesStand}
 use Rattle.check_sign.specs.Standing.{DeskStands}
 use Rattle.check_sign.specs.Marking.{count_active}
 
@@ -87,17 +88,17 @@ found_at r states held key s is same known e = some_state (kept_of held key) s k
 
 -- ---- a desk that is as it was but for room, and a later moment
 
-pub later : (desk : Contents) (state : State) (keys : List (PubKey × Parts)) (states : List (PubKey × KeyState)) (grants : List OpenGrant) (next : ℕ) (events : List DeskEvent) (latest now : ℕ) → DeskStands desk state
-    → BooksStand keys state.keys → states ≡ desk.states → grants ≡ desk.grants → next ≡ desk.next → latest ≡ max desk.latest now
-    → DeskStands (record desk { keys = keys; states = states; grants = grants; next = next; events = events; latest = latest }) (record state { latest = max state.latest now })
-later desk state keys states grants next events latest now s each held granted counts moment = record {
+pub later : (desk : Contents) (state : State) (keys : List (PubKey × Parts)) (states : List (PubKey × KeyState)) (grants : List OpenGrant) (next : ℕ) (watches : KeptWatches) (events : List DeskEvent) (latest now : ℕ) → DeskStands desk state
+    → BooksStand keys state.keys → states ≡ desk.states → grants ≡ desk.grants → next ≡ desk.next → WatchesStand watches state.watching → latest ≡ max desk.latest now
+    → DeskStands (record desk { keys = keys; states = states; grants = grants; next = next; watches = watches; events = events; latest = latest }) (record state { latest = max state.latest now })
+later desk state keys states grants next watches events latest now s each held granted counts watched moment = record {
   genesis = s.genesis;
   keys = each;
   states = held ∙ s.states;
   grants = granted ∙ s.grants;
   next = counts ∙ s.next;
   latest = moment ∙ ap (λ m. max m now) s.latest;
-  watch = s.watch;
+  watches = watched;
   size = s.size;
   payloads = s.payloads;
   torn = s.torn;
@@ -135,7 +136,7 @@ begun_closing desk state key states events s is items = record {
   grants = s.grants;
   next = s.next;
   latest = s.latest;
-  watch = s.watch;
+  watches = s.watches;
   size = s.size;
   payloads = record { items = items; size = s.payloads.size };
   torn = s.torn;

@@ -38,7 +38,7 @@ use Rattle.desk_machine.specs.Handing.{IsExport}
 use Rattle.check_sign.specs.Marking.{count_active}
 use Rattle.desk_machine.specs.Machine.{after, grant_for, IsUp, Proceeds, Reply}
 use Rattle.desk_machine.specs.Written.{frame_size, HasRoomFor, proposal_items}
-use Rattle.desk_machine.specs.States.{State, is_active, key_state, lasting}
+use Rattle.desk_machine.specs.States.{State, IsAllowed, is_active, key_state, lasting}
 use Rattle.check_sign.specs.Standing.{DeskStands, PayloadsStand}
 use Rattle.desk_machine.specs.Grants.{open_grants}
 use Rattle.check_sign.specs.Writing.{Moved, Wrote, journal_of, refusal_of}
@@ -179,39 +179,39 @@ later_stands desk state books grants next events latest now s each same counts i
   grants = same ∙ s.grants;
   next = counts ∙ s.next;
   latest = is ∙ ap (λ n. max n now) s.latest;
-  watch = s.watch;
+  watches = s.watches;
   size = s.size;
   payloads = s.payloads;
   torn = s.torn;
 }
 
 pub proposal_fault : {D : Type 0} (faults : D → ℕ) (old new : Journaled D) (desk : Contents) (state : State) (key : PubKey) (m : Message) (now : ℕ) (past : Past) (f : AppendFault) (r : DeskReply)
-    → kept_of state.keys key ≡ Some past → kept_of state.states key ≡ Some Active → Passes past m → Wrote faults old (proposal_items (Some past) key m) new (Err f)
+    → kept_of state.keys key ≡ Some past → kept_of state.states key ≡ Some Active → Passes past m → IsAllowed state key → Wrote faults old (proposal_items (Some past) key m) new (Err f)
     → PayloadsStand old.payloads (lasting state) → old.size ≡ state.size → old.size ≡ journal_size old.payloads → old.torn ≡ None → IsUp state
     → ItemsStand (items_in old.payloads ++ message_item key m ∷ []) (own_grown state.keys key m) state.states
     → desk.payloads ≡ new.payloads → desk.size ≡ new.size → desk.torn ≡ new.torn → Rest desk (record state { latest = max state.latest now }) → r ≡ refusal_of f
     → Reply state (call.Propose key m now) r × DeskStands desk (after state (call.Propose key m now) r)
-proposal_fault faults old new desk state key m now past f r at active passes wrote payloads size journal clean up own payloads_are size_is torn_is rest is =
+proposal_fault faults old new desk state key m now past f r at active passes allowed wrote payloads size journal clean up own payloads_are size_is torn_is rest is =
     let R : DeskReply → Type 0 = λ x. Reply state (call.Propose key m now) x in
     let A : DeskReply → State = λ x. after state (call.Propose key m now) x in
     let T : DeskReply → Type 0 = λ x. R x × DeskStands desk (A x) in
     let writes : proposal_items (kept_of state.keys key) key m ≡ proposal_items (Some past) key m = ap (λ o. proposal_items o key m) at in
     subst T (sym is) (by_fault faults old new (proposal_items (Some past) key m) desk state (call.Propose key m now) f R A wrote payloads size journal clean up payloads_are size_is torn_is
-    (active, some_is (kept_of state.keys key) past (λ p. Passes p m) at passes) writes (proposed (items_in old.payloads) state.keys state.states key m past payloads.items at own)
+    ((active, some_is (kept_of state.keys key) past (λ p. Passes p m) at passes), allowed) writes (proposed (items_in old.payloads) state.keys state.states key m past payloads.items at own)
     (ap (λ i. state.size + frame_size i) writes) (λ h. h) (λ h. h) (λ s w h. h) refl refl (λ s w. refl) rest)
 
 pub proposal_granted : {D : Type 0} (faults : D → ℕ) (old new : Journaled D) (desk : Contents) (state : State) (key : PubKey) (m : Message) (now : ℕ) (past : Past) (grant : OpenGrant)
-    → kept_of state.keys key ≡ Some past → kept_of state.states key ≡ Some Active → Passes past m → Wrote faults old (proposal_items (Some past) key m) new (Ok tt)
+    → kept_of state.keys key ≡ Some past → kept_of state.states key ≡ Some Active → Passes past m → IsAllowed state key → Wrote faults old (proposal_items (Some past) key m) new (Ok tt)
     → PayloadsStand old.payloads (lasting state) → old.size ≡ state.size → old.size ≡ journal_size old.payloads → IsUp state
     → ItemsStand (items_in old.payloads ++ message_item key m ∷ []) (own_grown state.keys key m) state.states
     → desk.payloads ≡ new.payloads → desk.size ≡ new.size → desk.torn ≡ new.torn → Rest desk (after state (call.Propose key m now) (reply.Granted grant)) → grant ≡ grant_for state key m
     → Reply state (call.Propose key m now) (reply.Granted grant) × DeskStands desk (after state (call.Propose key m now) (reply.Granted grant))
-proposal_granted faults old new desk state key m now past grant at active passes wrote payloads size journal up own payloads_are size_is torn_is rest is =
+proposal_granted faults old new desk state key m now past grant at active passes allowed wrote payloads size journal up own payloads_are size_is torn_is rest is =
     let items = proposal_items (Some past) key m in
     let writes : proposal_items (kept_of state.keys key) key m ≡ items = ap (λ o. proposal_items o key m) at in
     let sizes : ℕ → Type 0 = λ n. HasRoomFor n items in
     let whats : List JournalItem → Type 0 = λ i. HasRoomFor state.size i in (
-      ((up, (active, some_is (kept_of state.keys key) past (λ p. Passes p m) at passes), subst whats (sym writes) (subst sizes size wrote.0)), is),
+      ((up, ((active, some_is (kept_of state.keys key) past (λ p. Passes p m) at passes), allowed), subst whats (sym writes) (subst sizes size wrote.0)), is),
       grown faults old new items desk state (after state (call.Propose key m now) (reply.Granted grant)) wrote size journal payloads_are size_is torn_is
           (proposed (items_in old.payloads) state.keys state.states key m past payloads.items at own) (ap (λ i. state.size + frame_size i) writes) up rest,
     )

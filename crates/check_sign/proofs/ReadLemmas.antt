@@ -2,7 +2,7 @@
 use Rattle.std.proofs.Common.{◌≡◌, ◌≤◌, ◌⊎◌, inl, inr, ℕ, Bool, true, List, [], ◌∷◌, ◌++◌, arith, length, Option, Some, None, refl, sym, ◌∙◌, ap, subst}
 use Rattle.std.specs.Prelude.{map}
 use Rattle.std.specs.List.{AllByRecursion}
-use Rattle.std.proofs.lemmas.List.{length-map}
+use Rattle.std.proofs.lemmas.List.{length-map, map-append}
 use Rattle.std.specs.Map.{keys_of}
 use Rattle.edge_kit.specs.declared.bytes.PubKey.{PubKey}
 use Rattle.edge_kit.specs.declared.bytes.Root.{Root}
@@ -23,9 +23,11 @@ use Rattle.record_join.specs.Keys.{kept_of}
 use Rattle.record_join.specs.BooksPasts.{BooksStand, key_limit}
 use Rattle.record_join.specs.EachKeyLaws.{each_keys}
 use Rattle.check_sign.specs.Contents.{Contents, Seen}
-use Rattle.desk_machine.specs.States.{State, Lasting, reopened, key_state}
+use Rattle.desk_machine.specs.States.{State, Lasting, reopened, key_state, key_standing, state_in}
+use Rattle.desk_machine.specs.Watches.{Watching, WatchesStand, fresh_watching, standing_of}
 use Rattle.check_sign.specs.Standing.{DeskStands, PayloadsStand, TornStands}
-use Rattle.desk_machine.specs.Machine.{key_states}
+use Rattle.desk_machine.specs.Machine.{key_standings}
+use Rattle.desk_machine.specs.declared.call.KeyStanding.{KeyStanding}
 use Rattle.check_sign.specs.Opening.{IsBroughtBack}
 use Rattle.check_sign.specs.Writing.{Moved, HoldsJournal, journal_of}
 use Rattle.check_sign.proofs.OpenLemmas.{still}
@@ -76,14 +78,34 @@ still_seen {D} moment leaves faults j seen now same is holds =
 
 -- ---- the keys with their states
 
-pub each_state : (states : List (PubKey × KeyState)) (books : List (PubKey × Parts)) → map {B = PubKey × KeyState} (λ (e : PubKey × Parts). (e.0, key_state states e.0)) books ≡ map {B = PubKey × KeyState} (λ key. (key, key_state states key)) (keys_of books)
-each_state states [] = refl
-each_state states (b ∷ books) = ap (λ l. (b.0, key_state states b.0) ∷ l) (each_state states books)
+abbrev pub states_of : List (PubKey × KeyState) → List PubKey → List (PubKey × KeyState)
+states_of states keys = map {B = PubKey × KeyState} (λ key. (key, key_state states key)) keys
 
-pub states_listed : (desk : Contents) (state : State) → DeskStands desk state → map {B = PubKey × KeyState} (λ key. (key, key_state desk.states key)) (keys_of desk.keys) ≡ key_states state
-states_listed desk state s =
-    let by_keys : List PubKey → List (PubKey × KeyState) = λ keys. map {B = PubKey × KeyState} (λ key. (key, key_state desk.states key)) keys in
-    let by_states : List (PubKey × KeyState) → List (PubKey × KeyState) = λ states. map {B = PubKey × KeyState} (λ key. (key, key_state states key)) (keys_of state.keys) in
+abbrev pub standings_of : List (PubKey × KeyState) → Watching → List PubKey → List (PubKey × KeyStanding)
+standings_of states w keys = map {B = PubKey × KeyStanding} (λ key. (key, key_standing (key_state states key) (standing_of w key))) keys
+
+abbrev pub told_states : List (PubKey × KeyStanding) → List (PubKey × KeyState)
+told_states listed = map {B = PubKey × KeyState} (λ l. (l.0, state_in l.1)) listed
+
+-- one key more
+pub one_state : (states : List (PubKey × KeyState)) (keys : List PubKey) (listed : List (PubKey × KeyStanding)) (key : PubKey) (x : KeyStanding) → told_states listed ≡ states_of states keys → state_in x ≡ key_state states key
+    → told_states (listed ++ (key, x) ∷ []) ≡ states_of states (keys ++ key ∷ [])
+one_state states keys listed key x before is =
+    let f : PubKey × KeyStanding → PubKey × KeyState = λ l. (l.0, state_in l.1) in
+    let g : PubKey → PubKey × KeyState = λ k. (k, key_state states k) in
+    map-append f listed ((key, x) ∷ []) ∙ ap (λ l. l ++ (key, state_in x) ∷ []) before ∙ ap (λ s. states_of states keys ++ (key, s) ∷ []) is
+    ∙ sym (map-append g keys (key ∷ []))
+
+pub one_standing : (states : List (PubKey × KeyState)) (w : Watching) (keys : List PubKey) (listed : List (PubKey × KeyStanding)) (key : PubKey) (x : KeyStanding) → listed ≡ standings_of states w keys → x ≡ key_standing (key_state states key) (standing_of w key)
+    → listed ++ (key, x) ∷ [] ≡ standings_of states w (keys ++ key ∷ [])
+one_standing states w keys listed key x before is =
+    let g : PubKey → PubKey × KeyStanding = λ k. (k, key_standing (key_state states k) (standing_of w k)) in
+    ap (λ l. l ++ (key, x) ∷ []) before ∙ ap (λ s. standings_of states w keys ++ (key, s) ∷ []) is ∙ sym (map-append g keys (key ∷ []))
+
+pub standings_listed : (desk : Contents) (state : State) → DeskStands desk state → standings_of desk.states state.watching (keys_of desk.keys) ≡ key_standings state
+standings_listed desk state s =
+    let by_keys : List PubKey → List (PubKey × KeyStanding) = λ keys. standings_of desk.states state.watching keys in
+    let by_states : List (PubKey × KeyState) → List (PubKey × KeyStanding) = λ states. standings_of states state.watching (keys_of state.keys) in
     ap by_keys (each_keys Stands desk.keys state.keys s.keys) ∙ ap by_states s.states
 
 -- ---- what a desk is opened to
@@ -110,7 +132,7 @@ pub record IsFresh (desk : Contents) (root : Root) (watched : Bool) (now : ℕ) 
   pub grants : desk.grants ≡ []
   pub next : desk.next ≡ 0
   pub latest : desk.latest ≡ now
-  pub watch : desk.watch ≡ watched
+  pub watches : WatchesStand desk.watches (fresh_watching watched now)
   pub size : desk.size ≡ journal_size desk.payloads
   pub torn : desk.torn ≡ None
 
@@ -123,7 +145,7 @@ reopens desk genesis watch now l fresh keys states s = let at_torn : Option (Lis
   grants = fresh.grants;
   next = fresh.next;
   latest = fresh.latest;
-  watch = fresh.watch;
+  watches = fresh.watches;
   size = fresh.size ∙ sym s.size;
   payloads = stand_on desk.payloads l s;
   torn = subst at_torn (sym fresh.torn) tt;

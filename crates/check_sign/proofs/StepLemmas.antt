@@ -11,6 +11,7 @@ use Rattle.record_replay.specs.Items.{items_in, items_or_none}
 use Rattle.record_replay.specs.Replaying.{ItemsStand}
 use Rattle.check_sign.specs.Contents.{Contents}
 use Rattle.desk_machine.specs.States.{State, Lasting, lasting}
+use Rattle.desk_machine.specs.Watches.{WatchesStand}
 use Rattle.check_sign.specs.Standing.{DeskStands, PayloadsStand, TornStands}
 use Rattle.desk_machine.specs.Written.{frame_size, IsOver, IsWritten, written}
 use Rattle.desk_machine.specs.Machine.{IsUp, Proceeds, MayFail, MayWant, IsTooMuch, lasting_after, torn_first, latest_after}
@@ -60,7 +61,7 @@ pub record Rest (desk : Contents) (state : State) : Type 0 where
   pub grants : desk.grants ≡ state.grants
   pub next : desk.next ≡ state.next
   pub latest : desk.latest ≡ state.latest
-  pub watch : desk.watch ≡ state.watch
+  pub watches : WatchesStand desk.watches state.watching
 
 pub whole : (desk : Contents) (state : State) → Rest desk state → desk.size ≡ state.size → PayloadsStand desk.payloads (lasting state) → TornStands desk.payloads desk.torn state.torn → DeskStands desk state
 whole desk state rest size payloads torn = record {
@@ -70,7 +71,7 @@ whole desk state rest size payloads torn = record {
   grants = rest.grants;
   next = rest.next;
   latest = rest.latest;
-  watch = rest.watch;
+  watches = rest.watches;
   size = size;
   payloads = payloads;
   torn = torn;
@@ -150,7 +151,7 @@ module _ {D : Type 0} (faults : D → ℕ) (old new : Journaled D) (items : List
           grants = rest.grants;
           next = rest.next;
           latest = rest.latest;
-          watch = rest.watch;
+          watches = rest.watches;
         }) (size_is ∙ ap (λ j. j.size) made ∙ size) (subst L (sym lists) stand)
             (some_torn desk.payloads desk.torn (torn_first state.torn l) (spelling items) l (torn_is ∙ ap (λ j. j.torn) made) torn
             (subst N (sym lists) (written_stands old.payloads items old.size l wrote.0 wrote.1 more journal (grows ∙ ap (λ n. n + frame_size items) (sym size)))))),

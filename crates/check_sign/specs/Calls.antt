@@ -1,5 +1,5 @@
 -- One call of a desk.
-use Rattle.std.specs.Prelude.{◌≡◌, ◌⊎◌, ◌↔◌, ℕ, ◌≤◌, Bool, List, [], ◌∷◌, ◌++◌, None, Some, is_some, IsSome, IsSomeAnd, IsTrue, map, if◌then◌else◌}
+use Rattle.std.specs.Prelude.{◌≡◌, ◌⊎◌, ◌↔◌, ℕ, ◌≤◌, Bool, List, [], ◌∷◌, ◌++◌, Option, None, Some, is_some, IsSome, IsSomeAnd, IsTrue, map, if◌then◌else◌}
 use Rattle.std.specs.Map.{keys_of}
 use Rattle.edge_kit.specs.Causes.{Rose}
 use Rattle.edge_kit.specs.Disks.{LeavesOnly}
@@ -8,12 +8,17 @@ use Rattle.slash_defs.specs.declared.message.Message.{Message}
 use Rattle.protect_record.specs.Parts.{Parts, SameParts}
 use Rattle.protect_record.specs.Verdicts.{IsVerdict}
 use Rattle.protect_record.specs.declared.verdict.Verdict.TheVariants as verdict
+use Rattle.doppel_watch.specs.declared.watch.WatchState.{WatchState}
+use Rattle.doppel_watch.specs.declared.watch.WatchState.TheVariants as watch
+use Rattle.desk_machine.specs.declared.call.KeyStanding.{KeyStanding}
 use Rattle.record_join.specs.Keys.{kept_of, EachKey}
 use Rattle.record_join.specs.KeyByKey.{Takes, TakesMessage}
 use Rattle.record_join.specs.Repeats.{IsKeptIn}
 use Rattle.record_replay.specs.Batches.{message_item}
+use Rattle.record_replay.specs.declared.state.KeyState.{KeyState}
 use Rattle.record_replay.specs.declared.state.KeyState.TheVariants.{Active}
-use Rattle.desk_machine.specs.States.{State, key_state}
+use Rattle.desk_machine.specs.States.{State, key_standing, key_state, state_in}
+use Rattle.desk_machine.specs.Watches.{IsOwnWatch, Watched, Watching, WatchesStand, standing_of, standing_under}
 use Rattle.desk_machine.specs.Machine.{Reply, after, latest_after}
 use Rattle.desk_machine.specs.Grants.{IsGrantFor, IsIdleOrBusy, IsNumbered, grants_after, next_after}
 use Rattle.desk_machine.specs.Kinds.{IsKind}
@@ -44,12 +49,46 @@ pub record Counted (old : Contents) (c : DeskCall) (r : DeskReply) (new : Conten
   pub events : new.events ≡ old.events ++ noted old.latest c r
   pub genesis : new.genesis ≡ old.genesis
 
+-- A key's own watch stands for what was told, and that makes it stand so, whatever is kept of other keys.
+abbrev pub OwnStands : Contents → PubKey → WatchState → Type 0
+OwnStands desk key s = (x : Watched) × IsOwnWatch desk.watches key x × (s ≡ standing_under desk.watches.on x)
+
+-- Leave to sign rests on the key's own state and watch, whatever is kept of other keys: no disk has failed, the key is kept and
+-- active, and its watch lets it sign.
+pub record MaySignHere (desk : Contents) (key : PubKey) : Type 0 where
+  pub up : desk.torn ≡ None
+  pub kept : IsSome (kept_of desk.keys key)
+  pub active : kept_of desk.states key ≡ Some Active
+  pub allowed : OwnStands desk key watch.Allowed
+
+-- leave for what is no block and no vote: nothing is recorded or written
+pub record IsOwnLeave (old : Contents) (key : PubKey) (new : Contents) : Type 0 where
+  pub may_sign : MaySignHere old key
+  pub keys : new.keys ≡ old.keys
+  pub states : new.states ≡ old.states
+  pub payloads : new.payloads ≡ old.payloads
+
+-- the reply says why a key may not sign: the disk failed before, or one of five others
+abbrev pub IsBar : Option (List ℕ) → DeskReply → Type 0
+IsBar torn reply.Disk = IsSome torn
+IsBar torn reply.Unknown = Unit {0}
+IsBar torn reply.NotActive = Unit {0}
+IsBar torn reply.Closing = Unit {0}
+IsBar torn (reply.Live epoch) = Unit {0}
+IsBar torn (reply.Watching first second) = Unit {0}
+IsBar torn r = ⊥
+
+-- a watch bars a key where the key is active and its own watch stands so
+abbrev pub IsOwnBar : Contents → PubKey → DeskReply → Type 0
+IsOwnBar desk key (reply.Live epoch) = (kept_of desk.states key ≡ Some Active) × OwnStands desk key (watch.Live epoch)
+IsOwnBar desk key (reply.Watching first second) = (kept_of desk.states key ≡ Some Active) × OwnStands desk key (watch.Missing first second)
+IsOwnBar desk key r = Unit {0}
+
 -- A grant rests on the key's own record, whatever is kept of other keys, and even where a record stands for no past: no disk has
--- failed, the key is active, and its record lets the message pass; the message is written, unless the record keeps it already, and
+-- failed, the key is active and allowed by its watch, and its record lets the message pass; the message is written, unless the record keeps it already, and
 -- the record has it from now on. Each other record keeps what it kept.
 pub record IsOwnGrant (old : Contents) (key : PubKey) (m : Message) (new : Contents) : Type 0 where
-  pub up : old.torn ≡ None
-  pub active : kept_of old.states key ≡ Some Active
+  pub may_sign : MaySignHere old key
   pub repeat : Bool
   pub passes : IsSomeAnd (kept_of old.keys key) (λ parts. IsVerdict parts m verdict.Pass × (IsTrue repeat ↔ IsKeptIn parts m))
   pub is_written : new.payloads ≡ old.payloads ++ payloads_of (if repeat then [] else message_item key m ∷ [])
@@ -58,10 +97,17 @@ pub record IsOwnGrant (old : Contents) (key : PubKey) (m : Message) (new : Conte
   pub added : Takes TakesMessage roomier new.keys key m
   pub states : new.states ≡ old.states
 
--- the same of what is told: the kept keys in order, each with its state; and whether the disk has failed
+-- the same of leave, of what a watch bars, and of what is told: the kept keys in order, each with its state and as its watch
+-- stands; and whether the disk has failed
 abbrev pub IsOwn : Contents → DeskCall → DeskReply → Contents → Type 0
 IsOwn old (call.Propose key m now) (reply.Granted grant) new = IsOwnGrant old key m new
-IsOwn old call.Keys (reply.Keys listed) new = (listed ≡ map (λ key. (key, key_state old.states key)) (keys_of old.keys)) × (new.keys ≡ old.keys) × (new.states ≡ old.states)
+IsOwn old (call.Propose key m now) (reply.Live epoch) new = IsOwnBar old key (reply.Live epoch)
+IsOwn old (call.Propose key m now) (reply.Watching first second) new = IsOwnBar old key (reply.Watching first second)
+IsOwn old (call.Allow key now) (reply.Granted grant) new = IsOwnLeave old key new
+IsOwn old (call.Allow key now) (reply.Live epoch) new = IsOwnBar old key (reply.Live epoch)
+IsOwn old (call.Allow key now) (reply.Watching first second) new = IsOwnBar old key (reply.Watching first second)
+IsOwn old call.Keys (reply.Keys listed) new = (map {B = PubKey × KeyState} (λ l. (l.0, state_in l.1)) listed ≡ map {B = PubKey × KeyState} (λ key. (key, key_state old.states key)) (keys_of old.keys)) × (new.keys ≡ old.keys) × (new.states ≡ old.states)
+    × ((w : Watching) → WatchesStand old.watches w → listed ≡ map {B = PubKey × KeyStanding} (λ key. (key, key_standing (key_state old.states key) (standing_of w key))) (keys_of old.keys))
 IsOwn old call.HasFailed (reply.HasFailed failed) new = failed ≡ is_some old.torn
 IsOwn old c r new = Unit {0}
 

@@ -1,9 +1,10 @@
 -- What a desk holds, as contracts see it.
-use Rattle.std.specs.Prelude.{ℕ, Bool, List, Option}
+use Rattle.std.specs.Prelude.{ℕ, List, Option}
 use Rattle.edge_kit.specs.declared.bytes.PubKey.{PubKey}
 use Rattle.edge_kit.specs.declared.bytes.Root.{Root}
 use Rattle.protect_record.specs.Parts.{Parts}
 use Rattle.record_replay.specs.declared.state.KeyState.{KeyState}
+use Rattle.desk_machine.specs.Watches.{KeptWatches}
 use Rattle.desk_machine.specs.declared.open_grant.OpenGrant.{OpenGrant}
 use Rattle.desk_machine.specs.declared.event.DeskEvent.{DeskEvent}
 
@@ -20,8 +21,8 @@ pub record Contents : Type 0 where
   pub next : ℕ
   -- the latest moment
   pub latest : ℕ
-  -- whether keys that become active are watched first
-  pub watch : Bool
+  -- the watches of the keys since opening, and whether keys are watched
+  pub watches : KeptWatches
   -- what the desk did since it was opened
   pub events : List DeskEvent
   -- the payloads of the journal, its size in bytes, and the payload whose writing a fault of the disk tore

@@ -6,3 +6,5 @@ pub mod Images
 pub mod Marking
 pub mod Writing
 pub mod Opening
+pub mod Paths
+pub mod PathLaws

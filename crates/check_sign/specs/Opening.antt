@@ -16,6 +16,7 @@ use Rattle.record_journal.specs.declared.open.OpenFault.TheVariants as journal_f
 use Rattle.record_replay.specs.declared.fault.ReplayFault.{ReplayFault}
 use Rattle.record_replay.specs.declared.fault.ReplayFault.TheVariants as replay_fault
 use Rattle.desk_machine.specs.States.{Lasting, reopened}
+use Rattle.desk_machine.specs.Watches.{WatchesStand, fresh_watching}
 use Rattle.check_sign.specs.Contents.{Contents, Seen}
 use Rattle.check_sign.specs.Standing.{DeskStands, PayloadsStand}
 use Rattle.check_sign.specs.Writing.{journal_of}
@@ -58,7 +59,7 @@ pub record IsOpened {D : Type 0} (shows : D → List ℕ → Type 0) (first : D)
   pub none_open : desk.grants ≡ []
   pub none_given : desk.next ≡ 0
   pub latest_is : desk.latest ≡ now
-  pub watch_is : desk.watch ≡ watch
+  pub watches_are : WatchesStand desk.watches (fresh_watching watch now)
   pub none_noted : desk.events ≡ []
   pub up : desk.torn ≡ None
 

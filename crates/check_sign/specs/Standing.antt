@@ -7,6 +7,7 @@ use Rattle.record_journal.specs.Journals.{journal_size}
 use Rattle.record_replay.specs.Items.{items_in}
 use Rattle.record_replay.specs.Replaying.{ItemsStand}
 use Rattle.desk_machine.specs.States.{State, Lasting, lasting}
+use Rattle.desk_machine.specs.Watches.{WatchesStand}
 use Rattle.check_sign.specs.Contents.{Contents}
 
 -- payloads stand for what lasts
@@ -21,7 +22,8 @@ TornStands payloads None (Some l) = ⊥
 TornStands payloads (Some p) None = ⊥
 TornStands payloads (Some p) (Some l) = PayloadsStand (payloads ++ p ∷ []) l
 
--- a desk stands for a state: each record stands for its past, the journal for what lasts, and all else is equal
+-- a desk stands for a state: each record stands for its past, each watch for what was told, the journal for what lasts, and all
+-- else is equal
 pub record DeskStands (desk : Contents) (state : State) : Type 0 where
   pub genesis : desk.genesis ≡ state.genesis
   pub keys : BooksStand desk.keys state.keys
@@ -29,7 +31,7 @@ pub record DeskStands (desk : Contents) (state : State) : Type 0 where
   pub grants : desk.grants ≡ state.grants
   pub next : desk.next ≡ state.next
   pub latest : desk.latest ≡ state.latest
-  pub watch : desk.watch ≡ state.watch
+  pub watches : WatchesStand desk.watches state.watching
   pub size : desk.size ≡ state.size
   pub payloads : PayloadsStand desk.payloads (lasting state)
   pub torn : TornStands desk.payloads desk.torn state.torn

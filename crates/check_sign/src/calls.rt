@@ -30,15 +30,40 @@ impl<D: Disk> Desk<D> {
         self.call(DeskCall::Activate { key, now })
     }
 
-    /// Grants a proposal exactly where the key is active and its past lets it pass, once the message is on the
-    /// disk; a repeat writes nothing. Refused by `Disk` where the disk failed, by `Unknown` exactly where no past
-    /// is kept, by `NotActive` and `Closing` exactly in these states, by the first verdict that holds, and by
-    /// `OutOfMemory`, `Full` and `Disk` in this order. The grant has to be spent by `settle`.
+    /// Grants a proposal exactly where the key is active, its watch allows it and its past lets it pass, once the
+    /// message is on the disk; a repeat writes nothing. Refused by `Disk` where the disk failed, by `Unknown`
+    /// exactly where no past is kept, by `NotActive` and `Closing` exactly in these states, by `Live` and
+    /// `Watching` as the key's watch stands, by the first verdict that holds, and by `OutOfMemory`, `Full` and
+    /// `Disk` in this order. The grant has to be spent by `settle`.
     pub fn propose(&mut self, key: PubKey, message: Message, now: u64) -> DeskReply
         requires { now ≤ moment_limit }
         ensures { IsCallOf D.moment D.leaves D.faults self.old self.new (DeskCall.Propose key message now) result }
     {
         self.call(DeskCall::Propose { key, message, now })
+    }
+
+    /// Grants leave to sign what is no block and no vote, exactly where the key is active and its watch allows it.
+    /// Nothing is recorded. Refused by `Disk` where the disk failed, by `Unknown`, `NotActive`, `Closing`, `Live`
+    /// and `Watching` as a proposal is, and by `OutOfMemory`. The grant has to be spent by `settle`.
+    pub fn allow(&mut self, key: PubKey, now: u64) -> DeskReply
+        requires { now ≤ moment_limit }
+        ensures { IsCallOf D.moment D.leaves D.faults self.old self.new (DeskCall.Allow key now) result }
+    {
+        self.call(DeskCall::Allow { key, now })
+    }
+
+    /// Takes in what beacon nodes tell of a key that is active or being closed: whether it was seen live in an
+    /// epoch. Refused by `Unknown` exactly where no past is kept, by `NotActive`, and by `OutOfMemory`.
+    pub fn answer(&mut self, key: PubKey, epoch: u64, live: bool, now: u64) -> DeskReply
+        requires { now ≤ moment_limit }
+        ensures { IsCallOf D.moment D.leaves D.faults self.old self.new (DeskCall.Answer key epoch live now) result }
+    {
+        self.call(DeskCall::Answer {
+            key,
+            epoch,
+            live,
+            now,
+        })
     }
 
     /// Spends a grant that is open at this desk: `Sent` wherever sending was begun, else `Dropped`. Takes no
@@ -84,7 +109,7 @@ impl<D: Disk> Desk<D> {
         self.call(DeskCall::Prune { key })
     }
 
-    /// The kept keys in order, each with its state. Refused by `OutOfMemory` alone.
+    /// The kept keys in order, each with how it stands. Refused by `OutOfMemory` alone.
     pub fn keys(&mut self) -> DeskReply
         ensures { IsCallOf D.moment D.leaves D.faults self.old self.new (DeskCall.Keys) result }
     {

@@ -41,6 +41,9 @@ impl<D: Disk> Desk<D> {
                 new: 1,
             };
         }
+        if self.watches.reserve(&key).is_err() {
+            return DeskReply::OutOfMemory;
+        }
         if !make_room(&mut self.events, &mut self.grants, self.closable) {
             return DeskReply::OutOfMemory;
         }
@@ -58,6 +61,7 @@ impl<D: Disk> Desk<D> {
             return refusal(fault);
         }
         self.closable += 1;
+        self.watches.begin(&key, self.latest);
         note(&mut self.events, Event::Activated { key }, self.latest);
         DeskReply::Active
     }

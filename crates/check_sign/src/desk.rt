@@ -10,7 +10,7 @@ ghost use Rattle.check_sign.specs.Writing.{Moved, journal_of};
 
 use crate::room::note;
 use desk_machine::{
-    DeskCall, DeskEvent, DeskReply, Event, Events, Grant, Keys, OpenGrants, Outcome,
+    DeskCall, DeskEvent, DeskReply, Event, Events, Grant, Keys, OpenGrants, Outcome, Watches,
 };
 use edge_kit::{Disk, Disks, PubKey, Root};
 use protect_record::Record;
@@ -27,7 +27,7 @@ use std::marker::Model;
 pub struct Desk<D: Disk> {
     pub(crate) alloc: Global,
     pub(crate) genesis: Root,
-    pub(crate) watch: bool,
+    pub(crate) watches: Watches,
     pub(crate) journal: Journal<D>,
     pub(crate) second: D,
     pub(crate) books: Books,
@@ -43,6 +43,7 @@ impl<D: Disk> Model for Desk<D> {
     ghost use Rattle.check_sign.specs.Contents.{Contents, Seen};
     ghost use Rattle.check_sign.specs.Marking.{count_active};
     ghost use Rattle.check_sign.specs.Writing.{HoldsJournal};
+    ghost use Rattle.desk_machine.specs.Machine.{moment_limit};
 
     ghost Value = { Seen D };
 
@@ -56,7 +57,7 @@ impl<D: Disk> Model for Desk<D> {
         grants = d.grants.grants;
         next = d.grants.next;
         latest = d.latest;
-        watch = d.watch;
+        watches = d.watches;
         events = d.events.items;
         payloads = d.journal.payloads;
         size = d.journal.size;
@@ -64,9 +65,10 @@ impl<D: Disk> Model for Desk<D> {
       };
     } };
 
-    // There is room for the events of settling each open grant and of beginning to close each active key.
+    // There is room for the events of settling each open grant and of beginning to close each active key; and the latest moment is
+    // within its limit.
     ghost invariant = { λ d. (vec_len d.events + length d.grants.grants + d.closable ≤ vec_capacity d.events) × (d.grants.next ≤ vec_len d.events)
-        × (count_active d.states.entries ≤ d.closable) × HoldsJournal D.moment D.leaves d.genesis d.journal };
+        × (count_active d.states.entries ≤ d.closable) × HoldsJournal D.moment D.leaves d.genesis d.journal × (d.latest ≤ moment_limit) };
 }
 
 impl<D: Disk> Desk<D> {
@@ -93,6 +95,13 @@ impl<D: Disk> Desk<D> {
             DeskCall::Merge { file } => self.merge_file(file),
             DeskCall::Activate { key, now } => self.activate_key(key, now),
             DeskCall::Propose { key, message, now } => self.propose_message(key, message, now),
+            DeskCall::Allow { key, now } => self.allow_key(key, now),
+            DeskCall::Answer {
+                key,
+                epoch,
+                live,
+                now,
+            } => self.note_answer(key, epoch, live, now),
             DeskCall::Settle { grant, outcome } => {
                 self.settle_grant(grant, outcome);
                 DeskReply::Settled

@@ -2,9 +2,11 @@
 #![tactic(auto)]
 
 mod calls;
+mod calls_by;
 mod closing;
 mod desk;
 mod exporting;
+mod leave;
 mod marking;
 mod merging;
 mod open;
@@ -15,7 +17,7 @@ mod writing;
 
 pub use desk::Desk;
 pub use desk_machine::{
-    DeskCall, DeskEvent, DeskReply, Event, Events, Grant, KeyState, KeyStates, Keys, MOMENT_LIMIT,
-    OpenGrant, Outcome,
+    DeskCall, DeskCalls, DeskEvent, DeskReply, Event, Events, Grant, KeyStanding, KeyStandings,
+    KeyState, Keys, MOMENT_LIMIT, OpenGrant, Outcome, WatchState,
 };
 pub use open::OpenFault;

@@ -1,10 +1,10 @@
 //! The opening of a desk.
-ghost use Rattle.std.specs.Prelude.{◌≡◌, ◌≤◌, false, IfOk, IfErr};
+ghost use Rattle.std.specs.Prelude.{◌≡◌, ◌≤◌, IfOk, IfErr};
 ghost use Rattle.desk_machine.specs.Machine.{moment_limit};
 ghost use Rattle.check_sign.specs.Opening.{Opening, OpeningRefused, open_fault_of};
 
 use crate::desk::Desk;
-use desk_machine::OpenGrants;
+use desk_machine::{OpenGrants, Watches};
 use edge_kit::{Disk, Disks, Root};
 use record_journal::Journal;
 use record_replay::{ReplayFault, Replayed, replay};
@@ -27,7 +27,8 @@ pub enum OpenFault {
 impl<D: Disk> Desk<D> {
     /// Opens the desk of a journal on the first disk, for the chain with this root of genesis validators, at an
     /// epoch. A journal is begun where there is none. A key that was being closed is active again, and no
-    /// grant is open. Keys are not watched: `watch` is false. An `Err` gives the disks back.
+    /// grant is open. Where `watch` is true, keys are watched before they sign: each active key from this epoch
+    /// on, as one that becomes active later is from then on. An `Err` gives the disks back.
     ///
     /// # Errors
     ///
@@ -40,7 +41,6 @@ impl<D: Disk> Desk<D> {
         watch: bool,
         now: u64,
     ) -> Result<Desk<D>, (OpenFault, Disks<D>)>
-        requires watch { watch ≡ false }
         requires moment { now ≤ moment_limit }
         ensures opened { IfOk result (λ d. Opening D.shows D.moment D.leaves D.faults disks.first disks.second genesis watch now d) }
         ensures refused { IfErr result (λ e. OpeningRefused D.shows D.moment D.leaves D.faults disks.first genesis e.0 e.1.first × (e.1.second ≡ disks.second)) }
@@ -68,7 +68,7 @@ impl<D: Disk> Desk<D> {
         Ok(Desk {
             alloc,
             genesis,
-            watch,
+            watches: Watches::new(alloc, watch, now),
             journal,
             second,
             books,

@@ -7,17 +7,16 @@ ghost use Rattle.check_sign.specs.Writing.{Moved, journal_of};
 ghost use Rattle.desk_machine.specs.declared.call.DeskCall.TheVariants as DeskCall;
 
 use crate::desk::Desk;
-use crate::marking::state_of;
 use crate::room::{give, make_room};
 use crate::writing::{refusal, write_message};
 use desk_machine::DeskReply;
 use edge_kit::{Disk, PubKey};
 use record_join::Judged;
-use record_replay::{KeyState, replay_laws};
+use record_replay::replay_laws;
 use slash_defs::Message;
 
 impl<D: Disk> Desk<D> {
-    /// Grants a proposal of an active key whose past lets it pass, once it is on the disk.
+    /// Grants a proposal of a key that may sign and whose past lets it pass, once it is on the disk.
     pub(crate) fn propose_message(&mut self, key: PubKey, message: Message, now: u64) -> DeskReply
         requires { now ≤ moment_limit }
         ensures machine { IsStep self.old.contents (DeskCall.Propose key message now) result self.new.contents }
@@ -28,16 +27,9 @@ impl<D: Disk> Desk<D> {
         ensures second { self.new.second ≡ self.old.second }
     {
         self.latest = self.latest.max(now);
-        if self.journal.failed() {
-            return DeskReply::Disk;
-        }
-        let Some(_) = self.books.get(&key) else {
-            return DeskReply::Unknown;
-        };
-        match state_of(&self.states, &key) {
-            KeyState::Active => {}
-            KeyState::Closing => return DeskReply::Closing,
-            KeyState::Known | KeyState::Closed => return DeskReply::NotActive,
+        match self.may_sign(&key) {
+            Ok(()) => {}
+            Err(bar) => return bar,
         }
         replay_laws();
         let has_room = make_room(&mut self.events, &mut self.grants, self.closable);

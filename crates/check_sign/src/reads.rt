@@ -6,7 +6,7 @@ ghost use Rattle.check_sign.specs.Writing.{Moved, journal_of};
 ghost use Rattle.desk_machine.specs.declared.call.DeskCall.TheVariants as DeskCall;
 
 use crate::desk::Desk;
-use crate::exporting::{exports_of, states_of};
+use crate::exporting::{exports_of, standings_of};
 use desk_machine::{DeskReply, Keys};
 use edge_kit::Disk;
 use slash_defs::File;
@@ -30,7 +30,7 @@ impl<D: Disk> Desk<D> {
         }
     }
 
-    /// The kept keys in order, each with its state.
+    /// The kept keys in order, each with how it stands.
     pub(crate) fn list_states(&mut self) -> DeskReply
         ensures machine { IsStep self.old.contents (DeskCall.Keys) result self.new.contents }
         ensures counted { Counted self.old.contents (DeskCall.Keys) result self.new.contents }
@@ -39,7 +39,13 @@ impl<D: Disk> Desk<D> {
         ensures moved { Moved D.moment D.leaves D.faults (journal_of self.old) (journal_of self.new) }
         ensures second { self.new.second ≡ self.old.second }
     {
-        match states_of(self.alloc, &self.books, &self.states) {
+        match standings_of(
+            self.alloc,
+            &self.books,
+            &self.states,
+            &self.watches,
+            self.latest,
+        ) {
             Ok(listed) => DeskReply::Keys(listed),
             Err(AllocError) => DeskReply::OutOfMemory,
         }

@@ -1,5 +1,5 @@
 //! Room that is made before the desk changes, and spent without refusal.
-ghost use Rattle.std.specs.Prelude.{◌≡◌, ◌+◌, ◌-◌, ◌^◌, ◌<◌, ◌≤◌, ◌⊎◌, ◌↔◌, ◌++◌, ◌∷◌, [], false, Some, IsSome, IsTrue, vec_len, vec_capacity, length};
+ghost use Rattle.std.specs.Prelude.{◌≡◌, ◌+◌, ◌-◌, ◌^◌, ◌<◌, ◌≤◌, ◌⊎◌, ◌↔◌, ◌++◌, ◌∷◌, [], false, None, Some, IsSome, IsTrue, vec_len, vec_capacity, length};
 ghost use Rattle.record_join.specs.Keys.{kept_of};
 ghost use Rattle.record_join.specs.BooksPasts.{key_limit};
 ghost use Rattle.desk_machine.specs.Noted.{noted_merge};
@@ -67,6 +67,33 @@ pub fn give(
     let event = Event::Granted {
         key,
         message,
+        grant: grant.number(),
+    };
+    note(events, event, moment);
+    grant
+}
+
+/// Gives a grant without a message and notes it, where there is room.
+pub fn give_leave(
+    events: &mut Vec<DeskEvent>,
+    grants: &mut OpenGrants,
+    key: PubKey,
+    moment: u64,
+) -> Grant
+    requires events_room { vec_len events.old < vec_capacity events.old }
+    requires grant_room { 0 < grants.old.room }
+    requires next { grants.old.next < 2 ^ 64 - 1 }
+    ensures grant { result ≡ record { number = grants.old.next; key = key; message = None } }
+    ensures events { events.new.items ≡ events.old.items ++ record { event = Event.Allowed key result.number; moment = moment } ∷ [] }
+    ensures events_len { vec_len events.new ≡ vec_len events.old + 1 }
+    ensures no_less { vec_capacity events.old ≤ vec_capacity events.new }
+    ensures kept { grants.new.grants ≡ grants.old.grants ++ result ∷ [] }
+    ensures kept_len { length grants.new.grants ≡ length grants.old.grants + 1 }
+    ensures next { grants.new.next ≡ grants.old.next + 1 }
+{
+    let grant = grants.give(key, None);
+    let event = Event::Allowed {
+        key,
         grant: grant.number(),
     };
     note(events, event, moment);

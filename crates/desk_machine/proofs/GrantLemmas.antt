@@ -78,5 +78,6 @@ numbered_more grants next g is n = record {
 
 pub numbered_after : (grants : List OpenGrant) (next : ℕ) (c : DeskCall) (r : DeskReply) → IsNumbered next c r → AreNumbered grants next → AreNumbered (grants_after grants c r) (next_after next c r)
 numbered_after grants next (call.Propose key m now) (reply.Granted grant) is n = numbered_more grants next grant is n
+numbered_after grants next (call.Allow key now) (reply.Granted grant) is n = numbered_more grants next grant is n
 numbered_after grants next (call.Settle grant outcome) reply.Settled is n = numbered_without grants next grant.number n
 numbered_after grants next c r is n = n

@@ -1,5 +1,5 @@
 -- The open grants and their numbers.
-use Rattle.std.specs.Prelude.{◌≡◌, ℕ, ◌+◌, ◌<◌, ◌==◌, if◌then◌else◌, List, [], ◌∷◌, ◌++◌, Contains, All, AllPairs, Some, count_by}
+use Rattle.std.specs.Prelude.{◌≡◌, ℕ, ◌+◌, ◌<◌, ◌==◌, if◌then◌else◌, List, [], ◌∷◌, ◌++◌, Contains, All, AllPairs, None, Some, count_by}
 use Rattle.std.specs.BTreeMap.{is_at}
 use Rattle.edge_kit.specs.declared.bytes.PubKey.{PubKey}
 use Rattle.record_join.specs.Keys.{key_cmp}
@@ -23,26 +23,30 @@ abbrev pub IsOpenIn : List OpenGrant → DeskReply → Type 0
 IsOpenIn grants (reply.Granted grant) = Contains grants grant
 IsOpenIn grants r = Unit {0}
 
--- a grant is of the key and the message that were proposed, and comes for a proposal alone
+-- a grant is of the key and the message that were proposed, or of the key alone, and comes for these two calls alone
 abbrev pub IsGrantFor : DeskCall → DeskReply → Type 0
 IsGrantFor (call.Propose key m now) (reply.Granted grant) = (grant.key ≡ key) × (grant.message ≡ Some m)
+IsGrantFor (call.Allow key now) (reply.Granted grant) = (grant.key ≡ key) × (grant.message ≡ None)
 IsGrantFor c (reply.Granted grant) = ⊥
 IsGrantFor c r = Unit {0}
 
 -- the open grants after a call
 abbrev pub grants_after : List OpenGrant → DeskCall → DeskReply → List OpenGrant
 grants_after grants (call.Propose key m now) (reply.Granted grant) = grants ++ grant ∷ []
+grants_after grants (call.Allow key now) (reply.Granted grant) = grants ++ grant ∷ []
 grants_after grants (call.Settle grant outcome) reply.Settled = without grants grant.number
 grants_after grants c r = grants
 
 -- the number of the next grant after a call
 abbrev pub next_after : ℕ → DeskCall → DeskReply → ℕ
 next_after next (call.Propose key m now) (reply.Granted grant) = next + 1
+next_after next (call.Allow key now) (reply.Granted grant) = next + 1
 next_after next c r = next
 
 -- a grant that is given has the next number
 abbrev pub IsNumbered : ℕ → DeskCall → DeskReply → Type 0
 IsNumbered next (call.Propose key m now) (reply.Granted grant) = grant.number ≡ next
+IsNumbered next (call.Allow key now) (reply.Granted grant) = grant.number ≡ next
 IsNumbered next c r = Unit {0}
 
 -- each open grant has a number below the next, and they ascend: no number is given twice

@@ -1,3 +1,4 @@
+pub mod Watches
 pub mod States
 pub mod Grants
 pub mod Handing
@@ -5,3 +6,6 @@ pub mod Written
 pub mod Machine
 pub mod Kinds
 pub mod Noted
+pub mod Given
+pub mod Making
+pub mod HandLaws

@@ -13,13 +13,16 @@ use Rattle.record_join.specs.BooksPasts.{EachOnce, IsRefusal, new_keys, with_fil
 use Rattle.record_replay.specs.Batches.{file_items}
 use Rattle.record_replay.specs.Replaying.{with_known}
 use Rattle.record_replay.specs.Pruning.{pruning_of}
-use Rattle.record_replay.specs.declared.state.KeyState.{KeyState}
 use Rattle.record_replay.specs.declared.state.KeyState.TheVariants.{Active, Closing, Closed}
-use Rattle.desk_machine.specs.States.{State, Lasting, lasting, past_of, key_state, IsActive, IsClosing, IsIdle}
+use Rattle.doppel_watch.specs.Moments as moments
+use Rattle.doppel_watch.specs.declared.watch.WatchState.TheVariants as watch
+use Rattle.desk_machine.specs.States.{State, Lasting, lasting, past_of, key_state, IsActive, IsClosing, IsIdle, IsAllowed, key_standing}
+use Rattle.desk_machine.specs.Watches.{Watching, standing_of, with_begun, with_told}
 use Rattle.desk_machine.specs.Grants.{open_grants, without}
 use Rattle.desk_machine.specs.Handing.{Exports, IsExport}
 use Rattle.desk_machine.specs.Written.{HasRoomFor, IsOver, IsWritten, frame_size, proposal_items, prune_items, written}
 use Rattle.desk_machine.specs.declared.open_grant.OpenGrant.{OpenGrant}
+use Rattle.desk_machine.specs.declared.call.KeyStanding.{KeyStanding}
 use Rattle.desk_machine.specs.declared.call.DeskCall.{DeskCall}
 use Rattle.desk_machine.specs.declared.call.DeskCall.TheVariants as call
 use Rattle.desk_machine.specs.declared.call.DeskReply.{DeskReply}
@@ -27,13 +30,15 @@ use Rattle.desk_machine.specs.declared.call.DeskReply.TheVariants as reply
 
 -- the greatest moment, an epoch
 abbrev pub moment_limit : ℕ
-moment_limit = 576460752303423487
+moment_limit = moments.moment_limit
 
 -- what a call takes for granted: a moment within the limit, a grant that is open at this desk, a file that lists each key once
 abbrev pub MayCall : List OpenGrant → DeskCall → Type 0
 MayCall grants (call.Merge file) = EachOnce file.books
 MayCall grants (call.Activate key now) = now ≤ moment_limit
 MayCall grants (call.Propose key m now) = now ≤ moment_limit
+MayCall grants (call.Allow key now) = now ≤ moment_limit
+MayCall grants (call.Answer key epoch live now) = now ≤ moment_limit
 MayCall grants (call.Settle grant outcome) = Contains grants grant
 MayCall grants (call.BeginClose key) = Unit {0}
 MayCall grants (call.FinishClose key) = Unit {0}
@@ -44,6 +49,9 @@ MayCall grants call.HasFailed = Unit {0}
 
 abbrev pub grant_for : State → PubKey → Message → OpenGrant
 grant_for state key m = record { number = state.next; key = key; message = Some m }
+
+abbrev pub plain_grant_for : State → PubKey → OpenGrant
+plain_grant_for state key = record { number = state.next; key = key; message = None }
 
 -- the key is kept, or there is room for one more
 abbrev pub FitsOne : State → PubKey → Type 0
@@ -57,6 +65,18 @@ FitsFile state file = (file.genesis ≡ state.genesis) × (length state.keys + n
 abbrev pub ActiveAnd : State → PubKey → (Past → Type 0) → Type 0
 ActiveAnd state key P = IsActive state key × IsSomeAnd (past_of state key) P
 
+-- the key is kept and active
+abbrev pub IsKeptActive : State → PubKey → Type 0
+IsKeptActive state key = IsSome (past_of state key) × IsActive state key
+
+-- the key is kept, and active or being closed
+abbrev pub IsWatchable : State → PubKey → Type 0
+IsWatchable state key = IsSome (past_of state key) × (IsActive state key ⊎ IsClosing state key)
+
+-- nothing bars the key from signing
+abbrev pub MaySign : State → PubKey → Type 0
+MaySign state key = IsKeptActive state key × IsAllowed state key
+
 -- ---- replies
 
 -- no disk has failed since the desk was opened
@@ -67,7 +87,9 @@ IsUp state = state.torn ≡ None
 abbrev pub Proceeds : State → DeskCall → Type 0
 Proceeds state (call.Merge file) = FitsFile state file
 Proceeds state (call.Activate key now) = IsIdle state key × FitsOne state key
-Proceeds state (call.Propose key m now) = ActiveAnd state key (λ past. Passes past m)
+Proceeds state (call.Propose key m now) = ActiveAnd state key (λ past. Passes past m) × IsAllowed state key
+Proceeds state (call.Allow key now) = MaySign state key
+Proceeds state (call.Answer key epoch live now) = IsWatchable state key
 Proceeds state (call.Settle grant outcome) = Unit {0}
 Proceeds state (call.BeginClose key) = Unit {0}
 Proceeds state (call.FinishClose key) = IsSome (past_of state key) × IsClosing state key × (open_grants state.grants key ≡ 0)
@@ -90,9 +112,19 @@ IsTooMuch state c size wanted = IsUp state × Proceeds state c × IsOver state.s
 abbrev pub MayFail : State → DeskCall → Type 0
 MayFail state c = IsSome state.torn ⊎ (IsUp state × Proceeds state c × IsWritten state.size (written state c))
 
--- each kept key with its state, in key order
-abbrev pub key_states : State → List (PubKey × KeyState)
-key_states state = map (λ key. (key, key_state state.states key)) (keys_of state.keys)
+-- what bars a key from signing, whatever is to be signed: the first of these that holds
+abbrev pub IsBarred : State → PubKey → DeskReply → Type 0
+IsBarred state key reply.Disk = IsSome state.torn
+IsBarred state key reply.Unknown = IsUp state × (past_of state key ≡ None)
+IsBarred state key reply.NotActive = IsUp state × IsSome (past_of state key) × IsIdle state key
+IsBarred state key reply.Closing = IsUp state × IsSome (past_of state key) × IsClosing state key
+IsBarred state key (reply.Live epoch) = IsUp state × IsKeptActive state key × (standing_of state.watching key ≡ watch.Live epoch)
+IsBarred state key (reply.Watching first second) = IsUp state × IsKeptActive state key × (standing_of state.watching key ≡ watch.Missing first second)
+IsBarred state key r = ⊥
+
+-- each kept key with how it stands, in key order
+abbrev pub key_standings : State → List (PubKey × KeyStanding)
+key_standings state = map (λ key. (key, key_standing (key_state state.states key) (standing_of state.watching key))) (keys_of state.keys)
 
 -- the desk may give this reply: the first of the order whose condition holds
 abbrev pub Reply : State → DeskCall → DeskReply → Type 0
@@ -110,13 +142,27 @@ Reply state (call.Activate key now) reply.OutOfMemory = MayWant state (call.Acti
 Reply state (call.Activate key now) (reply.Full size wanted) = IsTooMuch state (call.Activate key now) size wanted
 Reply state (call.Activate key now) reply.Active = Succeeds state (call.Activate key now)
 Reply state (call.Propose key m now) reply.Disk = MayFail state (call.Propose key m now)
-Reply state (call.Propose key m now) reply.Unknown = IsUp state × (past_of state key ≡ None)
-Reply state (call.Propose key m now) reply.NotActive = IsUp state × IsSome (past_of state key) × IsIdle state key
-Reply state (call.Propose key m now) reply.Closing = IsUp state × IsSome (past_of state key) × IsClosing state key
-Reply state (call.Propose key m now) (reply.Refused v) = IsUp state × ActiveAnd state key (λ past. IsRefusal past m v)
+Reply state (call.Propose key m now) reply.Unknown = IsBarred state key reply.Unknown
+Reply state (call.Propose key m now) reply.NotActive = IsBarred state key reply.NotActive
+Reply state (call.Propose key m now) reply.Closing = IsBarred state key reply.Closing
+Reply state (call.Propose key m now) (reply.Live epoch) = IsBarred state key (reply.Live epoch)
+Reply state (call.Propose key m now) (reply.Watching first second) = IsBarred state key (reply.Watching first second)
+Reply state (call.Propose key m now) (reply.Refused v) = IsUp state × ActiveAnd state key (λ past. IsRefusal past m v) × IsAllowed state key
 Reply state (call.Propose key m now) reply.OutOfMemory = MayWant state (call.Propose key m now)
 Reply state (call.Propose key m now) (reply.Full size wanted) = IsTooMuch state (call.Propose key m now) size wanted
 Reply state (call.Propose key m now) (reply.Granted grant) = Succeeds state (call.Propose key m now) × (grant ≡ grant_for state key m)
+Reply state (call.Allow key now) reply.Disk = MayFail state (call.Allow key now)
+Reply state (call.Allow key now) reply.Unknown = IsBarred state key reply.Unknown
+Reply state (call.Allow key now) reply.NotActive = IsBarred state key reply.NotActive
+Reply state (call.Allow key now) reply.Closing = IsBarred state key reply.Closing
+Reply state (call.Allow key now) (reply.Live epoch) = IsBarred state key (reply.Live epoch)
+Reply state (call.Allow key now) (reply.Watching first second) = IsBarred state key (reply.Watching first second)
+Reply state (call.Allow key now) reply.OutOfMemory = MayWant state (call.Allow key now)
+Reply state (call.Allow key now) (reply.Granted grant) = Succeeds state (call.Allow key now) × (grant ≡ plain_grant_for state key)
+Reply state (call.Answer key epoch live now) reply.Unknown = past_of state key ≡ None
+Reply state (call.Answer key epoch live now) reply.NotActive = IsSome (past_of state key) × IsIdle state key
+Reply state (call.Answer key epoch live now) reply.OutOfMemory = Proceeds state (call.Answer key epoch live now)
+Reply state (call.Answer key epoch live now) reply.Noted = Proceeds state (call.Answer key epoch live now)
 Reply state (call.Settle grant outcome) reply.Settled = Unit {0}
 Reply state (call.BeginClose key) reply.Unknown = past_of state key ≡ None
 Reply state (call.BeginClose key) reply.NotActive = IsSome (past_of state key) × IsIdle state key
@@ -136,7 +182,7 @@ Reply state (call.Prune key) reply.Unknown = IsUp state × (past_of state key �
 Reply state (call.Prune key) reply.OutOfMemory = MayWant state (call.Prune key)
 Reply state (call.Prune key) (reply.Full size wanted) = IsTooMuch state (call.Prune key) size wanted
 Reply state (call.Prune key) (reply.Pruned book) = Succeeds state (call.Prune key) × IsSomeAnd (past_of state key) (λ past. book ≡ pruning_of past)
-Reply state call.Keys (reply.Keys listed) = listed ≡ key_states state
+Reply state call.Keys (reply.Keys listed) = listed ≡ key_standings state
 Reply state call.Keys reply.OutOfMemory = Unit {0}
 Reply state call.HasFailed (reply.HasFailed failed) = failed ≡ is_some state.torn
 Reply state c r = ⊥
@@ -147,6 +193,8 @@ Reply state c r = ⊥
 abbrev pub latest_after : ℕ → DeskCall → ℕ
 latest_after latest (call.Activate key now) = max latest now
 latest_after latest (call.Propose key m now) = max latest now
+latest_after latest (call.Allow key now) = max latest now
+latest_after latest (call.Answer key epoch live now) = max latest now
 latest_after latest c = latest
 
 -- the past of a key gains the book that prunes it
@@ -162,10 +210,19 @@ lasting_after state (call.Propose key m now) = record { keys = own_grown state.k
 lasting_after state (call.BeginClose key) = record { keys = state.keys; states = with_kept state.states key Closing; size = state.size }
 lasting_after state (call.FinishClose key) = record { keys = state.keys; states = with_kept state.states key Closed; size = state.size + frame_size (item.Close key ∷ []) }
 lasting_after state (call.Prune key) = record { keys = pruned_keys state.keys key (past_of state key); states = state.states; size = state.size + frame_size (prune_items key (past_of state key)) }
+lasting_after state (call.Allow key now) = lasting state
+lasting_after state (call.Answer key epoch live now) = lasting state
 lasting_after state (call.Settle grant outcome) = lasting state
 lasting_after state (call.Export keys) = lasting state
 lasting_after state call.Keys = lasting state
 lasting_after state call.HasFailed = lasting state
+
+-- the watches after a call that succeeded: a key that becomes active is watched anew, from the latest moment on; and what is told of a
+-- key joins its watch, at the moment at which it is told
+abbrev pub watching_after : State → DeskCall → Watching
+watching_after state (call.Activate key now) = with_begun state.watching key (max state.latest now)
+watching_after state (call.Answer key epoch live now) = with_told state.watching key (record { epoch = epoch; live = live; moment = now })
+watching_after state c = state.watching
 
 -- the first call that is torn stays so
 abbrev pub torn_first : Option Lasting → Lasting → Option Lasting
@@ -174,13 +231,15 @@ torn_first (Some first) l = Some first
 
 -- the state with what lasts after a call, at its moment
 abbrev pub changed : State → DeskCall → State
-changed state c = record state { keys = (lasting_after state c).keys; states = (lasting_after state c).states; size = (lasting_after state c).size; latest = latest_after state.latest c }
+changed state c = record state { keys = (lasting_after state c).keys; states = (lasting_after state c).states; size = (lasting_after state c).size; latest = latest_after state.latest c; watching = watching_after state c }
 
 -- the state after a reply; after a refusal only the latest moment may differ, but that a fault of the disk tears the call
 abbrev pub after : State → DeskCall → DeskReply → State
 after state (call.Merge file) (reply.Merged keys) = changed state (call.Merge file)
 after state (call.Activate key now) reply.Active = changed state (call.Activate key now)
 after state (call.Propose key m now) (reply.Granted grant) = record (changed state (call.Propose key m now)) { grants = state.grants ++ grant ∷ []; next = state.next + 1 }
+after state (call.Allow key now) (reply.Granted grant) = record (changed state (call.Allow key now)) { grants = state.grants ++ grant ∷ []; next = state.next + 1 }
+after state (call.Answer key epoch live now) reply.Noted = changed state (call.Answer key epoch live now)
 after state (call.Settle grant outcome) reply.Settled = record state { grants = without state.grants grant.number }
 after state (call.BeginClose key) reply.CloseBegun = changed state (call.BeginClose key)
 after state (call.FinishClose key) (reply.Closed book) = changed state (call.FinishClose key)

@@ -20,6 +20,8 @@ abbrev pub noted : ℕ → DeskCall → DeskReply → List DeskEvent
 noted latest (call.Merge file) (reply.Merged keys) = noted_merge latest file file.books
 noted latest (call.Activate key now) reply.Active = record { event = event.Activated key; moment = max latest now } ∷ []
 noted latest (call.Propose key m now) (reply.Granted grant) = record { event = event.Granted key m grant.number; moment = max latest now } ∷ []
+noted latest (call.Allow key now) (reply.Granted grant) = record { event = event.Allowed key grant.number; moment = max latest now } ∷ []
+noted latest (call.Answer key epoch live now) reply.Noted = record { event = event.Told key epoch live; moment = max latest now } ∷ []
 noted latest (call.Settle grant outcome) reply.Settled = record { event = event.Settled grant.number outcome; moment = latest } ∷ []
 noted latest (call.BeginClose key) reply.CloseBegun = record { event = event.CloseBegun key; moment = latest } ∷ []
 noted latest (call.FinishClose key) (reply.Closed book) = record { event = event.Closed key book; moment = latest } ∷ []

@@ -9,7 +9,12 @@ use Rattle.record_join.specs.Keys.{key_cmp, kept_of}
 use Rattle.record_replay.specs.Replaying.{lasting_states}
 use Rattle.record_replay.specs.declared.state.KeyState.{KeyState}
 use Rattle.record_replay.specs.declared.state.KeyState.TheVariants.{Known, Active, Closing, Closed}
+use Rattle.doppel_watch.specs.declared.watch.WatchState.{WatchState}
+use Rattle.doppel_watch.specs.declared.watch.WatchState.TheVariants.{Allowed}
+use Rattle.desk_machine.specs.Watches.{Watching, fresh_watching, standing_of}
 use Rattle.desk_machine.specs.declared.open_grant.OpenGrant.{OpenGrant}
+use Rattle.desk_machine.specs.declared.call.KeyStanding.{KeyStanding}
+use Rattle.desk_machine.specs.declared.call.KeyStanding.TheVariants as standing
 
 -- what outlasts a stop: each kept key with its past, in key order; the state of each that was activated or closed; and the
 -- size of the journal in bytes
@@ -18,8 +23,8 @@ pub record Lasting : Type 0 where
   pub states : List (PubKey × KeyState)
   pub size : ℕ
 
--- beside that, the chain's genesis root; the open grants and the number of the next; the latest moment; whether keys are
--- watched; and, where a fault of the disk tore a call, what would have outlasted its Ok: such a desk has failed
+-- beside that, the chain's genesis root; the open grants and the number of the next; the latest moment; the watches of the keys,
+-- and whether keys are watched; and, where a fault of the disk tore a call, what would have outlasted its Ok: such a desk has failed
 pub record State : Type 0 where
   pub genesis : Root
   pub keys : List (PubKey × Past)
@@ -27,7 +32,7 @@ pub record State : Type 0 where
   pub grants : List OpenGrant
   pub next : ℕ
   pub latest : ℕ
-  pub watch : Bool
+  pub watching : Watching
   pub size : ℕ
   pub torn : Option Lasting
 
@@ -38,7 +43,8 @@ lasting state = record { keys = state.keys; states = state.states; size = state.
 abbrev pub nothing_lasts : Lasting
 nothing_lasts = record { keys = []; states = []; size = 42 }
 
--- the state of a desk that is opened, at this moment, over what lasted: no grant is open, and a closing key is active
+-- the state of a desk that is opened, at this moment, over what lasted: no grant is open, a closing key is active, and the watch
+-- of each active key begins now
 abbrev pub reopened : Root → Lasting → Bool → ℕ → State
 reopened genesis l watch now = record {
   genesis = genesis;
@@ -47,7 +53,7 @@ reopened genesis l watch now = record {
   grants = [];
   next = 0;
   latest = now;
-  watch = watch;
+  watching = fresh_watching watch now;
   size = l.size;
   torn = None;
 }
@@ -89,3 +95,21 @@ IsIdle state key = (kept_of state.states key ≢ Some Active) × (kept_of state.
 -- the past of a key that may sign
 abbrev pub active_past : State → PubKey → Option Past
 active_past state key = if is_active (key_state state.states key) then past_of state key else None
+
+-- the watch lets the key sign
+abbrev pub IsAllowed : State → PubKey → Type 0
+IsAllowed state key = standing_of state.watching key ≡ Allowed
+
+-- how a kept key stands, by its state and its watch
+abbrev pub key_standing : KeyState → WatchState → KeyStanding
+key_standing Known watch = standing.Known
+key_standing Active watch = standing.Active watch
+key_standing Closing watch = standing.Closing
+key_standing Closed watch = standing.Closed
+
+-- the state of a key that stands so
+abbrev pub state_in : KeyStanding → KeyState
+state_in standing.Known = Known
+state_in (standing.Active watch) = Active
+state_in standing.Closing = Closing
+state_in standing.Closed = Closed

@@ -29,6 +29,8 @@ abbrev pub written : State → DeskCall → List JournalItem
 written state (call.Merge file) = file_items (canonical file).books
 written state (call.Activate key now) = item.Activate key ∷ []
 written state (call.Propose key m now) = proposal_items (past_of state key) key m
+written state (call.Allow key now) = []
+written state (call.Answer key epoch live now) = []
 written state (call.Settle grant outcome) = []
 written state (call.BeginClose key) = []
 written state (call.FinishClose key) = item.Close key ∷ []

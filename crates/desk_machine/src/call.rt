@@ -1,18 +1,58 @@
 //! What the desk is asked, and what it replies.
+ghost use Rattle.std.specs.Prelude.{◌≡◌};
+ghost use Rattle.desk_machine.specs.States.{key_standing, state_in};
+
 use crate::grant::Grant;
+use doppel_watch::WatchState;
 use edge_kit::{Items, PubKey, Root};
 use protect_record::Verdict;
 use record_replay::KeyState;
 use slash_defs::{Book, File, Message};
 
-/// The greatest moment, an epoch.
-pub const MOMENT_LIMIT: u64 = 576_460_752_303_423_487;
-
 /// Keys, in any order.
 pub type Keys = Items<PubKey>;
 
-/// Keys in order, each with its state.
-pub type KeyStates = Items<(PubKey, KeyState)>;
+/// How a kept key stands.
+#[derive(Clone, Copy, PartialEq, Eq, Debug)]
+pub enum KeyStanding {
+    /// It was never made active.
+    Known,
+    /// It is active, and its watch stands so. Where keys are not watched that is `WatchState::Allowed`.
+    Active(WatchState),
+    /// It is being closed.
+    Closing,
+    /// It was closed.
+    Closed,
+}
+
+impl KeyStanding {
+    /// How a key of this state stands whose watch stands so.
+    pub fn of(state: KeyState, watch: WatchState) -> KeyStanding
+        ensures { result ≡ key_standing state watch }
+    {
+        match state {
+            KeyState::Known => KeyStanding::Known,
+            KeyState::Active => KeyStanding::Active(watch),
+            KeyState::Closing => KeyStanding::Closing,
+            KeyState::Closed => KeyStanding::Closed,
+        }
+    }
+
+    /// The state of a key that stands so.
+    pub fn state(&self) -> KeyState
+        ensures { result ≡ state_in self.now }
+    {
+        match self {
+            KeyStanding::Known => KeyState::Known,
+            KeyStanding::Active(_) => KeyState::Active,
+            KeyStanding::Closing => KeyState::Closing,
+            KeyStanding::Closed => KeyState::Closed,
+        }
+    }
+}
+
+/// Keys in order, each with how it stands.
+pub type KeyStandings = Items<(PubKey, KeyStanding)>;
 
 /// What became of a grant.
 #[derive(Clone, Copy, PartialEq, Eq, Debug)]
@@ -40,6 +80,18 @@ pub enum DeskCall {
         message: Message,
         now: u64,
     },
+    /// Asks for leave to have something signed by a key that is no block and no vote.
+    Allow {
+        key: PubKey,
+        now: u64,
+    },
+    /// Tells whether a key was seen live in an epoch (Beacon API, `getLiveness`).
+    Answer {
+        key: PubKey,
+        epoch: u64,
+        live: bool,
+        now: u64,
+    },
     /// Spends an open grant of this desk.
     Settle {
         grant: Grant,
@@ -61,7 +113,7 @@ pub enum DeskCall {
     Prune {
         key: PubKey,
     },
-    /// Asks for the kept keys with their states.
+    /// Asks for the kept keys and how each stands.
     Keys,
     /// Asks whether the disk has failed since the desk was opened.
     HasFailed,
@@ -75,8 +127,10 @@ pub enum DeskReply {
     Active,
     /// The key was active.
     Already,
-    /// The message may be signed and sent.
+    /// What was asked for may be signed and sent.
     Granted(Grant),
+    /// What was told of the key is noted.
+    Noted,
     /// The grant is spent.
     Settled,
     /// The key is being closed from now on.
@@ -89,8 +143,8 @@ pub enum DeskReply {
     Exported(File),
     /// The key's record is pruned: it has gained this book.
     Pruned(Book),
-    /// The kept keys in order, each with its state.
-    Keys(KeyStates),
+    /// The kept keys in order, each with how it stands.
+    Keys(KeyStandings),
     /// Whether the disk has failed.
     HasFailed(bool),
     /// The file is of a chain with another root of genesis validators.
@@ -105,6 +159,11 @@ pub enum DeskReply {
     NotClosing(KeyState),
     /// So many grants of the key are open.
     Busy { grants: u64 },
+    /// The key is watched, and was told live in this watched epoch: it may sign nothing.
+    Live { epoch: u64 },
+    /// The key is watched, and of these watched epochs, the lesser first, no answer counted yet: it may sign
+    /// nothing.
+    Watching { first: u64, second: Option<u64> },
     /// The key's past forbids the message; never `Verdict::Pass`.
     Refused(Verdict),
     /// `have` keys are kept, and with the `new` ones there would be more than 65,536.

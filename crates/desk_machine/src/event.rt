@@ -20,6 +20,17 @@ pub enum Event {
         message: Message,
         grant: u64,
     },
+    /// Leave was given to sign what is no block and no vote.
+    Allowed {
+        key: PubKey,
+        grant: u64,
+    },
+    /// It was told whether a key was live in an epoch.
+    Told {
+        key: PubKey,
+        epoch: u64,
+        live: bool,
+    },
     /// A grant was spent.
     Settled {
         grant: u64,

@@ -2,16 +2,21 @@
 #![tactic(auto)]
 
 mod call;
+mod desk_calls;
 mod event;
 mod grant;
 mod laws;
 mod open_grant;
 mod open_grants;
+mod watches;
 
-pub use call::{DeskCall, DeskReply, KeyStates, Keys, MOMENT_LIMIT, Outcome};
+pub use call::{DeskCall, DeskReply, KeyStanding, KeyStandings, Keys, Outcome};
+pub use desk_calls::DeskCalls;
+pub use doppel_watch::{MOMENT_LIMIT, WatchState};
 pub use event::{DeskEvent, Event, Events};
 pub use grant::Grant;
 pub use laws::machine_laws;
 pub use open_grant::OpenGrant;
 pub use open_grants::OpenGrants;
 pub use record_replay::KeyState;
+pub use watches::Watches;

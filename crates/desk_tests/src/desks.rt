@@ -2,7 +2,7 @@
 ghost use Rattle.std.specs.Prelude.{Contains, IfOk};
 ghost use Rattle.desk_tests.specs.Standing.{StandsForOne};
 
-use check_sign::{Desk, DeskReply, Grant, KeyState, Outcome};
+use check_sign::{Desk, DeskReply, Grant, KeyStanding, MOMENT_LIMIT, Outcome, WatchState};
 use edge_kit::{Crash, Disks, MemDisk, PubKey, Root};
 use protect_record::Verdict;
 use slash_defs::{Book, Message, VoteEntry};
@@ -125,8 +125,8 @@ fn closed<T: Abort>(rt: &T, desk: &mut Desk<MemDisk>) -> Book {
     }
 }
 
-/// The first of the kept keys with its state.
-fn first_state<T: Abort>(rt: &T, desk: &mut Desk<MemDisk>) -> Option<(PubKey, KeyState)> {
+/// The first of the kept keys with how it stands.
+fn first_standing<T: Abort>(rt: &T, desk: &mut Desk<MemDisk>) -> Option<(PubKey, KeyStanding)> {
     match desk.keys() {
         DeskReply::Keys(listed) => listed.as_slice().first().copied(),
         _ => rt.panic("no keys"),
@@ -154,8 +154,68 @@ fn a_key_is_closed_once_no_grant_of_it_is_open(rt: HostRuntime) -> Result<(), Fa
     let (disks, _) = desk.end();
     let disks = disks_of(alloc, disks.first.bytes(), None)?;
     let mut later = opened(&rt, alloc, disks);
-    let state = first_state(&rt, &mut later);
-    assert!(rt; state == Some((KEY, KeyState::Closed)));
+    let standing = first_standing(&rt, &mut later);
+    assert!(rt; standing == Some((KEY, KeyStanding::Closed)));
+    Ok(())
+}
+
+/// Opens a desk over empty disks at epoch 3, with a watch, and makes the key active at epoch 5.
+fn watched<T: Abort>(rt: &T, alloc: Global) -> Result<Desk<MemDisk>, AllocError> {
+    let mut desk = match Desk::open(alloc, disks_of(alloc, &[], None)?, GENESIS, true, 3) {
+        Ok(desk) => desk,
+        Err(_) => rt.panic("not opened"),
+    };
+    match desk.activate(KEY, 5) {
+        DeskReply::Active => Ok(desk),
+        _ => rt.panic("not activated"),
+    }
+}
+
+/// Tells that the key was not live in an epoch, once it is over.
+fn tell<T: Abort>(rt: &T, desk: &mut Desk<MemDisk>, epoch: u64) {
+    match desk.answer(KEY, epoch, false, epoch.saturating_add(1).min(MOMENT_LIMIT)) {
+        DeskReply::Noted => {}
+        _ => rt.panic("not noted"),
+    }
+}
+
+/// What the watch of the key still lacks, as leave to sign is refused for it.
+fn lacking<T: Abort>(rt: &T, desk: &mut Desk<MemDisk>) -> (u64, Option<u64>) {
+    match desk.allow(KEY, 7) {
+        DeskReply::Watching { first, second } => (first, second),
+        _ => rt.panic("not watching"),
+    }
+}
+
+/// Asks for leave to sign what is no block and no vote, which is given.
+fn allowed<T: Abort>(rt: &T, desk: &mut Desk<MemDisk>) -> Grant
+    ensures { Contains desk.new.contents.grants result }
+{
+    match desk.allow(KEY, 8) {
+        DeskReply::Granted(grant) => grant,
+        _ => rt.panic("not allowed"),
+    }
+}
+
+#[test]
+fn leave_for_what_is_no_message_waits_for_the_watch(rt: HostRuntime) -> Result<(), Fail> {
+    let mut desk = watched(&rt, rt.alloc())?;
+    assert_eq!(rt; lacking(&rt, &mut desk), (6, Some(7)));
+    tell(&rt, &mut desk, 7);
+    assert_eq!(rt; lacking(&rt, &mut desk), (6, None));
+    let missing = WatchState::Missing {
+        first: 6,
+        second: None,
+    };
+    let standing = first_standing(&rt, &mut desk);
+    assert!(rt; standing == Some((KEY, KeyStanding::Active(missing))));
+    tell(&rt, &mut desk, 6);
+    let standing = first_standing(&rt, &mut desk);
+    assert!(rt; standing == Some((KEY, KeyStanding::Active(WatchState::Allowed))));
+    let grant = allowed(&rt, &mut desk);
+    desk.settle(grant, Outcome::Sent);
+    let (_, events) = desk.end();
+    assert_eq!(rt; events.len(), 5);
     Ok(())
 }
 

@@ -9,6 +9,7 @@ use Rattle.record_replay.specs.Items.{items_in}
 use Rattle.record_replay.specs.declared.state.KeyState.TheVariants.{Active}
 use Rattle.check_sign.specs.Contents.{Contents}
 use Rattle.desk_machine.specs.States.{State}
+use Rattle.desk_machine.specs.Watches.{WatchesStand, with_begun}
 use Rattle.check_sign.specs.Standing.{DeskStands}
 use Rattle.desk_machine.specs.Machine.{Reply, after}
 use Rattle.desk_machine.specs.Written.{HasRoomFor}
@@ -31,7 +32,20 @@ returns-then-not-fits_one-clause-machine g c = λ state stands.
         refl,
         omega (arith, c.len.ensures.count, room.1),
       ),
-      later _ state _ _ _ _ _ _ c.args.now s s.keys refl refl refl c.max-self-inside.ensures,
+      later _ state _ _ _ _ _ _ _ c.args.now s s.keys refl refl refl s.watches c.max-self-inside.ensures,
+    )
+
+pub returns-then-is_err-clause-machine : goal.returns-then-is_err-clause-machine
+returns-then-is_err-clause-machine g c = λ state stands.
+    let s = opened c.args.self.now _ state c.self.view_is stands in (
+      (
+        up_state _ _ state.torn s.torn (none_if c.failed.result c.self.inside.journal.torn c.failed.ensures c.if-failed.false),
+        (
+          idle_at c.state_of.result c.self.inside.states.entries state.states c.args.key c.state_of.ensures.value s.states c.in-Known.is,
+          fits c.fits_one.result c.self.inside.books state.keys c.args.key c.fits_one.ensures (search rules) s.keys,
+        ),
+      ),
+      later _ state _ _ _ _ _ _ _ c.args.now s s.keys refl refl refl (c.reserve.ensures.stands state.watching s.watches) c.max-self-inside.ensures,
     )
 
 pub returns-then-not-make_room-clause-machine : goal.returns-then-not-make_room-clause-machine
@@ -44,7 +58,7 @@ returns-then-not-make_room-clause-machine g c = λ state stands.
           fits c.fits_one.result c.self.inside.books state.keys c.args.key c.fits_one.ensures (search rules) s.keys,
         ),
       ),
-      later _ state _ _ _ _ _ _ c.args.now s s.keys refl c.make_room.ensures.kept c.make_room.ensures.next c.max-self-inside.ensures,
+      later _ state _ _ _ _ _ _ _ c.args.now s s.keys refl c.make_room.ensures.kept c.make_room.ensures.next (c.reserve.ensures.stands state.watching s.watches) c.max-self-inside.ensures,
     )
 
 pub returns-in_default-clause-machine : goal.returns-in_default-clause-machine
@@ -58,7 +72,7 @@ returns-in_default-clause-machine g c = λ state stands.
           fits c.fits_one.result c.self.inside.books state.keys c.args.key c.fits_one.ensures (search rules) s.keys,
         ),
       ),
-      later _ state _ _ _ _ _ _ c.args.now s (subst B (sym c.in_default.ensures.err) s.keys) refl c.make_room.ensures.kept c.make_room.ensures.next c.max-self-inside.ensures,
+      later _ state _ _ _ _ _ _ _ c.args.now s (subst B (sym c.in_default.ensures.err) s.keys) refl c.make_room.ensures.kept c.make_room.ensures.next (c.reserve.ensures.stands state.watching s.watches) c.max-self-inside.ensures,
     )
 
 pub returns-in_default-mark_active-clause-machine :
@@ -72,7 +86,7 @@ returns-in_default-mark_active-clause-machine g c = λ state stands.
           fits c.fits_one.result c.self.inside.books state.keys c.args.key c.fits_one.ensures (search rules) s.keys,
         ),
       ),
-      later _ state _ _ _ _ _ _ c.args.now s (c.take_back.ensures.stands c.self.inside.books state.keys c.in-Ok.ensures.fresh s.keys) c.in_default-mark_active.ensures.err c.make_room.ensures.kept c.make_room.ensures.next c.max-self-inside.ensures,
+      later _ state _ _ _ _ _ _ _ c.args.now s (c.take_back.ensures.stands c.self.inside.books state.keys c.in-Ok.ensures.fresh s.keys) c.in_default-mark_active.ensures.err c.make_room.ensures.kept c.make_room.ensures.next (c.reserve.ensures.stands state.watching s.watches) c.max-self-inside.ensures,
     )
 
 pub returns-in-Err-clause-machine : goal.returns-in-Err-clause-machine
@@ -88,7 +102,7 @@ returns-in-Err-clause-machine g c = λ state stands.
       grants = c.make_room.new.grants.grants;
       next = c.make_room.new.grants.next;
       latest = c.max-self-inside.result;
-      watch = c.self.inside.watch;
+      watches = c.reserve.new.self;
       events = c.make_room.new.events.items;
       payloads = c.write_items.new.journal.payloads;
       size = c.write_items.new.journal.size;
@@ -109,7 +123,7 @@ returns-in-Err-clause-machine g c = λ state stands.
       grants = c.make_room.ensures.kept ∙ s.grants;
       next = c.make_room.ensures.next ∙ s.next;
       latest = c.max-self-inside.ensures ∙ ap (λ m. max m c.args.now) s.latest;
-      watch = s.watch;
+      watches = c.reserve.ensures.stands state.watching s.watches;
     }))
 
 pub invariant_of-self-2 : goal.invariant_of-self-2
@@ -119,6 +133,7 @@ invariant_of-self-2 g c =
       omega (arith, c.self.invariant.1, c.make_room.ensures.next, c.note.ensures.len, c.make_room.ensures.events_len),
       omega (arith, c.self.invariant.2, c.mark_active.ensures.count),
       c.write_items.ensures.holds c.self.inside.genesis c.self.invariant.3,
+      omega (arith, c.max-self-inside.ensures, c.self.invariant.4, c.requires),
     )
 
 pub returns-clause-machine : goal.returns-clause-machine
@@ -128,6 +143,9 @@ returns-clause-machine g c = λ state stands.
     let up = up_state _ _ state.torn s.torn clean in
     let items : List JournalItem = item.Activate c.args.key ∷ [] in
     let wrote = c.in_default-write_items.ensures.wrote in
+    let moment = c.max-self-inside.ensures ∙ ap (λ m. max m c.args.now) s.latest in
+    let W : ℕ → Type 0 = λ n. WatchesStand c.begin.new.self (with_begun state.watching c.args.key n) in
+    let watched = subst W moment (c.begin.ensures.stands state.watching (c.reserve.ensures.stands state.watching s.watches)) in
     let H : ℕ → Type 0 = λ n. HasRoomFor n items in (
       (
         up,
@@ -144,8 +162,8 @@ returns-clause-machine g c = λ state stands.
             states = c.in-Ok-mark_active.ensures.marked.now ∙ ap (λ l. with_key l c.args.key Active) s.states;
             grants = c.make_room.ensures.kept ∙ s.grants;
             next = c.make_room.ensures.next ∙ s.next;
-            latest = c.max-self-inside.ensures ∙ ap (λ m. max m c.args.now) s.latest;
-            watch = s.watch;
+            latest = moment;
+            watches = watched;
           }),
     )
 

@@ -29,6 +29,7 @@ invariant_of-self g c =
       omega (arith, c.self.invariant.1, c.note.ensures.len),
       one_fewer c.self.inside.states.entries c.set_state.new.states.entries c.args.key c.self.inside.closable active (c.set_state.ensures.set (is_some_of _ Active active)) c.self.invariant.2,
       c.self.invariant.3,
+      c.self.invariant.4,
     )
 
 pub returns-in-Active-clause-machine : goal.returns-in-Active-clause-machine

@@ -60,7 +60,7 @@ returns-then-not-make_room-clause-machine g c = λ state stands.
         grants = c.make_room.ensures.kept ∙ s.grants;
         next = c.make_room.ensures.next ∙ s.next;
         latest = s.latest;
-        watch = s.watch;
+        watches = s.watches;
         size = s.size;
         payloads = s.payloads;
         torn = s.torn;
@@ -80,7 +80,7 @@ returns-in-Err-clause-machine g c = λ state stands.
       grants = c.make_room.ensures.kept ∙ s.grants;
       next = c.make_room.ensures.next ∙ s.next;
       latest = s.latest;
-      watch = s.watch;
+      watches = s.watches;
     }) c.refusal.ensures
 
 pub returns-in-Err-clause-moved : goal.returns-in-Err-clause-moved
@@ -96,6 +96,7 @@ invariant_of-self-2 g c =
       omega (arith, c.self.invariant.1, c.make_room.ensures.next, c.make_room.ensures.events_len, c.note.ensures.len),
       subst (λ l. count_active l ≤ c.self.inside.closable) (sym (c.set_state.ensures.set (is_some_of _ Closing noted))) (omega (arith, fewer_active c.self.inside.states.entries c.args.key, c.self.invariant.2)),
       c.write_items.ensures.holds c.self.inside.genesis c.self.invariant.3,
+      c.self.invariant.4,
     )
 
 pub returns-clause-machine : goal.returns-clause-machine
@@ -113,5 +114,5 @@ returns-clause-machine g c = λ state stands.
       grants = c.make_room.ensures.kept ∙ s.grants;
       next = c.make_room.ensures.next ∙ s.next;
       latest = s.latest;
-      watch = s.watch;
+      watches = s.watches;
     }) at.1 at.2 c.in-Ok.ensures.value

@@ -31,7 +31,7 @@ returns-in-Err-TooManyKeys-clause-machine g c = λ state stands.
         grants = c.make_room-has_room.ensures.kept ∙ s.grants;
         next = c.make_room-has_room.ensures.next ∙ s.next;
         latest = s.latest;
-        watch = s.watch;
+        watches = s.watches;
       }) s.size s.payloads s.torn,
     )
 
@@ -52,7 +52,7 @@ returns-in-Err-OutOfMemory-clause-machine g c = λ state stands.
         grants = c.make_room-has_room.ensures.kept ∙ s.grants;
         next = c.make_room-has_room.ensures.next ∙ s.next;
         latest = s.latest;
-        watch = s.watch;
+        watches = s.watches;
       }) s.size s.payloads s.torn,
     )
 
@@ -76,7 +76,7 @@ returns-in-Err-clause-machine g c = λ state stands.
       grants = c.make_room-has_room.ensures.kept ∙ s.grants;
       next = c.make_room-has_room.ensures.next ∙ s.next;
       latest = s.latest;
-      watch = s.watch;
+      watches = s.watches;
     })
 
 pub invariant_of-self-2 : goal.invariant_of-self-2
@@ -87,6 +87,7 @@ invariant_of-self-2 g c =
       omega (arith, v.1, c.make_room-has_room.ensures.next, c.note_merge.ensures.no_fewer, c.make_room-has_room.ensures.events_len),
       v.2,
       c.in_default.ensures.holds c.self.inside.genesis v.3,
+      v.4,
     )
 
 pub returns-clause-machine : goal.returns-clause-machine
@@ -110,7 +111,7 @@ returns-clause-machine g c = λ state stands.
             grants = c.make_room-has_room.ensures.kept ∙ s.grants;
             next = c.make_room-has_room.ensures.next ∙ s.next;
             latest = s.latest;
-            watch = s.watch;
+            watches = s.watches;
           }),
     )
 

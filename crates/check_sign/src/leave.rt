@@ -1,0 +1,97 @@
+//! What lets a key sign, and leave to sign what is no block and no vote.
+ghost use Rattle.std.specs.Prelude.{◌≡◌, ◌≤◌, None, IfOk, IfErr};
+ghost use Rattle.edge_kit.specs.Causes.{Rose};
+ghost use Rattle.desk_machine.specs.States.{State};
+ghost use Rattle.desk_machine.specs.Machine.{IsBarred, IsUp, MaySign, moment_limit};
+ghost use Rattle.check_sign.specs.Calls.{IsBar, IsOwnBar, IsStep, IsOwn, Counted, MaySignHere};
+ghost use Rattle.check_sign.specs.Standing.{DeskStands};
+ghost use Rattle.check_sign.specs.Writing.{Moved, journal_of};
+ghost use Rattle.desk_machine.specs.declared.call.DeskCall.TheVariants as DeskCall;
+
+use crate::desk::Desk;
+use crate::marking::state_of;
+use crate::room::{give_leave, make_room, note};
+use desk_machine::{DeskReply, Event, WatchState};
+use edge_kit::{Disk, PubKey};
+use record_replay::KeyState;
+
+impl<D: Disk> Desk<D> {
+    /// Whether a key may sign now. The `Err` is the first of what bars it: the disk failed, no past is kept of the
+    /// key, its state, or its watch.
+    pub(crate) fn may_sign(&self, key: &PubKey) -> Result<(), DeskReply>
+        ensures barred { IfErr result (λ r. (state : State) → DeskStands self.now.contents state → IsBarred state key.now r) }
+        ensures bar { IfErr result (λ r. IsBar self.now.contents.torn r) }
+        ensures may { IfOk result (λ _. (state : State) → DeskStands self.now.contents state → IsUp state × MaySign state key.now) }
+        ensures own { IfOk result (λ _. MaySignHere self.now.contents key.now) }
+        ensures own_bar { IfErr result (λ r. IsOwnBar self.now.contents key.now r) }
+    {
+        if self.journal.failed() {
+            return Err(DeskReply::Disk);
+        }
+        let Some(_) = self.books.get(key) else {
+            return Err(DeskReply::Unknown);
+        };
+        match state_of(&self.states, key) {
+            KeyState::Active => {}
+            KeyState::Closing => return Err(DeskReply::Closing),
+            KeyState::Known | KeyState::Closed => return Err(DeskReply::NotActive),
+        }
+        match self.watches.standing(key, self.latest) {
+            WatchState::Allowed => Ok(()),
+            WatchState::Live(epoch) => Err(DeskReply::Live { epoch }),
+            WatchState::Missing { first, second } => Err(DeskReply::Watching { first, second }),
+        }
+    }
+
+    /// Grants leave to sign what is no block and no vote.
+    pub(crate) fn allow_key(&mut self, key: PubKey, now: u64) -> DeskReply
+        requires { now ≤ moment_limit }
+        ensures machine { IsStep self.old.contents (DeskCall.Allow key now) result self.new.contents }
+        ensures counted { Counted self.old.contents (DeskCall.Allow key now) result self.new.contents }
+        ensures own { IsOwn self.old.contents (DeskCall.Allow key now) result self.new.contents }
+        ensures rose { result ≡ DeskReply.Disk → self.old.contents.torn ≡ None → Rose (D.faults self.old.disk) (D.faults self.new.disk) }
+        ensures moved { Moved D.moment D.leaves D.faults (journal_of self.old) (journal_of self.new) }
+        ensures second { self.new.second ≡ self.old.second }
+    {
+        self.latest = self.latest.max(now);
+        match self.may_sign(&key) {
+            Ok(()) => {}
+            Err(bar) => return bar,
+        }
+        if !make_room(&mut self.events, &mut self.grants, self.closable) {
+            return DeskReply::OutOfMemory;
+        }
+        let latest = self.latest;
+        let grant = give_leave(&mut self.events, &mut self.grants, key, latest);
+        DeskReply::Granted(grant)
+    }
+
+    /// Takes in whether a key was seen live in an epoch.
+    pub(crate) fn note_answer(&mut self, key: PubKey, epoch: u64, live: bool, now: u64) -> DeskReply
+        requires { now ≤ moment_limit }
+        ensures machine { IsStep self.old.contents (DeskCall.Answer key epoch live now) result self.new.contents }
+        ensures counted { Counted self.old.contents (DeskCall.Answer key epoch live now) result self.new.contents }
+        ensures rose { result ≡ DeskReply.Disk → self.old.contents.torn ≡ None → Rose (D.faults self.old.disk) (D.faults self.new.disk) }
+        ensures moved { Moved D.moment D.leaves D.faults (journal_of self.old) (journal_of self.new) }
+        ensures second { self.new.second ≡ self.old.second }
+    {
+        self.latest = self.latest.max(now);
+        let Some(_) = self.books.get(&key) else {
+            return DeskReply::Unknown;
+        };
+        match state_of(&self.states, &key) {
+            KeyState::Active | KeyState::Closing => {}
+            KeyState::Known | KeyState::Closed => return DeskReply::NotActive,
+        }
+        if self.watches.reserve(&key).is_err() {
+            return DeskReply::OutOfMemory;
+        }
+        if !make_room(&mut self.events, &mut self.grants, self.closable) {
+            return DeskReply::OutOfMemory;
+        }
+        self.watches.tell(&key, epoch, live, now);
+        let told = Event::Told { key, epoch, live };
+        note(&mut self.events, told, self.latest);
+        DeskReply::Noted
+    }
+}
