@@ -1,6 +1,7 @@
 -- What the words ask the program to do, as `clap` reads them by the table.
 use Rattle.std.specs.Prelude.{ℕ, ◌==◌, Bool, true, false, List, [], ◌∷◌, ◌||◌, length, Option, Some, None, Result, Ok, Err, option_map, option_and_then, if◌then◌else◌, codes}
 use Rattle.std.specs.Str.{bytes_eq}
+use Rattle.std.specs.Option.{option_map_or}
 use Rattle.edge_kit.specs.Texts.{hex_bytes}
 use Rattle.edge_kit.specs.declared.bytes.Root.{Root}
 use Rattle.phase0_types.specs.declared.fork.Fork.{Fork}
@@ -14,9 +15,9 @@ use Rattle.command_line.specs.declared.planned.Plan.{Plan}
 use Rattle.command_line.specs.declared.planned.Plan.TheVariants.{Session, Merge, Show, Shown}
 use Rattle.command_line.specs.declared.planned.Usage.{Usage}
 
--- what words ask for: a session, with its journal's path and its signing service if any, a merge or a showing of a journal, the text of help or the version, or nothing that there is
+-- what words ask for: a session, with its journal's path and its signing service if any and whether keys are watched, a merge or a showing of a journal, the text of help or the version, or nothing that there is
 pub data Asked : Type 0 where
-  session : Root → Option (List ℕ) → Fork → Option Service → Asked
+  session : Root → Option (List ℕ) → Fork → Option Service → Bool → Asked
   merge : Root → List ℕ → Asked
   show : Root → List ℕ → Asked
   shown : Asked
@@ -24,7 +25,7 @@ pub data Asked : Type 0 where
 
 -- what an answer takes the words to ask for
 abbrev pub taken_as : Result Plan Usage → Asked
-taken_as (Ok (Session genesis journal fork signer)) = session genesis journal fork signer
+taken_as (Ok (Session genesis journal fork signer watch)) = session genesis journal fork signer watch
 taken_as (Ok (Merge genesis journal)) = merge genesis journal
 taken_as (Ok (Show genesis journal)) = show genesis journal
 taken_as (Ok (Shown text)) = shown
@@ -51,23 +52,27 @@ path_at text = if length text == 0 then None else Some text
 abbrev pub journal_in : List Row → Option (List ℕ)
 journal_in options = option_and_then path_at (first_of (codes "journal") options)
 
+-- `--watch` was given: `clap` reads a flag without a value as `true` where it stands, and as `false` where it does not
+abbrev pub watch_in : List Row → Bool
+watch_in options = option_map_or (λ text. bytes_eq text (codes "true")) (first_of (codes "watch") options) false
+
 -- what a text writes, where it is given: none where it is out of form
 abbrev pub at_most_one : {A : Type 0} → (Text → Option A) → Option Text → Option (Option A)
 at_most_one read None = Some None
 at_most_one read (Some text) = option_map Some (read text)
 
--- the session of a chain, a fork and a journal, with the value of `--signer`, if there is one
-abbrev pub session_by : Root → Fork → Option (List ℕ) → Option Text → Asked
-session_by genesis fork journal signer = or_nothing (option_map (session genesis journal fork) (at_most_one service_at signer))
+-- the session of a chain, a fork and a journal, with the value of `--signer`, if there is one, and with or without a watch
+abbrev pub session_by : Root → Fork → Option (List ℕ) → Option Text → Bool → Asked
+session_by genesis fork journal signer watch = or_nothing (option_map (λ service. session genesis journal fork service watch) (at_most_one service_at signer))
 
--- the session of a chain and a fork with the values of `--journal` and `--signer`, if there are any
-abbrev pub session_with : Root → Fork → Option Text → Option Text → Asked
-session_with genesis fork journal signer = or_nothing (option_map (λ path. session_by genesis fork path signer) (at_most_one path_at journal))
+-- the session of a chain and a fork with the values of `--journal` and `--signer`, if there are any, and with or without a watch
+abbrev pub session_with : Root → Fork → Option Text → Option Text → Bool → Asked
+session_with genesis fork journal signer watch = or_nothing (option_map (λ path. session_by genesis fork path signer watch) (at_most_one path_at journal))
 
 -- the session of these options
 abbrev pub session_in : List Row → Asked
 session_in options =
-    or_nothing (option_and_then (λ genesis. option_map (λ fork. session_with genesis fork (first_of (codes "journal") options) (first_of (codes "signer") options)) (fork_in options)) (genesis_in options))
+    or_nothing (option_and_then (λ genesis. option_map (λ fork. session_with genesis fork (first_of (codes "journal") options) (first_of (codes "signer") options) (watch_in options)) (fork_in options)) (genesis_in options))
 
 -- the merge of these options
 abbrev pub merge_in : List Row → Asked

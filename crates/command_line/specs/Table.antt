@@ -1,7 +1,7 @@
 -- The program's command line: its subcommands, their options, and what stands where an option is absent.
 use Rattle.std.specs.Prelude.{Bool, [], ◌∷◌, Some, true, false, codes}
 use Rattle.clap.specs.Words.{App, Rule, Shape, new_app, new_rule, with_rule, with_subcommand}
-use Rattle.clap.specs.declared.builder.action.ArgAction.TheVariants.{Set}
+use Rattle.clap.specs.declared.builder.action.ArgAction.TheVariants.{Set, SetTrue}
 
 -- `--genesis HEX32`, which must be given
 abbrev pub genesis_rule : Rule
@@ -38,9 +38,16 @@ fork_rule = record (new_rule (codes "fork")) {
   defaults = codes "0x00000000:0x00000000:0" ∷ [];
 }
 
+-- `--watch`, which has no value
+abbrev pub watch_rule : Rule
+watch_rule = record (new_rule (codes "watch")) {
+  long = Some (codes "watch");
+  action = Some SetTrue;
+}
+
 -- the command `session` with its options
 abbrev pub session_shape : Shape
-session_shape = (with_rule (with_rule (with_rule (with_rule (new_app (codes "session")) genesis_rule) (journal_rule false)) signer_rule) fork_rule).top
+session_shape = (with_rule (with_rule (with_rule (with_rule (with_rule (new_app (codes "session")) genesis_rule) (journal_rule false)) signer_rule) fork_rule) watch_rule).top
 
 -- the command `merge` with its options
 abbrev pub merge_shape : Shape

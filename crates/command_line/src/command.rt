@@ -1,7 +1,7 @@
 //! The table of commands and options, as `clap` takes it.
 ghost use Rattle.std.specs.Prelude.{◌≡◌, IfOk, false};
 ghost use Rattle.clap.specs.Words.{app_of, rule_of, shape_of};
-ghost use Rattle.command_line.specs.Table.{table, session_shape, merge_shape, show_shape, help_shape, genesis_rule, journal_rule, fork_rule, signer_rule};
+ghost use Rattle.command_line.specs.Table.{table, session_shape, merge_shape, show_shape, help_shape, genesis_rule, journal_rule, fork_rule, signer_rule, watch_rule};
 
 use clap::{Arg, ArgAction, Command};
 use std::alloc::{AllocError, Global};
@@ -18,6 +18,8 @@ const SESSION_AT_A_GLANCE: &str = "Options of session:
       --fork <PREVIOUS:CURRENT:EPOCH>
           Fork of the signing domains: two versions, each 0x and 8 hex digits, and the epoch from
           which the second holds, in decimal [default: 0x00000000:0x00000000:0]
+      --watch
+          A key that becomes active signs only once it was told not live in the two epochs after
 
 Options of merge and show:
       --genesis <HEX32>
@@ -63,12 +65,14 @@ pub(crate) fn session<'a>(alloc: Global) -> Result<Command<'a>, AllocError>
     );
     let signer = signer(alloc);
     let fork = fork(alloc);
+    let watch = watch(alloc);
     Command::new(alloc, "session")
         .about("Answers signing requests, one JSON object a line, from standard input")
         .arg(genesis)?
         .arg(journal)?
         .arg(signer)?
-        .arg(fork)
+        .arg(fork)?
+        .arg(watch)
 }
 
 /// The command `merge`.
@@ -148,6 +152,19 @@ fn fork<'a>(alloc: Global) -> Arg<'a>
         )
         .default_value("0x00000000:0x00000000:0")
         .action(ArgAction::Set)
+}
+
+/// The option `--watch`.
+fn watch<'a>(alloc: Global) -> Arg<'a>
+    ensures local { result.global ≡ false }
+    ensures rule { rule_of result ≡ watch_rule }
+{
+    Arg::new(alloc, "watch")
+        .long("watch")
+        .help(
+            "A key that becomes active signs only once it was told{n}not live in the two epochs after",
+        )
+        .action(ArgAction::SetTrue)
 }
 
 /// The command `help`.

@@ -1,7 +1,7 @@
 //! The values of options, as `clap` found them.
 ghost use Rattle.std.specs.Prelude.{◌≡◌, IfOk, option_map};
 ghost use Rattle.clap.specs.Words.{first_of, found_of, rows_of};
-ghost use Rattle.command_line.specs.Plans.{fork_in, genesis_in, journal_in};
+ghost use Rattle.command_line.specs.Plans.{fork_in, genesis_in, journal_in, watch_in};
 
 use crate::fork_text::read_fork;
 use crate::path_text::{PathText, read_path};
@@ -36,6 +36,13 @@ pub(crate) fn journal_of(
         Some(text) => read_path(alloc, text),
         None => Ok(None),
     }
+}
+
+/// Whether `--watch` was given.
+pub(crate) fn watch_of(options: &ArgMatches<'_>) -> bool
+    ensures { result ≡ watch_in (rows_of (found_of options.now)) }
+{
+    text_of(options, "watch").map_or(false, |text| text == "true")
 }
 
 /// The value of `--fork`, if it has its form.

@@ -15,12 +15,14 @@ pub enum Plan {
     /// A session over standard input and output, for the chain of this genesis validators root, whose
     /// signing domains are those of this fork. What it signs is kept in the journal of this path, and
     /// where there is none, for the length of the run. The signing service at this address signs, and
-    /// where there is none, a stand-in in memory, whose signatures are no BLS signatures.
+    /// where there is none, a stand-in in memory, whose signatures are no BLS signatures. With a watch, a
+    /// key that becomes active signs only once it was told not live in the two epochs after.
     Session {
         genesis: Root,
         journal: Option<PathText>,
         fork: Fork,
         signer: Option<ServiceUrl>,
+        watch: bool,
     },
     /// The interchange file on standard input, of the chain of this genesis validators root, is merged
     /// into the journal of this path.

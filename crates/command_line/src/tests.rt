@@ -30,6 +30,22 @@ fn answer(alloc: Global, words: &[&str]) -> Result<Result<Plan, Usage>, AllocErr
 }
 
 #[test]
+fn a_session_has_a_watch_where_it_is_asked_for(rt: HostRuntime) -> Result<(), Fail> {
+    let rows: [(&[&str], bool); 3] = [
+        (&["session", "--genesis", ROOT], false),
+        (&["session", "--genesis", ROOT, "--watch"], true),
+        (&["session", "--watch", "--genesis", ROOT], true),
+    ];
+    for (words, wanted) in rows {
+        let Ok(Plan::Session { watch, .. }) = answer(rt.alloc(), words)? else {
+            return Err(Fail::from("no session"));
+        };
+        assert_eq!(rt; watch, wanted, "{words:?}");
+    }
+    Ok(())
+}
+
+#[test]
 fn sessions_have_their_genesis_and_fork(rt: HostRuntime) -> Result<(), Fail> {
     let zero = Fork {
         previous_version: [0; 4],
@@ -55,6 +71,7 @@ fn sessions_have_their_genesis_and_fork(rt: HostRuntime) -> Result<(), Fail> {
                 journal: None,
                 fork,
                 signer: None,
+                watch: false,
             },
         ) = answer(rt.alloc(), words)?
         else {
@@ -97,6 +114,7 @@ fn journals_have_their_paths(rt: HostRuntime) -> Result<(), Fail> {
                 journal,
                 fork: _,
                 signer: _signer,
+                watch: _,
             } => match journal {
                 Some(path) => ("session", genesis, path),
                 None => return Err(Fail::from("no journal")),
@@ -113,7 +131,7 @@ fn journals_have_their_paths(rt: HostRuntime) -> Result<(), Fail> {
 }
 
 /// Words behind the program's name that are no command, each with a piece of what is told.
-const FAULTY: [(&[&str], &str); 23] = [
+const FAULTY: [(&[&str], &str); 24] = [
     (&[], "requires a subcommand"),
     (&["serve"], "unrecognized subcommand 'serve'"),
     (&["session"], "not provided:\n  --genesis <HEX32>"),
@@ -138,8 +156,12 @@ const FAULTY: [(&[&str], &str); 23] = [
         "unexpected argument 'more'",
     ),
     (
-        &["session", "--genesis", ROOT, "--watch"],
-        "unexpected argument '--watch'",
+        &["session", GENESIS_IS_ROOT, "--watch=no"],
+        "unexpected value 'no' for '--watch'",
+    ),
+    (
+        &["session", GENESIS_IS_ROOT, "--watch", "--watch"],
+        "cannot be used multiple times",
     ),
     (
         &["session", GENESIS_IS_ROOT, "--fork"],
@@ -267,6 +289,8 @@ Options of session:
       --fork <PREVIOUS:CURRENT:EPOCH>
           Fork of the signing domains: two versions, each 0x and 8 hex digits, and the epoch from
           which the second holds, in decimal [default: 0x00000000:0x00000000:0]
+      --watch
+          A key that becomes active signs only once it was told not live in the two epochs after
 
 Options of merge and show:
       --genesis <HEX32>
@@ -291,6 +315,8 @@ Options:
       --fork <PREVIOUS:CURRENT:EPOCH>  Fork of the signing domains: two versions, each 0x and 8
                                        hex digits, and the epoch from which the second holds,
                                        in decimal [default: 0x00000000:0x00000000:0]
+      --watch                          A key that becomes active signs only once it was told
+                                       not live in the two epochs after
   -h, --help                           Print help
 ";
 

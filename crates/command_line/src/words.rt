@@ -6,7 +6,7 @@ ghost use Rattle.command_line.specs.Plans.{asked_at, asked_in, asked_of, help_on
 
 use crate::command::{help, merge, program, session, show};
 use crate::fault::{Fault, refused};
-use crate::options::{fork_of, genesis_of, journal_of, text_of};
+use crate::options::{fork_of, genesis_of, journal_of, text_of, watch_of};
 use crate::path_text::{PathText, read_path};
 use crate::planned::{Plan, ShownText, Usage};
 use clap::error::ErrorKind;
@@ -22,7 +22,7 @@ use std::alloc::{AllocError, Global};
 ///   `--signer`, a URL of scheme http with a host and without user, password, query and fragment, and maybe
 ///   `--fork`, two versions and an epoch joined by `:`, each version `0x` and 8 hex digits, the
 ///   epoch 1 to 20 decimal digits below 2^64; `0x00000000:0x00000000:0` where it is absent. Hex digits
-///   are of either case.
+///   are of either case. Maybe also `--watch`, which has no value.
 /// - `merge` and `show`, each with `--genesis` and `--journal`.
 /// - `--help` anywhere before a fault, `help`, `help` with a command's name, and `--version`: a text.
 ///
@@ -101,38 +101,42 @@ fn session_plan(alloc: Global, options: &ArgMatches<'_>) -> Result<Result<Plan, 
         return refused(alloc, Fault::Fork(text));
     };
     let journal = text_of(options, "journal");
-    session_at(alloc, genesis, fork, journal, text_of(options, "signer"))
+    let signer = text_of(options, "signer");
+    session_at(alloc, genesis, fork, journal, signer, watch_of(options))
 }
 
 /// The answer to `session` for a chain and a fork, with the values of `--journal` and `--signer`, if there
-/// are any.
+/// are any, and with or without a watch.
 fn session_at(
     alloc: Global,
     genesis: Root,
     fork: Fork,
     path: Option<&str>,
     url: Option<&str>,
+    watch: bool,
 ) -> Result<Result<Plan, Usage>, AllocError>
-    ensures { IfOk result (λ answer. taken_as answer ≡ session_with genesis fork (option_map (λ s. s.now) path.entry) (option_map (λ s. s.now) url.entry)) }
+    ensures { IfOk result (λ answer. taken_as answer ≡ session_with genesis fork (option_map (λ s. s.now) path.entry) (option_map (λ s. s.now) url.entry) watch) }
 {
     let Some(path) = path else {
-        return session_by(alloc, genesis, fork, None, url);
+        return session_by(alloc, genesis, fork, None, url, watch);
     };
     let Some(journal) = read_path(alloc, path)? else {
         return refused(alloc, Fault::Journal);
     };
-    session_by(alloc, genesis, fork, Some(journal), url)
+    session_by(alloc, genesis, fork, Some(journal), url, watch)
 }
 
-/// The answer to `session` for a chain, a fork and a journal, with the value of `--signer`, if there is one.
+/// The answer to `session` for a chain, a fork and a journal, with the value of `--signer`, if there is one,
+/// and with or without a watch.
 fn session_by(
     alloc: Global,
     genesis: Root,
     fork: Fork,
     journal: Option<PathText>,
     url: Option<&str>,
+    watch: bool,
 ) -> Result<Result<Plan, Usage>, AllocError>
-    ensures { IfOk result (λ answer. taken_as answer ≡ session_by genesis fork journal (option_map (λ s. s.now) url.entry)) }
+    ensures { IfOk result (λ answer. taken_as answer ≡ session_by genesis fork journal (option_map (λ s. s.now) url.entry) watch) }
 {
     let Some(url) = url else {
         return Ok(Ok(Plan::Session {
@@ -140,6 +144,7 @@ fn session_by(
             journal,
             fork,
             signer: None,
+            watch,
         }));
     };
     let Some(signer) = ServiceUrl::read(alloc, url)? else {
@@ -150,6 +155,7 @@ fn session_by(
         journal,
         fork,
         signer: Some(signer),
+        watch,
     }))
 }
 

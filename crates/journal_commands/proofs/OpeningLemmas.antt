@@ -1,5 +1,5 @@
 -- A desk that was opened and ended.
-use Rattle.std.proofs.Common.{◌≡◌, ◌⊎◌, inl, inr, ℕ, ◌≤◌, List, Option, None, Some, refl, sym, ◌∙◌, subst, arith}
+use Rattle.std.proofs.Common.{◌≡◌, ◌⊎◌, inl, inr, ℕ, ◌≤◌, Bool, List, Option, None, Some, refl, sym, ◌∙◌, subst, arith}
 use Rattle.std.specs.Prelude.{IsSome, true, false}
 use Rattle.edge_kit.specs.Causes.{Rose}
 use Rattle.edge_kit.specs.Disks.{LeavesOnly}
@@ -20,7 +20,7 @@ use Rattle.journal_commands.specs.Openings.{EachImage, IsAsBefore, HadDesk}
 
 -- the chain of a plan, if it has one
 abbrev pub root_of : Root → Plan → Root
-root_of none (plan.Session genesis journal fork signer) = genesis
+root_of none (plan.Session genesis journal fork signer watch) = genesis
 root_of none (plan.Merge genesis journal) = genesis
 root_of none (plan.Show genesis journal) = genesis
 root_of none (plan.Shown text) = none
@@ -52,10 +52,10 @@ module _ {D : Type 0} (moment : D → ℕ) (leaves : D → ℕ → List ℕ → 
   pub fares_call : (old new : Seen D) (c : DeskCall) (r : DeskReply) → IsCallOf moment leaves faults old new c r → Fares faults old new
   fares_call old new c r call = record { genesis = call.counted.genesis; second = call.second; later = call.later; fails = call.fails }
 
-  pub had_desk : (shows : D → List ℕ → Type 0) (genesis : Root) (before now : Disks D) (events : List DeskEvent) (Ends : Seen D → Seen D → Type 0) (opened ended : Seen D)
-      → Opening shows moment leaves faults before.first before.second genesis false 0 opened → Ends opened ended → Fares faults opened ended → LeavesDesk moment leaves ended.disk ended.contents → Handed ended now events
-      → HadDesk shows moment leaves faults genesis before now events Ends
-  had_desk shows genesis before now events Ends opened ended opening ends fares left handed =
+  pub had_desk : (shows : D → List ℕ → Type 0) (genesis : Root) (watch : Bool) (before now : Disks D) (events : List DeskEvent) (Ends : Seen D → Seen D → Type 0) (opened ended : Seen D)
+      → Opening shows moment leaves faults before.first before.second genesis watch 0 opened → Ends opened ended → Fares faults opened ended → LeavesDesk moment leaves ended.disk ended.contents → Handed ended now events
+      → HadDesk shows moment leaves faults genesis watch before now events Ends
+  had_desk shows genesis watch before now events Ends opened ended opening ends fares left handed =
       let L : D → Type 0 = λ disk. LeavesDesk moment leaves disk ended.contents in
       let F : D → Type 0 = λ disk. IsSome ended.contents.torn → Rose (faults before.first) (faults disk) in
       let N : D → Type 0 = λ disk. faults before.first ≤ faults disk in
@@ -75,9 +75,9 @@ module _ {D : Type 0} (moment : D → ℕ) (leaves : D → ℕ → List ℕ → 
         };
       }
 
-  pub each_image : (shows : D → List ℕ → Type 0) (genesis : Root) (before now : Disks D) (May : State → List ℕ → Type 0) (opened ended : Seen D)
-      → Opening shows moment leaves faults before.first before.second genesis false 0 opened → Leaves moment leaves May opened ended → now.first ≡ ended.disk → EachImage moment leaves genesis before now May opened
-  each_image shows genesis before now May opened ended opening run last = λ state stands.
+  pub each_image : (shows : D → List ℕ → Type 0) (genesis : Root) (watch : Bool) (before now : Disks D) (May : State → List ℕ → Type 0) (opened ended : Seen D)
+      → Opening shows moment leaves faults before.first before.second genesis watch 0 opened → Leaves moment leaves May opened ended → now.first ≡ ended.disk → EachImage moment leaves genesis before now May opened
+  each_image shows genesis watch before now May opened ended opening run last = λ state stands.
       let P : List ℕ → Type 0 = λ c. IsAsBefore moment leaves genesis before.first c ⊎ May state c in
       let T : D → Type 0 = λ disk. LeavesOnly moment leaves before.first disk P in
       let files = run opening.left in

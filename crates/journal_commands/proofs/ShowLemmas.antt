@@ -11,8 +11,9 @@ use Rattle.edge_kit.specs.declared.disk.Disks.{Disks}
 use Rattle.protect_record.specs.Parts.{Parts}
 use Rattle.record_join.specs.Keys.{kept_of}
 use Rattle.record_replay.specs.declared.state.KeyState.{KeyState}
-use Rattle.desk_machine.specs.States.{State, key_state}
+use Rattle.desk_machine.specs.States.{State, key_state, state_in}
 use Rattle.desk_machine.specs.Machine.{Reply, after}
+use Rattle.desk_machine.specs.declared.call.KeyStanding.{KeyStanding}
 use Rattle.desk_machine.specs.declared.call.DeskCall.TheVariants as call
 use Rattle.desk_machine.specs.declared.call.DeskReply.{DeskReply}
 use Rattle.desk_machine.specs.declared.call.DeskReply.TheVariants as reply
@@ -30,9 +31,9 @@ use Rattle.journal_commands.specs.Showing.{DeskShowEnds, ShowEnds, WritesLines, 
 use Rattle.journal_commands.proofs.OpeningLemmas.{Handed, each_image, fares_call, had_desk}
 
 -- one more line
-pub listed_more : (keys : List (PubKey × Parts)) (listed : List (PubKey × KeyState)) (one : PubKey × KeyState) → listed_text keys (listed ++ one ∷ []) ≡ listed_text keys listed ++ kept_text one.0 one.1 (kept_of keys one.0)
+pub listed_more : (keys : List (PubKey × Parts)) (listed : List (PubKey × KeyStanding)) (one : PubKey × KeyStanding) → listed_text keys (listed ++ one ∷ []) ≡ listed_text keys listed ++ kept_text one.0 (state_in one.1) (kept_of keys one.0)
 listed_more keys listed one =
-    flat_map-append (λ (o : PubKey × KeyState). kept_text o.0 o.1 (kept_of keys o.0)) listed (one ∷ []) ∙ ap (λ t. listed_text keys listed ++ t) (append-nil (kept_text one.0 one.1 (kept_of keys one.0)))
+    flat_map-append (λ (o : PubKey × KeyStanding). kept_text o.0 (state_in o.1) (kept_of keys o.0)) listed (one ∷ []) ∙ ap (λ t. listed_text keys listed ++ t) (append-nil (kept_text one.0 (state_in one.1) (kept_of keys one.0)))
 
 -- what holds whatever came holds where an error came
 pub at_err : {T E A : Type 0} (result : Result T E) → A → OnErr result A
@@ -40,17 +41,17 @@ at_err (Ok x) h = tt
 at_err (Err e) h = h
 
 -- what stands before a line, and a front of it, is a front of all lines
-pub listed_part : (keys : List (PubKey × Parts)) (listed : List (PubKey × KeyState)) (i : ℕ) (d : PubKey × KeyState) (n : ℕ) → i < length listed
-    → n ≤ length (kept_text (get_or listed i d).0 (get_or listed i d).1 (kept_of keys (get_or listed i d).0))
-    → listed_text keys (take i listed) ++ take n (kept_text (get_or listed i d).0 (get_or listed i d).1 (kept_of keys (get_or listed i d).0)) ≡ take (length (listed_text keys (take i listed)) + n) (listed_text keys listed)
+pub listed_part : (keys : List (PubKey × Parts)) (listed : List (PubKey × KeyStanding)) (i : ℕ) (d : PubKey × KeyStanding) (n : ℕ) → i < length listed
+    → n ≤ length (kept_text (get_or listed i d).0 (state_in (get_or listed i d).1) (kept_of keys (get_or listed i d).0))
+    → listed_text keys (take i listed) ++ take n (kept_text (get_or listed i d).0 (state_in (get_or listed i d).1) (kept_of keys (get_or listed i d).0)) ≡ take (length (listed_text keys (take i listed)) + n) (listed_text keys listed)
 listed_part keys listed i d n within short =
     let one = get_or listed i d in
     let front = listed_text keys (take i listed) in
-    let line = kept_text one.0 one.1 (kept_of keys one.0) in
+    let line = kept_text one.0 (state_in one.1) (kept_of keys one.0) in
     let rest = listed_text keys (drop (i + 1) listed) in
     let whole : listed_text keys listed ≡ front ++ (line ++ rest) =
     ap (listed_text keys) (sym (take-append-drop (i + 1) listed))
-    ∙ flat_map-append (λ (o : PubKey × KeyState). kept_text o.0 o.1 (kept_of keys o.0)) (take (i + 1) listed) (drop (i + 1) listed)
+    ∙ flat_map-append (λ (o : PubKey × KeyStanding). kept_text o.0 (state_in o.1) (kept_of keys o.0)) (take (i + 1) listed) (drop (i + 1) listed)
     ∙ ap (λ t. t ++ rest) (ap (listed_text keys) (take_more listed i d within) ∙ listed_more keys (take i listed) one)
     ∙ append_assoc front line rest in
     sym (ap (take (length front + n)) whole ∙ take-append-add front (line ++ rest) n ∙ ap (λ t. front ++ t) (take-append-le n line rest short))
@@ -58,14 +59,25 @@ listed_part keys listed i d n within short =
 abbrev names_text : List (PubKey × Parts) → List (PubKey × KeyState) → List PubKey → List ℕ
 names_text keys states names = flat_map (λ key. kept_text key (key_state states key) (kept_of keys key)) names
 
-listed_names : (keys : List (PubKey × Parts)) (states : List (PubKey × KeyState)) (names : List PubKey) → listed_text keys (map (λ key. (key, key_state states key)) names) ≡ names_text keys states names
+-- the lines of keys by their states
+abbrev states_text : List (PubKey × Parts) → List (PubKey × KeyState) → List ℕ
+states_text keys listed = flat_map (λ one. kept_text one.0 one.1 (kept_of keys one.0)) listed
+
+abbrev in_states : List (PubKey × KeyStanding) → List (PubKey × KeyState)
+in_states listed = map (λ l. (l.0, state_in l.1)) listed
+
+listed_states : (keys : List (PubKey × Parts)) (listed : List (PubKey × KeyStanding)) → listed_text keys listed ≡ states_text keys (in_states listed)
+listed_states keys [] = refl
+listed_states keys (one ∷ listed) = ap (λ t. kept_text one.0 (state_in one.1) (kept_of keys one.0) ++ t) (listed_states keys listed)
+
+listed_names : (keys : List (PubKey × Parts)) (states : List (PubKey × KeyState)) (names : List PubKey) → states_text keys (map (λ key. (key, key_state states key)) names) ≡ names_text keys states names
 listed_names keys states [] = refl
 listed_names keys states (key ∷ names) = ap (λ t. kept_text key (key_state states key) (kept_of keys key) ++ t) (listed_names keys states names)
 
 -- the listed keys are those of the desk, in their states
-listed_shown : (old new : Contents) (listed : List (PubKey × KeyState)) → listed ≡ map {B = PubKey × KeyState} (λ key. (key, key_state old.states key)) (keys_of old.keys) → new.keys ≡ old.keys → new.states ≡ old.states → listed_text new.keys listed ≡ show_text new
+listed_shown : (old new : Contents) (listed : List (PubKey × KeyStanding)) → in_states listed ≡ map {B = PubKey × KeyState} (λ key. (key, key_state old.states key)) (keys_of old.keys) → new.keys ≡ old.keys → new.states ≡ old.states → listed_text new.keys listed ≡ show_text new
 listed_shown old new listed is keys states =
-    ap (listed_text new.keys) is ∙ listed_names new.keys old.states (keys_of old.keys)
+    listed_states new.keys listed ∙ ap (states_text new.keys) is ∙ listed_names new.keys old.states (keys_of old.keys)
     ∙ ap (λ s. names_text new.keys s (keys_of old.keys)) (sym states)
     ∙ ap (λ ks. names_text new.keys new.states (keys_of ks)) (sym keys)
 
@@ -77,7 +89,7 @@ unchanged state reply.OutOfMemory h = refl
 unchanged state r h = absurd h
 
 module _ {D : Type 0} (moment : D → ℕ) (leaves : D → ℕ → List ℕ → Type 0) (faults : D → ℕ) (old new : Seen D) where
-  pub listed_ends : (listed : List (PubKey × KeyState)) (before now : Output) (result : Status) → IsCallOf moment leaves faults old new call.Keys (reply.Keys listed)
+  pub listed_ends : (listed : List (PubKey × KeyStanding)) (before now : Output) (result : Status) → IsCallOf moment leaves faults old new call.Keys (reply.Keys listed)
       → WritesLines (listed_text new.contents.keys listed) before now result → DeskShowEnds moment leaves faults before now old new result
   listed_ends listed before now result asked writes = record {
     reply_is = reply.Keys listed;
@@ -101,7 +113,7 @@ pub show_ended : {D : Type 0} (shows : D → List ℕ → Type 0) (moment : D �
     → ShowEnds shows moment leaves faults genesis first last before now events result
 show_ended shows moment leaves faults genesis first last before now events result opened ended opening ends handed =
     let run = show_leaves moment leaves faults opened ended genesis opening.opened.genesis_is ends.reply_is ends.called in
-    inr (had_desk moment leaves faults shows genesis first last events
+    inr (had_desk moment leaves faults shows genesis false first last events
     (λ o e. DeskShowEnds moment leaves faults before now o e result × EachImage moment leaves genesis first last (MayOpen genesis) o) opened ended opening
-    (ends, each_image moment leaves faults shows genesis first last (MayOpen genesis) opened ended opening run handed.first)
+    (ends, each_image moment leaves faults shows genesis false first last (MayOpen genesis) opened ended opening run handed.first)
     (fares_call moment leaves faults opened ended call.Keys ends.reply_is ends.called) ends.called.left handed)

@@ -1,5 +1,5 @@
 -- How a merge of the input into a journal ends.
-use Rattle.std.specs.Prelude.{◌≡◌, ◌⊎◌, ℕ, ◌≤◌, List, ◌++◌, Option, Some, None, Ok, Err, length, codes, decimal}
+use Rattle.std.specs.Prelude.{◌≡◌, ◌⊎◌, ℕ, ◌≤◌, List, ◌++◌, Option, Some, None, Ok, Err, length, codes, decimal, false}
 use Rattle.std.specs.Io.KnownBytes.{Consumes, IsAtEnd}
 use Rattle.edge_kit.specs.declared.bytes.Root.{Root}
 use Rattle.edge_kit.specs.declared.disk.Disks.{Disks}
@@ -32,7 +32,7 @@ use Rattle.journal_commands.specs.declared.whole.WholeFault.TheVariants as whole
 -- the plan is a merge's
 abbrev pub IsMerge : Plan → Type 0
 IsMerge (plan.Merge genesis journal) = Unit {0}
-IsMerge (plan.Session genesis journal fork signer) = ⊥
+IsMerge (plan.Session genesis journal fork signer watch) = ⊥
 IsMerge (plan.Show genesis journal) = ⊥
 IsMerge (plan.Shown text) = ⊥
 
@@ -115,7 +115,7 @@ pub record Unread (before now : View) : Type 0 where
 abbrev pub MergeEnds : {D : Type 0} → (D → List ℕ → Type 0) → (D → ℕ) → (D → ℕ → List ℕ → Type 0) → (D → ℕ) → Root → Disks D → Disks D → View → View → List DeskEvent → Status → Type 0
 MergeEnds shows moment leaves faults genesis disks_before disks_now before now events result =
     (NotOpened shows moment leaves faults genesis disks_before disks_now before.out now.out events result × Unread before now)
-    ⊎ HadDesk shows moment leaves faults genesis disks_before disks_now events
+    ⊎ HadDesk shows moment leaves faults genesis false disks_before disks_now events
     (λ opened ended. DeskMergeEnds moment leaves faults before now opened ended result × EachImage moment leaves genesis disks_before disks_now (OpensByMerge genesis before now) opened)
 
 -- a merge in which nothing failed, of an input within the file's limit, is done, or ends for want of memory, by what the journal

@@ -1,5 +1,5 @@
 -- The desk of a command: it was not opened, or it was, and ended.
-use Rattle.std.specs.Prelude.{◌≡◌, ◌⊎◌, ℕ, ◌≤◌, false, List, [], Option, Some, None, IsSome}
+use Rattle.std.specs.Prelude.{◌≡◌, ◌⊎◌, ℕ, ◌≤◌, Bool, List, [], Option, Some, None, IsSome}
 use Rattle.edge_kit.specs.Causes.{Rose}
 use Rattle.edge_kit.specs.Disks.{LeavesOnly}
 use Rattle.edge_kit.specs.declared.bytes.Root.{Root}
@@ -60,11 +60,11 @@ abbrev pub EachImage : {D : Type 0} → (D → ℕ) → (D → ℕ → List ℕ 
 EachImage moment leaves genesis disks_before disks_now May opened =
     (state : State) → DeskStands opened.contents state → LeavesOnly moment leaves disks_before.first disks_now.first (λ c. IsAsBefore moment leaves genesis disks_before.first c ⊎ May state c)
 
--- A desk was opened, at epoch 0 and its keys not watched, and ended.
-pub record HadDesk {D : Type 0} (shows : D → List ℕ → Type 0) (moment : D → ℕ) (leaves : D → ℕ → List ℕ → Type 0) (faults : D → ℕ) (genesis : Root)
+-- A desk was opened, at epoch 0, its keys watched or not, and ended.
+pub record HadDesk {D : Type 0} (shows : D → List ℕ → Type 0) (moment : D → ℕ) (leaves : D → ℕ → List ℕ → Type 0) (faults : D → ℕ) (genesis : Root) (watch : Bool)
     (disks_before disks_now : Disks D) (events : List DeskEvent) (Ends : Seen D → Seen D → Type 0) : Type 0 where
   pub opened : Seen D
   pub ended : Seen D
-  pub opening : Opening shows moment leaves faults disks_before.first disks_before.second genesis false 0 opened
+  pub opening : Opening shows moment leaves faults disks_before.first disks_before.second genesis watch 0 opened
   pub ends : Ends opened ended
   pub desk : DeskEnded moment leaves faults genesis disks_before disks_now ended events

@@ -1,5 +1,5 @@
 -- What `show` writes of a journal's keys.
-use Rattle.std.specs.Prelude.{◌≡◌, ◌⊎◌, ℕ, List, [], ◌++◌, flat_map, length, take, Option, Some, None, option_map, codes, decimal}
+use Rattle.std.specs.Prelude.{◌≡◌, ◌⊎◌, ℕ, List, [], ◌++◌, flat_map, length, take, Option, Some, None, option_map, codes, decimal, false}
 use Rattle.std.specs.Map.{keys_of}
 use Rattle.std.specs.Io.KnownBytes.{Appends}
 use Rattle.edge_kit.specs.Causes.{Rose}
@@ -12,7 +12,8 @@ use Rattle.protect_record.specs.declared.floors.Floors.{Floors}
 use Rattle.record_replay.specs.declared.state.KeyState.{KeyState}
 use Rattle.record_replay.specs.declared.state.KeyState.TheVariants as state
 use Rattle.record_join.specs.Keys.{kept_of}
-use Rattle.desk_machine.specs.States.{key_state}
+use Rattle.desk_machine.specs.States.{key_state, state_in}
+use Rattle.desk_machine.specs.declared.call.KeyStanding.{KeyStanding}
 use Rattle.desk_machine.specs.declared.call.DeskCall.TheVariants as call
 use Rattle.desk_machine.specs.declared.call.DeskReply.{DeskReply}
 use Rattle.desk_machine.specs.declared.event.DeskEvent.{DeskEvent}
@@ -30,7 +31,7 @@ use Rattle.journal_commands.specs.Openings.{EachImage, HadDesk, NotOpened}
 -- the plan is a showing's
 abbrev pub IsShow : Plan → Type 0
 IsShow (plan.Show genesis journal) = Unit {0}
-IsShow (plan.Session genesis journal fork signer) = ⊥
+IsShow (plan.Session genesis journal fork signer watch) = ⊥
 IsShow (plan.Merge genesis journal) = ⊥
 IsShow (plan.Shown text) = ⊥
 
@@ -77,9 +78,9 @@ abbrev pub kept_text : PubKey → KeyState → Option Parts → List ℕ
 kept_text key state None = []
 kept_text key state (Some parts) = key_text key state parts
 
--- the lines of these keys in these states
-abbrev pub listed_text : List (PubKey × Parts) → List (PubKey × KeyState) → List ℕ
-listed_text keys listed = flat_map (λ one. kept_text one.0 one.1 (kept_of keys one.0)) listed
+-- the lines of these keys by how they stand
+abbrev pub listed_text : List (PubKey × Parts) → List (PubKey × KeyStanding) → List ℕ
+listed_text keys listed = flat_map (λ one. kept_text one.0 (state_in one.1) (kept_of keys one.0)) listed
 
 -- the lines of the keys of a desk, in key order
 abbrev pub show_text : Contents → List ℕ
@@ -108,7 +109,7 @@ pub record DeskShowEnds {D : Type 0} (moment : D → ℕ) (leaves : D → ℕ �
 abbrev pub ShowEnds : {D : Type 0} → (D → List ℕ → Type 0) → (D → ℕ) → (D → ℕ → List ℕ → Type 0) → (D → ℕ) → Root → Disks D → Disks D → Output → Output → List DeskEvent → Status → Type 0
 ShowEnds shows moment leaves faults genesis disks_before disks_now before now events result =
     NotOpened shows moment leaves faults genesis disks_before disks_now before now events result
-    ⊎ HadDesk shows moment leaves faults genesis disks_before disks_now events
+    ⊎ HadDesk shows moment leaves faults genesis false disks_before disks_now events
     (λ opened ended. DeskShowEnds moment leaves faults before now opened ended result × EachImage moment leaves genesis disks_before disks_now (MayOpen genesis) opened)
 
 -- a showing in which nothing failed is done, or ends for want of memory or by what the journal holds

@@ -9,7 +9,7 @@ ghost use Rattle.journal_commands.specs.Showing.{DeskShowEnds, IsShow, IsShowCom
 
 use crate::showing::key_line;
 use crate::unopened::close_unopened;
-use check_sign::{Desk, DeskReply, Events, KeyState, Outcome};
+use check_sign::{Desk, DeskReply, Events, KeyStanding, KeyState, Outcome};
 use command_line::Plan;
 use edge_kit::{Disk, Disks, Failed, PubKey, Sink};
 use program_end::{Status, write_all};
@@ -74,6 +74,7 @@ fn show_desk<D: Disk, O: Sink>(alloc: Global, desk: &mut Desk<D>, out: &mut O) -
         }
         DeskReply::Active
         | DeskReply::Already
+        | DeskReply::Noted
         | DeskReply::Settled
         | DeskReply::CloseBegun
         | DeskReply::AlreadyClosing
@@ -83,14 +84,17 @@ fn show_desk<D: Disk, O: Sink>(alloc: Global, desk: &mut Desk<D>, out: &mut O) -
         | DeskReply::Disk => unreachable!(),
         DeskReply::Merged { keys: _ } => unreachable!(),
         DeskReply::GenesisDiffers { kept: _, given: _ } => unreachable!(),
-        DeskReply::Busy { grants: _ } => unreachable!(),
+        DeskReply::Live { epoch: _ } | DeskReply::Busy { grants: _ } => unreachable!(),
+        DeskReply::Watching {
+            first: _,
+            second: _,
+        } => unreachable!(),
         DeskReply::TooManyKeys { have: _, new: _ } => unreachable!(),
         DeskReply::Full { size: _, wanted: _ } => unreachable!(),
         DeskReply::Closed(_) => unreachable!(),
         DeskReply::Exported(_) => unreachable!(),
         DeskReply::Pruned(_) => unreachable!(),
-        DeskReply::HasFailed(_) => unreachable!(),
-        DeskReply::NotClosing(_) => unreachable!(),
+        DeskReply::HasFailed(_) | DeskReply::NotClosing(_) => unreachable!(),
         DeskReply::Refused(_) => unreachable!(),
     };
     match show_keys(alloc, desk, listed.as_slice(), out) {
@@ -100,11 +104,11 @@ fn show_desk<D: Disk, O: Sink>(alloc: Global, desk: &mut Desk<D>, out: &mut O) -
     }
 }
 
-/// Writes the lines of these keys in these states.
+/// Writes the lines of these keys by how they stand.
 fn show_keys<D: Disk, O: Sink>(
     alloc: Global,
     desk: &Desk<D>,
-    listed: &[(PubKey, KeyState)],
+    listed: &[(PubKey, KeyStanding)],
     out: &mut O,
 ) -> Result<(), Unshown>
     ensures shown { OnOk result (Appends (O.held out.old) (O.held out.new) (listed_text desk.now.contents.keys listed.now)) }
@@ -113,7 +117,7 @@ fn show_keys<D: Disk, O: Sink>(
     ensures later { O.faults out.old ≤ O.faults out.new }
 {
     'keys: for one in listed {
-        show_key(alloc, desk, &one.0, one.1, out)?;
+        show_key(alloc, desk, &one.0, one.1.state(), out)?;
     }
     Ok(())
 }

@@ -136,19 +136,21 @@ fn merge_file<D: Disk, O: Sink>(
         }
         DeskReply::Active
         | DeskReply::Already
+        | DeskReply::Noted
         | DeskReply::Settled
         | DeskReply::CloseBegun
         | DeskReply::AlreadyClosing
         | DeskReply::Unknown
         | DeskReply::NotActive
         | DeskReply::Closing => unreachable!(),
-        DeskReply::Busy { grants: _ } => unreachable!(),
+        DeskReply::Live { .. } | DeskReply::Watching { .. } | DeskReply::Busy { .. } => {
+            unreachable!()
+        }
         DeskReply::Closed(_) => unreachable!(),
         DeskReply::Exported(_) => unreachable!(),
         DeskReply::Pruned(_) => unreachable!(),
         DeskReply::Keys(_) => unreachable!(),
-        DeskReply::HasFailed(_) => unreachable!(),
-        DeskReply::NotClosing(_) => unreachable!(),
+        DeskReply::HasFailed(_) | DeskReply::NotClosing(_) => unreachable!(),
         DeskReply::Refused(_) => unreachable!(),
     }
 }

@@ -10,7 +10,7 @@ use Rattle.interchange_io.specs.Members.{name_of}
 use Rattle.interchange_io.specs.Writing.{file_text}
 use Rattle.interchange_io.specs.declared.fault.ReadFault.{ReadFault}
 use Rattle.interchange_io.specs.declared.fault.ReadFault.TheVariants as fault
-use Rattle.serde_json.specs.Data.{Data, string, object, Members, member, no_members}
+use Rattle.serde_json.specs.Data.{Data, string, array, object, Items, item, no_items, Members, member, no_members}
 use Rattle.serde_json.specs.Written.{compact_text}
 use Rattle.session_format.specs.Causes.{cause_data}
 use Rattle.session_format.specs.Members.{member_name}
@@ -51,6 +51,11 @@ with_entry entry reason = with_one (codes "entry") entry reason
 abbrev pub with_floor : ℕ → List ℕ → Data
 with_floor floor reason = with_one (codes "floor") (string (decimal floor)) reason
 
+-- the epochs of a watch that are missing, the lesser first
+abbrev pub missing_epochs : ℕ → Option ℕ → Items
+missing_epochs first None = item (string (decimal first)) no_items
+missing_epochs first (Some second) = item (string (decimal first)) (item (string (decimal second)) no_items)
+
 abbrev pub with_member : List ℕ → List ℕ → Data
 with_member name reason = with_one (codes "member") (string name) reason
 
@@ -89,6 +94,7 @@ answer_data (answer.Unsigned c) = cause_data c
 answer_data (answer.Exported file) =
     object (member (codes "answer") (string (codes "exported")) (member (codes "file") (string (file_text file)) no_members))
 answer_data answer.Pruned = done (codes "pruned")
+answer_data answer.Noted = done (codes "noted")
 answer_data (answer.BadRequest m) = with_member (member_name m) (codes "bad_request")
 answer_data (answer.BadFile f) = fault_data f
 answer_data (answer.GenesisDiffers kept given) =
@@ -110,6 +116,8 @@ answer_data answer.Disk = with_reason (codes "disk")
 answer_data answer.Unknown = with_reason (codes "unknown")
 answer_data answer.NotActive = with_reason (codes "not_active")
 answer_data answer.Closing = with_reason (codes "closing")
+answer_data (answer.Live epoch) = with_one (codes "epoch") (string (decimal epoch)) (codes "live")
+answer_data (answer.Watching first second) = with_one (codes "missing") (array (missing_epochs first second)) (codes "watching")
 answer_data (answer.Refused v) = verdict_data v
 
 -- the bytes of the answer's line

@@ -18,6 +18,8 @@ member_name member.TargetEpoch = codes "target_epoch"
 member_name member.SigningRoot = codes "signing_root"
 member_name member.Header = codes "header"
 member_name member.Attestation = codes "attestation"
+member_name member.Of = codes "of"
+member_name member.IsLive = codes "is_live"
 member_name (member.Inside m) = shape_name m
 member_name member.Epoch = codes "epoch"
 

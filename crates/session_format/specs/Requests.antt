@@ -1,12 +1,12 @@
 -- The request that a line is, under the session's domains.
-use Rattle.std.specs.Prelude.{ℕ, List, nat_le, if◌then◌else◌, Option, Some, None, option_map, option_and_then, is_some, ok_or, Result, Ok, Err, codes}
+use Rattle.std.specs.Prelude.{ℕ, Bool, List, nat_le, if◌then◌else◌, Option, Some, None, option_map, option_and_then, is_some, ok_or, Result, Ok, Err, codes}
 use Rattle.std.specs.Str.{is_utf8, bytes_eq}
 use Rattle.edge_kit.specs.Texts.{quoted_number, hex_bytes}
 use Rattle.edge_kit.specs.declared.bytes.PubKey.{PubKey}
 use Rattle.edge_kit.specs.declared.bytes.Root.{Root}
 use Rattle.serde_json.specs.Data.{Data, Items}
 use Rattle.serde_json.specs.Read.{read}
-use Rattle.serde_json.specs.Find.{get, as_str, as_array, as_object}
+use Rattle.serde_json.specs.Find.{get, as_bool, as_str, as_array, as_object}
 use Rattle.slash_defs.specs.declared.book.File.{File}
 use Rattle.slash_defs.specs.declared.message.Message.TheVariants as message
 use Rattle.interchange_io.specs.Reading.{file_of}
@@ -47,6 +47,10 @@ key_at d = key_in member.Pubkey (text_at (codes "pubkey") d)
 -- the number in quotes that a member is
 abbrev pub number_at : List ℕ → Member → Data → Result ℕ Member
 number_at name m d = ok_or (option_and_then quoted_number (text_at name d)) m
+
+-- whether a member is true or false
+abbrev pub truth_at : List ℕ → Member → Data → Result Bool Member
+truth_at name m d = ok_or (option_and_then as_bool (get name d)) m
 
 abbrev pub root_at : Data → Result Root Member
 root_at d = ok_or (option_map root (option_and_then (hex_bytes 32) (text_at (codes "signing_root") d))) member.SigningRoot
@@ -153,6 +157,14 @@ prune_at d = do
   key ← key_at d
   Ok (op.Prune key)
 
+-- whether a key was live in an epoch, which may be any number of 64 bits
+abbrev pub live_at : Data → Result Op Member
+live_at d = do
+  key ← key_at d
+  epoch ← number_at (codes "of") member.Of d
+  live ← truth_at (codes "is_live") member.IsLive d
+  Ok (op.Live key epoch live)
+
 -- by the text of the member `op`
 abbrev pub by_op : Domains → Option (List ℕ) → Data → Result Op Member
 by_op domains None d = Err member.Op
@@ -162,6 +174,7 @@ by_op domains (Some name) d = if bytes_eq name (codes "merge") then merge_at d
     else if bytes_eq name (codes "vote") then vote_at domains d
     else if bytes_eq name (codes "export") then export_at d
     else if bytes_eq name (codes "prune") then prune_at d
+    else if bytes_eq name (codes "live") then live_at d
     else Err member.Op
 
 abbrev pub op_in : Domains → Data → Result Op Member

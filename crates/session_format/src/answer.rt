@@ -6,8 +6,8 @@ ghost use Rattle.session_format.specs.Answers.{answer_data, answer_text};
 use crate::cause::Cause;
 use crate::member::Member;
 use crate::values::{
-    exported, fault_value, full, genesis_differs, merged, signed, too_many_keys, verdict_value,
-    with_name,
+    exported, fault_value, full, genesis_differs, live, merged, signed, too_many_keys,
+    verdict_value, watching, with_name,
 };
 use edge_kit::{Root, Sig};
 use interchange_io::ReadFault;
@@ -31,6 +31,8 @@ pub enum Answer {
     Exported(File),
     /// The key's record is pruned.
     Pruned,
+    /// What was told of the key is noted.
+    Noted,
     /// A member of the line is absent or has no reading. Nothing was done.
     BadRequest(Member),
     /// The text is no interchange file. Nothing was done.
@@ -49,6 +51,10 @@ pub enum Answer {
     NotActive,
     /// The key is being closed.
     Closing,
+    /// The key is watched, and was told live in this epoch of its watch.
+    Live { epoch: u64 },
+    /// The key is watched, and of these epochs, the lesser first, nothing counted yet.
+    Watching { first: u64, second: Option<u64> },
     /// The key's past forbids the message.
     Refused(Verdict),
 }
@@ -74,6 +80,7 @@ impl Answer {
             Answer::Unsigned(cause) => cause.value(alloc),
             Answer::Exported(file) => exported(alloc, file),
             Answer::Pruned => json!(in alloc; {"answer": "pruned"}),
+            Answer::Noted => json!(in alloc; {"answer": "noted"}),
             Answer::BadRequest(member) => with_name(alloc, member.name(), "bad_request"),
             Answer::BadFile(fault) => fault_value(alloc, fault),
             Answer::GenesisDiffers { kept, given } => genesis_differs(alloc, kept, given),
@@ -83,6 +90,8 @@ impl Answer {
             Answer::Unknown => json!(in alloc; {"answer": "refused", "reason": "unknown"}),
             Answer::NotActive => json!(in alloc; {"answer": "refused", "reason": "not_active"}),
             Answer::Closing => json!(in alloc; {"answer": "refused", "reason": "closing"}),
+            Answer::Live { epoch } => live(alloc, *epoch),
+            Answer::Watching { first, second } => watching(alloc, *first, *second),
             Answer::Refused(verdict) => verdict_value(alloc, verdict),
         }
     }

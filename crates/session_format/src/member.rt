@@ -22,6 +22,10 @@ pub enum Member {
     Header,
     /// The member `attestation` is no object.
     Attestation,
+    /// The epoch that is told of.
+    Of,
+    /// The member `is_live` is neither true nor false.
+    IsLive,
     /// A member inside `header` or `attestation`.
     Inside(phase0_types::Member),
     /// The moment is no number in quotes, or above 576,460,752,303,423,487.
@@ -45,6 +49,8 @@ impl Member {
             Member::SigningRoot => "signing_root",
             Member::Header => "header",
             Member::Attestation => "attestation",
+            Member::Of => "of",
+            Member::IsLive => "is_live",
             Member::Inside(member) => member.name(),
             Member::Epoch => "epoch",
         }

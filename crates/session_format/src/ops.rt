@@ -1,14 +1,14 @@
-//! The ops that name a file or keys.
+//! The ops that name a file or keys, or tell something of a key.
 ghost use Rattle.std.specs.Prelude.{◌≡◌, codes};
 ghost use Rattle.serde_json.specs.Find.{get};
 ghost use Rattle.serde_json.specs.View.{view, items_view};
-ghost use Rattle.session_format.specs.Requests.{activate_at, asked_keys, export_at, listed_key, merge_at, prune_at};
+ghost use Rattle.session_format.specs.Requests.{activate_at, asked_keys, export_at, listed_key, live_at, merge_at, prune_at};
 ghost use Rattle.session_format.specs.Steps.{Gives, each};
 
 use crate::member::Member;
 use crate::reading::Unread;
 use crate::request::{Keys, Op};
-use crate::texts::{key_of, listed_key_of, text_of};
+use crate::texts::{key_of, listed_key_of, number_of, text_of, truth_of};
 use edge_kit::Items;
 use serde_json::Value;
 use std::alloc::Global;
@@ -48,6 +48,16 @@ pub(crate) fn prune_of(value: &Value) -> Result<Op, Unread>
 {
     let key = key_of(value)?;
     Ok(Op::Prune { key })
+}
+
+/// To note whether the key was seen live in the epoch of the member `of`.
+pub(crate) fn live_of(value: &Value) -> Result<Op, Unread>
+    ensures { Gives result (live_at (view value.now)) }
+{
+    let key = key_of(value)?;
+    let of = number_of(value, "of", Member::Of)?;
+    let is_live = truth_of(value, "is_live", Member::IsLive)?;
+    Ok(Op::Live { key, of, is_live })
 }
 
 fn keys_of(alloc: Global, value: &Value) -> Result<Option<Keys>, Unread>

@@ -6,7 +6,7 @@ ghost use Rattle.session_format.specs.Steps.{Gives};
 
 use crate::member::Member;
 use crate::objects::{block_of, vote_of};
-use crate::ops::{activate_of, export_of, merge_of, prune_of};
+use crate::ops::{activate_of, export_of, live_of, merge_of, prune_of};
 use crate::request::{Op, Request};
 use crate::texts::text_of;
 use desk_machine::MOMENT_LIMIT;
@@ -119,6 +119,8 @@ fn op_of(alloc: Global, domains: &Domains, value: &Value) -> Result<Op, Unread>
         export_of(alloc, value)
     } else if op == "prune" {
         prune_of(value)
+    } else if op == "live" {
+        live_of(value)
     } else {
         Err(Unread::Member(Member::Op))
     }

@@ -36,6 +36,12 @@ pub enum Op {
     Prune {
         key: PubKey,
     },
+    /// To note whether a key was seen live in the epoch `of`, which may be any number of 64 bits.
+    Live {
+        key: PubKey,
+        of: u64,
+        is_live: bool,
+    },
 }
 
 /// The request of a line: what it asks for, and the moment, an epoch, where it names one.

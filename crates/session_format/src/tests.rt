@@ -93,6 +93,7 @@ fn op_words(alloc: Global, op: &Op) -> Result<String, AllocError> {
             let object = match object {
                 None => "",
                 Some(SignObject::Header(_)) => " header",
+                Some(SignObject::Block(_)) => " whole block",
                 Some(SignObject::Attestation(_)) => " attestation",
             };
             format!(in alloc; "{}{}", message.as_str(), object)
@@ -100,6 +101,7 @@ fn op_words(alloc: Global, op: &Op) -> Result<String, AllocError> {
         Op::Export { keys: Some(keys) } => format!(in alloc; "export {}", keys.len()),
         Op::Export { keys: None } => String::from_str(alloc, "export all"),
         Op::Prune { .. } => String::from_str(alloc, "prune"),
+        Op::Live { of, is_live, .. } => format!(in alloc; "live {} {}", *of, *is_live),
     }
 }
 
@@ -116,7 +118,7 @@ fn outcome(alloc: Global, line: &[u8]) -> Result<String, AllocError> {
     }
 }
 
-const OUTCOMES: [(&str, &str); 44] = [
+const OUTCOMES: [(&str, &str); 51] = [
     // Each op.
     (r#"{"op":"merge","file":"&"}"#, "merge 1"),
     (
@@ -148,6 +150,14 @@ const OUTCOMES: [(&str, &str); 44] = [
     (r#"{"op":"export","pubkeys":[]}"#, "export 0"),
     (r#"{"op":"export","pubkeys":["~","~"]}"#, "export 2"),
     (r#"{"op":"prune","pubkey":"~"}"#, "prune"),
+    (
+        r#"{"op":"live","pubkey":"~","of":"18446744073709551615","is_live":true}"#,
+        "live 18446744073709551615 true",
+    ),
+    (
+        r#"{"op":"live","pubkey":"~","of":"6","is_live":false,"epoch":"7"}"#,
+        "live 6 false at 7",
+    ),
     // An object wins over the plain members.
     (
         r#"{"op":"block","pubkey":"~","slot":"9","signing_root":7,"header":@}"#,
@@ -198,6 +208,17 @@ const OUTCOMES: [(&str, &str); 44] = [
     (
         r#"{"op":"vote","pubkey":"~","attestation":[]}"#,
         "no attestation",
+    ),
+    (r#"{"op":"live","of":"6","is_live":true}"#, "no pubkey"),
+    (r#"{"op":"live","pubkey":"~","is_live":true}"#, "no of"),
+    (
+        r#"{"op":"live","pubkey":"~","of":6,"is_live":true}"#,
+        "no of",
+    ),
+    (r#"{"op":"live","pubkey":"~","of":"6"}"#, "no is_live"),
+    (
+        r#"{"op":"live","pubkey":"~","of":"6","is_live":"true"}"#,
+        "no is_live",
     ),
     (r#"{"op":"export","epoch":null}"#, "no epoch"),
     (r#"{"op":"export","epoch":7}"#, "no epoch"),
@@ -260,31 +281,48 @@ fn answer_at(alloc: Global, place: usize) -> Result<Answer, AllocError> {
         4 => Answer::Unsigned(Cause::Fault),
         5 => Answer::Exported(one_key(alloc)?),
         6 => Answer::Pruned,
-        7 => Answer::BadRequest(Member::Header),
-        8 => Answer::BadRequest(Member::Inside(phase0_types::Member::ProposerIndex)),
-        9..=15 => Answer::BadFile(fault_at(alloc, place - 9)?),
-        16 => Answer::GenesisDiffers {
+        7 => Answer::Noted,
+        8 => Answer::BadRequest(Member::Header),
+        9 => Answer::BadRequest(Member::Inside(phase0_types::Member::ProposerIndex)),
+        10..=16 => Answer::BadFile(fault_at(alloc, place - 10)?),
+        17 => Answer::Unsigned(Cause::Denied { status: 412 }),
+        18 => Answer::Unsigned(Cause::BadAnswer {
+            body: Items::from_vec(vec![in alloc; 0xee; 257]?),
+        }),
+        _ => refusal_at(place),
+    })
+}
+
+/// The refusal by the desk at a place of `LINES`.
+fn refusal_at(place: usize) -> Answer {
+    match place {
+        19 => Answer::GenesisDiffers {
             kept: Root([0; 32]),
             given: Root([0x11; 32]),
         },
-        17 => Answer::TooManyKeys {
+        20 => Answer::TooManyKeys {
             have: 7,
             new: 18_446_744_073_709_551_615,
         },
-        18 => Answer::Full {
+        21 => Answer::Full {
             size: 1_099_511_627_775,
             wanted: 205,
         },
-        19 => Answer::Disk,
-        20 => Answer::Unknown,
-        21 => Answer::NotActive,
-        22 => Answer::Closing,
-        23 => Answer::Unsigned(Cause::Denied { status: 412 }),
-        24 => Answer::Unsigned(Cause::BadAnswer {
-            body: Items::from_vec(vec![in alloc; 0xee; 257]?),
-        }),
+        22 => Answer::Disk,
+        23 => Answer::Unknown,
+        24 => Answer::NotActive,
+        25 => Answer::Closing,
+        26 => Answer::Live { epoch: 7 },
+        27 => Answer::Watching {
+            first: 6,
+            second: Some(7),
+        },
+        28 => Answer::Watching {
+            first: 7,
+            second: None,
+        },
         _ => Answer::Refused(verdict_at(place)),
-    })
+    }
 }
 
 /// The fault of a file, each kind once.
@@ -303,12 +341,12 @@ fn fault_at(alloc: Global, place: usize) -> Result<ReadFault, AllocError> {
 /// The verdict at a place of `LINES`.
 fn verdict_at(place: usize) -> Verdict {
     match place {
-        25 => Verdict::SlotBelow(5),
-        26 => Verdict::DoubleBlock(BlockEntry {
+        29 => Verdict::SlotBelow(5),
+        30 => Verdict::DoubleBlock(BlockEntry {
             slot: 5,
             root: Some(Root([0xaa; 32])),
         }),
-        27 => Verdict::TargetBelow(4),
+        31 => Verdict::TargetBelow(4),
         _ => Verdict::Surrounds(VoteEntry {
             target: 4,
             source: 3,
@@ -317,7 +355,7 @@ fn verdict_at(place: usize) -> Verdict {
     }
 }
 
-const LINES: [&str; 29] = [
+const LINES: [&str; 33] = [
     r#"{"answer":"merged","keys":"1"}"#,
     r#"{"answer":"active"}"#,
     r#"{"answer":"signed","signature":"0xbbbbbbbbbbbbbbbbbbbbbbbbbbbbbbbbbbbbbbbbbbbbbbbbbbbbbbbbbbbbbbbbbbbbbbbbbbbbbbbbbbbbbbbbbbbbbbbbbbbbbbbbbbbbbbbbbbbbbbbbbbbbbbbbbbbbbbbbbbbbbbbbbbbbbbbbbbbbbbbbbbbbbbbbbbbbbbbbbbbbbbbbbbbbbbbb","signing_root":"%"}"#,
@@ -325,6 +363,7 @@ const LINES: [&str; 29] = [
     r#"{"answer":"unsigned","cause":"fault"}"#,
     r#"{"answer":"exported","file":"{\"data\":[{\"pubkey\":\"~\",\"signed_attestations\":[],\"signed_blocks\":[]}],\"metadata\":{\"genesis_validators_root\":\"%\",\"interchange_format_version\":\"5\"}}"}"#,
     r#"{"answer":"pruned"}"#,
+    r#"{"answer":"noted"}"#,
     r#"{"answer":"refused","member":"header","reason":"bad_request"}"#,
     r#"{"answer":"refused","member":"proposer_index","reason":"bad_request"}"#,
     r#"{"answer":"refused","len":"268435457","reason":"too_long"}"#,
@@ -334,6 +373,8 @@ const LINES: [&str; 29] = [
     r#"{"answer":"refused","reason":"version","text":"4\""}"#,
     r#"{"answer":"refused","member":"slot","reason":"bad_number"}"#,
     r#"{"answer":"refused","member":"pubkey","reason":"bad_hex"}"#,
+    r#"{"answer":"unsigned","cause":"denied","status":"412"}"#,
+    r#"{"answer":"unsigned","body":"eeeeeeeeeeeeeeeeeeeeeeeeeeeeeeeeeeeeeeeeeeeeeeeeeeeeeeeeeeeeeeeeeeeeeeeeeeeeeeeeeeeeeeeeeeeeeeeeeeeeeeeeeeeeeeeeeeeeeeeeeeeeeeeeeeeeeeeeeeeeeeeeeeeeeeeeeeeeeeeeeeeeeeeeeeeeeeeeeeeeeeeeeeeeeeeeeeeeeeeeeeeeeeeeeeeeeeeeeeeeeeeeeeeeeeeeeeeeeeeeeeeeeeeeeeeeeeeeeeeeeeeeeeeeeeeeeeeeeeeeeeeeeeeeeeeeeeeeeeeeeeeeeeeeeeeeeeeeeeeeeeeeeeeeeeeeeeeeeeeeeeeeeeeeeeeeeeeeeeeeeeeeeeeeeeeeeeeeeeeeeeeeeeeeeeeeeeeeeeeeeeeeeeeeeeeeeeeeeeeeeeeeeeeeeeeeeeeeeeeeeeeeeeeeeeeeeeeeeeeeeeeeeeeeeeeeeeeeeeeeeeeeeeeeeeeeeeeeeeeeeeeeeeeeeeee","cause":"bad_answer"}"#,
     r#"{"answer":"refused","given":"0x1111111111111111111111111111111111111111111111111111111111111111","kept":"0x0000000000000000000000000000000000000000000000000000000000000000","reason":"genesis_differs"}"#,
     r#"{"answer":"refused","have":"7","new":"18446744073709551615","reason":"too_many_keys"}"#,
     r#"{"answer":"refused","reason":"full","size":"1099511627775","wanted":"205"}"#,
@@ -341,8 +382,9 @@ const LINES: [&str; 29] = [
     r#"{"answer":"refused","reason":"unknown"}"#,
     r#"{"answer":"refused","reason":"not_active"}"#,
     r#"{"answer":"refused","reason":"closing"}"#,
-    r#"{"answer":"unsigned","cause":"denied","status":"412"}"#,
-    r#"{"answer":"unsigned","body":"eeeeeeeeeeeeeeeeeeeeeeeeeeeeeeeeeeeeeeeeeeeeeeeeeeeeeeeeeeeeeeeeeeeeeeeeeeeeeeeeeeeeeeeeeeeeeeeeeeeeeeeeeeeeeeeeeeeeeeeeeeeeeeeeeeeeeeeeeeeeeeeeeeeeeeeeeeeeeeeeeeeeeeeeeeeeeeeeeeeeeeeeeeeeeeeeeeeeeeeeeeeeeeeeeeeeeeeeeeeeeeeeeeeeeeeeeeeeeeeeeeeeeeeeeeeeeeeeeeeeeeeeeeeeeeeeeeeeeeeeeeeeeeeeeeeeeeeeeeeeeeeeeeeeeeeeeeeeeeeeeeeeeeeeeeeeeeeeeeeeeeeeeeeeeeeeeeeeeeeeeeeeeeeeeeeeeeeeeeeeeeeeeeeeeeeeeeeeeeeeeeeeeeeeeeeeeeeeeeeeeeeeeeeeeeeeeeeeeeeeeeeeeeeeeeeeeeeeeeeeeeeeeeeeeeeeeeeeeeeeeeeeeeeeeeeeeeeeeeeeeeeeeeeeeeee","cause":"bad_answer"}"#,
+    r#"{"answer":"refused","epoch":"7","reason":"live"}"#,
+    r#"{"answer":"refused","missing":["6","7"],"reason":"watching"}"#,
+    r#"{"answer":"refused","missing":["7"],"reason":"watching"}"#,
     r#"{"answer":"refused","floor":"5","reason":"slot_below"}"#,
     r#"{"answer":"refused","entry":{"signing_root":"%","slot":"5"},"reason":"double_block"}"#,
     r#"{"answer":"refused","floor":"4","reason":"target_below"}"#,

@@ -1,7 +1,7 @@
-//! Members that are texts: keys, numbers and roots.
+//! Members that are texts, as keys, numbers and roots, and members that are true or false.
 ghost use Rattle.std.specs.Prelude.{◌≡◌, option_map};
 ghost use Rattle.serde_json.specs.View.{view};
-ghost use Rattle.session_format.specs.Requests.{key_at, listed_key, number_at, root_at, text_at};
+ghost use Rattle.session_format.specs.Requests.{key_at, listed_key, number_at, root_at, text_at, truth_at};
 
 use crate::member::Member;
 use edge_kit::{PubKey, Root, read_hex, read_quoted};
@@ -42,6 +42,13 @@ pub(crate) fn number_of(value: &Value, name: &str, member: Member) -> Result<u64
     text_of(value, name)
         .and_then(|text| read_quoted(text))
         .ok_or(member)
+}
+
+/// Whether a member is true or false.
+pub(crate) fn truth_of(value: &Value, name: &str, member: Member) -> Result<bool, Member>
+    ensures { result ≡ truth_at name.now member (view value.now) }
+{
+    value.get(name).and_then(Value::as_bool).ok_or(member)
 }
 
 /// The signing root that a line names.

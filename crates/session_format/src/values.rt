@@ -63,6 +63,30 @@ pub(crate) fn full(alloc: Global, size: u64, wanted: u64) -> Result<Value, Alloc
     json!(in alloc; {"answer": "refused", "reason": "full", "size": size.as_str(), "wanted": wanted.as_str()})
 }
 
+/// The epoch in which a watched key was told live.
+pub(crate) fn live(alloc: Global, epoch: u64) -> Result<Value, AllocError>
+    ensures { IfOk result (λ v. view v ≡ answer_data (Answer.Live epoch)) }
+{
+    let epoch = epoch.to_string(alloc)?;
+    json!(in alloc; {"answer": "refused", "epoch": epoch.as_str(), "reason": "live"})
+}
+
+/// The epochs of a watch that are missing, the lesser first.
+pub(crate) fn watching(alloc: Global, first: u64, second: Option<u64>) -> Result<Value, AllocError>
+    ensures { IfOk result (λ v. view v ≡ answer_data (Answer.Watching first second)) }
+{
+    let first = first.to_string(alloc)?;
+    match second {
+        None => {
+            json!(in alloc; {"answer": "refused", "missing": [first.as_str()], "reason": "watching"})
+        }
+        Some(second) => {
+            let second = second.to_string(alloc)?;
+            json!(in alloc; {"answer": "refused", "missing": [first.as_str(), second.as_str()], "reason": "watching"})
+        }
+    }
+}
+
 /// Refused for a member.
 pub(crate) fn with_name(alloc: Global, name: &str, reason: &str) -> Result<Value, AllocError>
     ensures { IfOk result (λ v. view v ≡ with_member name.now reason.now) }

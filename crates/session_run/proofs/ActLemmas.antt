@@ -27,9 +27,9 @@ use Rattle.session_format.specs.declared.request.Op.{Op}
 use Rattle.session_format.specs.declared.request.Op.TheVariants as op
 use Rattle.session_format.specs.declared.request.Request.{Request}
 use Rattle.session_format.specs.declared.member.Member.{Member}
-use Rattle.session_run.specs.Turns.{IsAnswered, CanCall, state_by, noted_by, answer_of, moment_by, told_by, unfaulted_under, undenied_under, call_of, op_answer, outcome_of, reply_answer, sign_request, moment_at}
+use Rattle.session_run.specs.Turns.{IsAnswered, CanCall, state_by, noted_by, answer_of, moment_by, told_by, unfaulted_under, undenied_under, call_of, op_answer, outcome_of, reply_answer, sign_request, moment_at, without_object}
 use Rattle.check_sign.specs.Images.{Leaves, OpensEither}
-use Rattle.session_run.specs.Acts.{AtBench, Acts, ActsBy, DeskFares, Did, LeftUndone, Turned, Unanswered, CallsAny}
+use Rattle.session_run.specs.Acts.{AtBench, Acts, ActsBy, CallsFor, DeskFares, Did, LeftUndone, Turned, Unanswered, CallsAny}
 use Rattle.session_run.proofs.FareLemmas.{fares_none}
 use Rattle.check_sign.proofs.ImageLemmas.{still, weaker}
 
@@ -46,6 +46,22 @@ op_answered kept (op.Propose key m object) now c r s e = refl
 op_answered kept (op.Export None) now c r s e = refl
 op_answered kept (op.Export (Some keys)) now c r s e = refl
 op_answered kept (op.Prune key) now c r s e = refl
+op_answered kept (op.Live key epoch live) now c r s e = refl
+
+-- its call does not depend on the object that goes to the signer
+pub calls_without : (asked : Result DeskCall ReadFault) (kept : List PubKey) (o p : Op) (at : ℕ) → p ≡ without_object o → CallsFor asked kept p at → CallsFor asked kept o at
+calls_without asked kept o p at is calls =
+    let P : Op → Type 0 = λ x. CallsFor asked kept x at in
+    by_cases asked o (subst P is calls) where
+      by_cases : (result : Result DeskCall ReadFault) (whole : Op) → CallsFor result kept (without_object whole) at → CallsFor result kept whole at
+      by_cases (Ok c) (op.Propose key m object) same = same
+      by_cases (Err fault) (op.Propose key m object) same = absurd (cc)
+      by_cases result (op.Merge file) same = same
+      by_cases result (op.BadFile fault) same = same
+      by_cases result (op.Activate key) same = same
+      by_cases result (op.Export keys) same = same
+      by_cases result (op.Prune key) same = same
+      by_cases result (op.Live key epoch live) same = same
 
 -- ---- a line
 
@@ -133,6 +149,7 @@ module _ {D : Type 0} (moment : D → ℕ) (leaves : D → ℕ → List ℕ → 
   by_telling request kept (op.Export None) at before now r s out acts = called_telling request before now (call.Export kept) (call.Export []) r s out acts
   by_telling request kept (op.Export (Some keys)) at before now r s out acts = called_telling request before now (call.Export keys) (call.Export keys) r s out acts
   by_telling request kept (op.Prune key) at before now r s out acts = called_telling request before now (call.Prune key) (call.Prune key) r s out acts
+  by_telling request kept (op.Live key epoch live) at before now r s out acts = called_telling request before now (call.Answer key epoch live at) (call.Answer key epoch live 0) r s out acts
 
   -- ---- a line
 

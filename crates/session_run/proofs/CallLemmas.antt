@@ -52,6 +52,7 @@ answered_given g signing.OutOfMemory h = absurd (h refl)
 -- a grant that was given is open
 pub given_open : (grants new : List OpenGrant) (c : DeskCall) (r : DeskReply) → new ≡ grants_after grants c r → IsGrantFor c r → IsOpenIn new r
 given_open grants new (call.Propose key m now) (reply.Granted g) e h = let P : List OpenGrant → Type 0 = λ l. Contains l g in subst P (sym e) (Contains-push grants g)
+given_open grants new (call.Allow key now) (reply.Granted g) e h = let P : List OpenGrant → Type 0 = λ l. Contains l g in subst P (sym e) (Contains-push grants g)
 given_open grants new c (reply.Granted g) e h = absurd h
 given_open grants new c r e h = tt
 
@@ -97,6 +98,15 @@ replies_of (call.Prune key) (reply.Keys listed) h k = absurd k
 replies_of (call.Prune key) (reply.HasFailed failed) h k = absurd k
 replies_of (call.Prune key) (reply.NotClosing state) h k = absurd k
 replies_of (call.Prune key) (reply.Busy grants) h k = absurd k
+replies_of (call.Answer key epoch live now) reply.Settled h k = absurd k
+replies_of (call.Answer key epoch live now) reply.CloseBegun h k = absurd k
+replies_of (call.Answer key epoch live now) reply.AlreadyClosing h k = absurd k
+replies_of (call.Answer key epoch live now) (reply.Closed book) h k = absurd k
+replies_of (call.Answer key epoch live now) (reply.Keys listed) h k = absurd k
+replies_of (call.Answer key epoch live now) (reply.HasFailed failed) h k = absurd k
+replies_of (call.Answer key epoch live now) (reply.NotClosing state) h k = absurd k
+replies_of (call.Answer key epoch live now) (reply.Busy grants) h k = absurd k
+replies_of (call.Allow key now) r h k = absurd h
 replies_of (call.Settle grant o) r h k = absurd h
 replies_of (call.BeginClose key) r h k = absurd h
 replies_of (call.FinishClose key) r h k = absurd h

@@ -31,6 +31,8 @@ lasting_keeps : (state : State) (c : DeskCall) → KeepsIn state.keys (lasting_a
 lasting_keeps state (call.Merge file) = file_keeps state.keys file.books
 lasting_keeps state (call.Activate key now) = known_keeps state.keys key (is_some (past_of state key)) refl
 lasting_keeps state (call.Propose key m now) = grown_keeps state.keys key m (past_of state key) refl
+lasting_keeps state (call.Allow key now) = keeps_all state.keys
+lasting_keeps state (call.Answer key epoch live now) = keeps_all state.keys
 lasting_keeps state (call.Settle grant outcome) = keeps_all state.keys
 lasting_keeps state (call.BeginClose key) = keeps_all state.keys
 lasting_keeps state (call.FinishClose key) = keeps_all state.keys
@@ -43,6 +45,8 @@ torn_after : (state : State) (c : DeskCall) (r : DeskReply) → ((after state c 
 torn_after state (call.Merge file) (reply.Merged keys) = inl refl
 torn_after state (call.Activate key now) reply.Active = inl refl
 torn_after state (call.Propose key m now) (reply.Granted grant) = inl refl
+torn_after state (call.Allow key now) (reply.Granted grant) = inl refl
+torn_after state (call.Answer key epoch live now) reply.Noted = inl refl
 torn_after state (call.Settle grant outcome) reply.Settled = inl refl
 torn_after state (call.BeginClose key) reply.CloseBegun = inl refl
 torn_after state (call.FinishClose key) (reply.Closed book) = inl refl
@@ -72,7 +76,7 @@ none_some t x A e f = let bad : None ≡ Some x = sym e ∙ f in absurd cc
 
 pub granted : (state : State) (key : PubKey) (m : Message) (now : ℕ) (g : OpenGrant) → Reply state (call.Propose key m now) (reply.Granted g) → IsDurable (after state (call.Propose key m now) (reply.Granted g)) key m
 granted state key m now g can =
-    let past = some_of (λ p. Passes p m) (past_of state key) can.0.1.1 in
+    let past = some_of (λ p. Passes p m) (past_of state key) can.0.1.0.1 in
     let grew : own_grown state.keys key m ≡ with_kept state.keys key (with_own past.0 m) = ap (own_grown_from state.keys key m) past.1 in
     let found : kept_of (own_grown state.keys key m) key ≡ Some (with_own past.0 m) = ap (λ l. kept_of l key) grew ∙ found_changed state.keys key (with_own past.0 m) past.0 past.1 in
     let P : Option Past → Type 0 = λ o. IsSomeAnd o (λ p. Covers p m) in

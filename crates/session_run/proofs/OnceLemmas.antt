@@ -18,7 +18,7 @@ use Rattle.phase0_types.specs.declared.fault.ReadFault.{ReadFault as ShapeFault}
 use Rattle.sign_roots.specs.declared.domains.Domains.{Domains}
 use Rattle.desk_machine.specs.Machine.{moment_limit}
 use Rattle.session_format.specs.Steps.{◌>>=◌}
-use Rattle.session_format.specs.Requests.{data_of, request_of, of_data, members_of, op_in, by_op, text_at, key_at, merge_at, merge_in, merge_of, activate_at, block_at, block_by, plain_block, header_block, vote_at, vote_by, plain_vote, details_vote, export_at, asked_keys, prune_at, epoch_at, epoch_in, moment_in, number_at, root_at}
+use Rattle.session_format.specs.Requests.{data_of, request_of, of_data, members_of, op_in, by_op, text_at, key_at, merge_at, merge_in, merge_of, activate_at, block_at, block_by, plain_block, header_block, vote_at, vote_by, plain_vote, details_vote, export_at, asked_keys, prune_at, epoch_at, epoch_in, moment_in, number_at, root_at, live_at, truth_at}
 use Rattle.session_format.specs.declared.member.Member.{Member}
 use Rattle.session_format.specs.declared.member.Member.TheVariants as member
 use Rattle.session_format.specs.declared.request.Request.{Request}
@@ -73,6 +73,9 @@ votes_by : (domains : Domains) (key : PubKey) (d : Data) (details : Option Data)
 votes_by domains key d None = plain_votes key d
 votes_by domains key d (Some details) = details_votes domains key (read_at attestation_data None details)
 
+lives : (d : Data) → IfRead ListsOnce (live_at d)
+lives d = then ListsOnce (key_at d) _ (λ key. then ListsOnce (number_at (codes "of") member.Of d) _ (λ epoch. then ListsOnce (truth_at (codes "is_live") member.IsLive d) _ (λ live. tt)))
+
 ops : (domains : Domains) (name : Option (List ℕ)) (d : Data) → IfRead ListsOnce (by_op domains name d)
 ops domains None d = tt
 ops domains (Some name) d =
@@ -81,7 +84,8 @@ ops domains (Some name) d =
     (by_test ListsOnce (bytes_eq name (codes "block")) (block_at domains d) _ (then ListsOnce (key_at d) _ (λ key. blocks_by domains key d (get (codes "header") d)))
     (by_test ListsOnce (bytes_eq name (codes "vote")) (vote_at domains d) _ (then ListsOnce (key_at d) _ (λ key. votes_by domains key d (get (codes "attestation") d)))
     (by_test ListsOnce (bytes_eq name (codes "export")) (export_at d) _ (then ListsOnce (asked_keys (get (codes "pubkeys") d)) _ (λ keys. tt))
-    (by_test ListsOnce (bytes_eq name (codes "prune")) (prune_at d) _ (then ListsOnce (key_at d) _ (λ key. tt)) tt)))))
+    (by_test ListsOnce (bytes_eq name (codes "prune")) (prune_at d) _ (then ListsOnce (key_at d) _ (λ key. tt))
+    (by_test ListsOnce (bytes_eq name (codes "live")) (live_at d) _ (lives d) tt))))))
 
 -- ---- the moment
 

@@ -24,7 +24,8 @@ use Rattle.record_replay.specs.Pruning.{pruning_of}
 use Rattle.record_replay.specs.declared.state.KeyState.{KeyState}
 use Rattle.record_replay.specs.declared.state.KeyState.TheVariants.{Known, Active, Closing, Closed}
 use Rattle.desk_machine.specs.States.{State, past_of, key_state, is_active, IsActive, active_past}
-use Rattle.desk_machine.specs.Machine.{after, Reply, grant_for, pruned_keys, ActiveAnd}
+use Rattle.desk_machine.specs.Machine.{after, Reply, grant_for, plain_grant_for, pruned_keys, ActiveAnd}
+use Rattle.doppel_watch.specs.declared.watch.WatchState.TheVariants as watch
 use Rattle.desk_machine.specs.declared.open_grant.OpenGrant.{OpenGrant}
 use Rattle.desk_machine.specs.declared.call.DeskCall.{DeskCall}
 use Rattle.desk_machine.specs.declared.call.DeskCall.TheVariants as call
@@ -172,6 +173,8 @@ keeps_call state (call.Merge file) (reply.Merged keys) = file_keeps state.keys f
 keeps_call state (call.Activate key now) reply.Active = known_keeps state.keys key (is_some (past_of state key)) refl
 keeps_call state (call.Propose key m now) (reply.Granted grant) = grown_keeps state.keys key m (past_of state key) refl
 keeps_call state (call.Prune key) (reply.Pruned book) = pruned_keeps state.keys key (past_of state key)
+keeps_call state (call.Allow key now) (reply.Granted grant) = keeps_all state.keys
+keeps_call state (call.Answer key epoch live now) reply.Noted = keeps_all state.keys
 keeps_call state (call.Settle grant o) reply.Settled = keeps_all state.keys
 keeps_call state (call.BeginClose key) reply.CloseBegun = keeps_all state.keys
 keeps_call state (call.FinishClose key) (reply.Closed book) = keeps_all state.keys
@@ -185,6 +188,8 @@ abbrev IsSessionCall : DeskCall → Type 0
 IsSessionCall (call.Merge file) = Unit {0}
 IsSessionCall (call.Activate key now) = Unit {0}
 IsSessionCall (call.Propose key m now) = Unit {0}
+IsSessionCall (call.Allow key now) = Unit {0}
+IsSessionCall (call.Answer key epoch live now) = Unit {0}
 IsSessionCall (call.Settle grant o) = Unit {0}
 IsSessionCall (call.BeginClose key) = ⊥
 IsSessionCall (call.FinishClose key) = ⊥
@@ -201,6 +206,7 @@ session_call kept (op.Propose key m object) now = tt
 session_call kept (op.Export None) now = tt
 session_call kept (op.Export (Some keys)) now = tt
 session_call kept (op.Prune key) now = tt
+session_call kept (op.Live key epoch live) now = tt
 
 abbrev Standings : Type 0
 Standings = List (PubKey × KeyState)
@@ -221,6 +227,8 @@ stays_active : (state : State) (c : DeskCall) (r : DeskReply) → IsSessionCall 
 stays_active state (call.Activate key now) reply.Active session = activated state.states key
 stays_active state (call.Merge file) (reply.Merged keys) session = λ q h. h
 stays_active state (call.Propose key m now) (reply.Granted grant) session = λ q h. h
+stays_active state (call.Allow key now) (reply.Granted grant) session = λ q h. h
+stays_active state (call.Answer key epoch live now) reply.Noted session = λ q h. h
 stays_active state (call.Settle grant o) reply.Settled session = λ q h. h
 stays_active state (call.Prune key) (reply.Pruned book) session = λ q h. h
 stays_active state (call.BeginClose key) r session = absurd session
@@ -353,7 +361,12 @@ sent_step place moment key m now grant s ts before later granted is_grant safe c
 by_call : (place : Place) (moment : ℕ) (c : DeskCall) (r : DeskReply) (s : SignReply) (ts : List Turn) (before : Before) (later : PubKey × Message → Type 0) → Reply place.desk c r
     → SafeList before → All (λ x. NowOrLater (active_past place.desk x.0) x.1 (later x)) before → All (CoveredOnceActive (After place c r s moment) ts) before
     → Outcomes (After place c r s moment) ts (before ++ sent_of r s)
-by_call place moment (call.Propose key m now) (reply.Granted grant) (signing.Signed signature) ts before later can safe covered on = sent_step place moment key m now grant (signing.Signed signature) ts before later can.0.1 can.1 safe covered on
+by_call place moment (call.Propose key m now) (reply.Granted grant) (signing.Signed signature) ts before later can safe covered on = sent_step place moment key m now grant (signing.Signed signature) ts before later can.0.1.0 can.1 safe covered on
+by_call place moment (call.Allow key now) (reply.Granted grant) (signing.Signed signature) ts before later can safe covered on =
+    let new = After place (call.Allow key now) (reply.Granted grant) (signing.Signed signature) moment in
+    let P : OpenGrant → Type 0 = λ g. Outcomes new ts (before ++ sent_for g.key g.message) in
+    subst P (sym can.1) (nothing_more new ts before safe on)
+by_call place moment (call.Answer key epoch live now) (reply.Granted grant) (signing.Signed signature) ts before later can safe covered on = absurd can
 by_call place moment (call.Merge file) (reply.Granted grant) (signing.Signed signature) ts before later can safe covered on = absurd can
 by_call place moment (call.Activate key now) (reply.Granted grant) (signing.Signed signature) ts before later can safe covered on = absurd can
 by_call place moment (call.Settle grant o) (reply.Granted other) (signing.Signed signature) ts before later can safe covered on = absurd can
@@ -374,6 +387,7 @@ sent_same kept (op.Propose key m object) now r s = refl
 sent_same kept (op.Export None) now r s = refl
 sent_same kept (op.Export (Some keys)) now r s = refl
 sent_same kept (op.Prune key) now r s = refl
+sent_same kept (op.Live key epoch live) now r s = refl
 
 by_option : (place : Place) (moment : ℕ) (c : Option DeskCall) (r : DeskReply) (s : SignReply) (ts : List Turn) (before : Before) (later : PubKey × Message → Type 0) → CanCall place.desk c r s
     → SafeList before → All (λ x. NowOrLater (active_past place.desk x.0) x.1 (later x)) before → All (CoveredOnceActive (record { desk = state_by place.desk c r (outcome_of s); moment = moment }) ts) before
@@ -441,25 +455,27 @@ carried_out g (signing.BadAnswer body) h = tt
 carried_out g signing.OutOfMemory h = h
 
 proposes : (state : State) (key : PubKey) (m : Message) (now : ℕ) (r : DeskReply) (s : SignReply) → Reply state (call.Propose key m now) r → IsAnswered r s → Proposes state key m r s
-proposes state key m now (reply.Granted g) s can answered past is passes = carried_out g s answered
-proposes state key m now (reply.Full size wanted) s can answered past is passes = tt
-proposes state key m now reply.Disk s can answered past is passes = tt
-proposes state key m now (reply.Refused v) s can answered past is passes =
+proposes state key m now (reply.Granted g) s can answered past is passes allowed = carried_out g s answered
+proposes state key m now (reply.Full size wanted) s can answered past is passes allowed = tt
+proposes state key m now reply.Disk s can answered past is passes allowed = tt
+proposes state key m now (reply.Refused v) s can answered past is passes allowed =
     let found = some_of (λ p. IsRefusal p m v) (past_of state key) can.1.1 in
     let here = active_some (is_active (key_state state.states key)) (past_of state key) past is in
     let P : Past → Type 0 = λ p. Passes p m in
     absurd (found.2.forbids (subst P (some_inj past found.0 (sym here.1 ∙ found.1)) passes))
-proposes state key m now reply.Unknown s can answered past is passes =
+proposes state key m now reply.Unknown s can answered past is passes allowed =
     let here = active_some (is_active (key_state state.states key)) (past_of state key) past is in
     absurd (none_some past (sym can.1 ∙ here.1))
-proposes state key m now reply.NotActive s can answered past is passes =
+proposes state key m now reply.NotActive s can answered past is passes allowed =
     let here = active_some (is_active (key_state state.states key)) (past_of state key) past is in
     absurd (can.2.0 (active_if (kept_of state.states key) here.0))
-proposes state key m now reply.Closing s can answered past is passes =
+proposes state key m now reply.Closing s can answered past is passes allowed =
     let here = active_some (is_active (key_state state.states key)) (past_of state key) past is in
     absurd (let bad : Some Closing ≡ Some Active = sym can.2 ∙ active_if (kept_of state.states key) here.0 in cc)
-proposes state key m now reply.OutOfMemory s can answered past is passes = absurd answered
-proposes state key m now r s can answered past is passes = absurd can
+proposes state key m now (reply.Live epoch) s can answered past is passes allowed = absurd (let bad : watch.Live epoch ≡ watch.Allowed = sym can.2 ∙ allowed in cc)
+proposes state key m now (reply.Watching first second) s can answered past is passes allowed = absurd (let bad : watch.Missing first second ≡ watch.Allowed = sym can.2 ∙ allowed in cc)
+proposes state key m now reply.OutOfMemory s can answered past is passes allowed = absurd answered
+proposes state key m now r s can answered past is passes allowed = absurd can
 
 complete_op : (state : State) (kept : List PubKey) (o : Op) (now : ℕ) (r : DeskReply) (s : SignReply) → CanCall state (call_of kept o now) r s → CompleteOp state o r s
 complete_op state kept (op.Merge file) now r s can = tt
@@ -468,6 +484,7 @@ complete_op state kept (op.Activate key) now r s can = tt
 complete_op state kept (op.Propose key m object) now r s can = proposes state key m now r s can.0 can.1
 complete_op state kept (op.Export keys) now r s can = tt
 complete_op state kept (op.Prune key) now r s can = tt
+complete_op state kept (op.Live key epoch live) now r s can = tt
 
 complete_turn : (place : Place) (q : Result Request Member) (r : DeskReply) (s : SignReply) → CanReply place q r s → IsComplete place q r s
 complete_turn place (Err m) r s can = tt

@@ -1,4 +1,4 @@
--- What every run keeps: nothing slashable is sent, and a proposal that passes is granted, where the journal has room and its disk works.
+-- What every run keeps: nothing slashable is sent, and a proposal that passes is granted, where the key's watch allows it, the journal has room and its disk works.
 use Rattle.std.specs.Prelude.{◌≡◌, ◌++◌, ◌⊎◌, List, [], ◌∷◌, All, Option, Some, None, IfSome, IsSome, Result, Ok, Err}
 use Rattle.edge_kit.specs.declared.bytes.PubKey.{PubKey}
 use Rattle.slash_defs.specs.declared.message.Message.{Message}
@@ -7,7 +7,7 @@ use Rattle.protect_record.specs.Pasts.{Past}
 use Rattle.protect_record.specs.Passing.{Passes, Covers}
 use Rattle.signer_link.specs.declared.reply.SignReply.{SignReply}
 use Rattle.signer_link.specs.declared.reply.SignReply.TheVariants as signing
-use Rattle.desk_machine.specs.States.{State, active_past}
+use Rattle.desk_machine.specs.States.{State, IsAllowed, active_past}
 use Rattle.desk_machine.specs.declared.call.DeskReply.{DeskReply}
 use Rattle.desk_machine.specs.declared.call.DeskReply.TheVariants as reply
 use Rattle.session_run.specs.Durable.{CoversKey}
@@ -46,7 +46,7 @@ abbrev pub StaysSafe : Place → List Turn → Type 0
 StaysSafe place turns = (before : List (PubKey × Message)) → SafeList before → All (CoveredOnceActive place turns) before
     → SafeList (before ++ sent turns) × All (CoveredInTheEnd place turns) (before ++ sent turns)
 
--- a proposal of an active key that its past lets pass is granted, but where the journal is at a limit or the disk failed; and
+-- a proposal of an active key that its past lets pass and its watch allows is granted, but where the journal is at a limit or the disk failed; and
 -- what is granted has its signature, but where the signer lacks the key, refused, failed or answered with something else
 abbrev pub IsCarriedOut : DeskReply → SignReply → Type 0
 IsCarriedOut (reply.Granted grant) (signing.Signed signature) = Unit {0}
@@ -59,7 +59,7 @@ IsCarriedOut reply.Disk s = Unit {0}
 IsCarriedOut r s = ⊥
 
 abbrev pub Proposes : State → PubKey → Message → DeskReply → SignReply → Type 0
-Proposes state key m r s = (past : Past) → active_past state key ≡ Some past → Passes past m → IsCarriedOut r s
+Proposes state key m r s = (past : Past) → active_past state key ≡ Some past → Passes past m → IsAllowed state key → IsCarriedOut r s
 
 abbrev pub CompleteOp : State → Op → DeskReply → SignReply → Type 0
 CompleteOp state (op.Propose key m object) r s = Proposes state key m r s

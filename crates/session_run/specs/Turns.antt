@@ -61,6 +61,7 @@ call_of kept (op.Propose key m object) now = Some (call.Propose key m now)
 call_of kept (op.Export None) now = Some (call.Export kept)
 call_of kept (op.Export (Some keys)) now = Some (call.Export keys)
 call_of kept (op.Prune key) now = Some (call.Prune key)
+call_of kept (op.Live key epoch live) now = Some (call.Answer key epoch live now)
 
 -- a session makes these calls of the desk
 abbrev pub IsOfSession : DeskCall → Type 0
@@ -69,6 +70,7 @@ IsOfSession (call.Activate key now) = Unit {0}
 IsOfSession (call.Propose key m now) = Unit {0}
 IsOfSession (call.Export keys) = Unit {0}
 IsOfSession (call.Prune key) = Unit {0}
+IsOfSession (call.Answer key epoch live now) = Unit {0}
 IsOfSession c = ⊥
 
 -- and none of these replies comes to it
@@ -90,6 +92,11 @@ call_at place q = call_of (keys_of place.desk.keys) q.op (moment_at place.moment
 abbrev pub object_of : Op → Option SignObject
 object_of (op.Propose key m object) = object
 object_of o = None
+
+-- and what the line asks without it
+abbrev pub without_object : Op → Op
+without_object (op.Propose key m object) = op.Propose key m None
+without_object o = o
 
 -- what goes to the signer beside the key and the message
 abbrev pub sign_request : Domains → Op → SignRequest
@@ -151,6 +158,9 @@ reply_answer (reply.Pruned book) s = answer.Pruned
 reply_answer (reply.GenesisDiffers kept given) s = answer.GenesisDiffers kept given
 reply_answer reply.Unknown s = answer.Unknown
 reply_answer reply.NotActive s = answer.NotActive
+reply_answer reply.Noted s = answer.Noted
+reply_answer (reply.Live epoch) s = answer.Live epoch
+reply_answer (reply.Watching first second) s = answer.Watching first second
 reply_answer (reply.Refused v) s = answer.Refused v
 reply_answer (reply.TooManyKeys have new) s = answer.TooManyKeys have new
 reply_answer reply.OutOfMemory s = answer.Active

@@ -8,7 +8,7 @@ ghost use Rattle.desk_machine.specs.declared.call.Outcome.TheVariants.{Dropped};
 ghost use Rattle.slash_defs.specs.Signing.{signing_root_of};
 ghost use Rattle.signer_link.specs.declared.reply.SignReply.{SignReply};
 ghost use Rattle.session_format.specs.Answers.{answer_text};
-ghost use Rattle.session_run.specs.Turns.{IsAnswered, IsOfSession, IsToSession, answer_of, moment_by, object_of, outcome_of, reply_answer, signed_answer};
+ghost use Rattle.session_run.specs.Turns.{IsAnswered, IsOfSession, IsToSession, answer_of, moment_by, object_of, outcome_of, reply_answer, signed_answer, without_object};
 ghost use Rattle.check_sign.specs.Calls.{IsCallOf};
 ghost use Rattle.session_run.specs.Acts.{Acts, CallsFor, Did, IsGiven, LeftUndone, ListsOnce, Signs, Turned, Unanswered};
 
@@ -102,7 +102,7 @@ impl<D: Disk, S: Signer> Bench<D, S> {
         &mut self,
         alloc: Global,
         domains: &Domains,
-        op: Op,
+        mut op: Op,
         now: u64,
     ) -> Result<String, AllocError>
         requires moment { now ≤ moment_limit }
@@ -113,7 +113,7 @@ impl<D: Disk, S: Signer> Bench<D, S> {
         let request = SignRequest {
             fork: domains.fork,
             genesis: domains.genesis,
-            object: object_in(&op),
+            object: take_object(&mut op),
         };
         match call_for(&self.desk, op, now)? {
             Ok(call) => self.call_desk(alloc, &request, call),
@@ -139,21 +139,22 @@ impl<D: Disk, S: Signer> Bench<D, S> {
             DeskReply::Merged { keys } => Answer::Merged { keys }.line(alloc),
             DeskReply::Active => Answer::Active.line(alloc),
             DeskReply::Already => Answer::Active.line(alloc),
-            DeskReply::Settled => unreachable!(),
-            DeskReply::CloseBegun => unreachable!(),
-            DeskReply::AlreadyClosing => unreachable!(),
+            DeskReply::Settled | DeskReply::CloseBegun | DeskReply::AlreadyClosing =>
+                unreachable!(),
             DeskReply::Closed(_book) => unreachable!(),
             DeskReply::Keys(_listed) => unreachable!(),
-            DeskReply::HasFailed(_) => unreachable!(),
-            DeskReply::NotClosing(_) => unreachable!(),
+            DeskReply::HasFailed(_) | DeskReply::NotClosing(_) => unreachable!(),
             DeskReply::Busy { grants: _ } => unreachable!(),
             DeskReply::Exported(file) => Answer::Exported(file).line(alloc),
             DeskReply::Pruned(_book) => Answer::Pruned.line(alloc),
             DeskReply::GenesisDiffers { kept, given } => {
                 Answer::GenesisDiffers { kept, given }.line(alloc)
             }
+            DeskReply::Noted => Answer::Noted.line(alloc),
             DeskReply::Unknown => Answer::Unknown.line(alloc),
             DeskReply::NotActive => Answer::NotActive.line(alloc),
+            DeskReply::Live { epoch } => Answer::Live { epoch }.line(alloc),
+            DeskReply::Watching { first, second } => Answer::Watching { first, second }.line(alloc),
             DeskReply::Refused(verdict) => Answer::Refused(verdict).line(alloc),
             DeskReply::TooManyKeys { have, new } => Answer::TooManyKeys { have, new }.line(alloc),
             DeskReply::Closing => Answer::Closing.line(alloc),
@@ -210,12 +211,13 @@ fn bad_file_line(alloc: Global, fault: ReadFault) -> Result<String, AllocError>
     Answer::BadFile(fault).line(alloc)
 }
 
-/// What a message was made of, where the line gave it.
-fn object_in(op: &Op) -> Option<SignObject>
-    ensures { result ≡ object_of op.now }
+/// Takes out what a message was made of, where the line gave it.
+fn take_object(op: &mut Op) -> Option<SignObject>
+    ensures object { result ≡ object_of op.old }
+    ensures rest { op.new ≡ without_object op.old }
 {
     match op {
-        Op::Propose { object, .. } => *object,
+        Op::Propose { object, .. } => object.take(),
         _ => None,
     }
 }
@@ -246,6 +248,12 @@ fn call_for<D: Disk>(
             Ok(Ok(DeskCall::Export { keys }))
         }
         Op::Prune { key } => Ok(Ok(DeskCall::Prune { key })),
+        Op::Live { key, of, is_live } => Ok(Ok(DeskCall::Answer {
+            key,
+            epoch: of,
+            live: is_live,
+            now,
+        })),
     }
 }
 

@@ -5,7 +5,7 @@ use Rattle.command_line.specs.Plans.{Asked, session, merge, show, shown, nothing
 
 -- the signing service that is asked for, if one is
 abbrev pub signer_of : Asked → Option Service
-signer_of (session genesis journal fork signer) = signer
+signer_of (session genesis journal fork signer watch) = signer
 signer_of (merge genesis path) = None
 signer_of (show genesis path) = None
 signer_of shown = None

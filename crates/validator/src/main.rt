@@ -7,17 +7,19 @@ ghost use Rattle.command_line.specs.Plans.{asked_of, taken_as};
 ghost use Rattle.validator.specs.Files.{files_at, files_of};
 ghost use Rattle.validator.specs.Services.{signer_of};
 
-use edge_kit::{Clock, Disk, Disks, Door, FileDisk, MemDisk, Reading, TcpLink, Writing};
+use edge_clock::SystemClock;
+use edge_kit::{Disk, Disks, Door, FileDisk, MemDisk, Reading, TcpLink, Writing};
 use service_url::ServiceUrl;
-use signer_link::{MemSigner, Signer, Web3Signer};
+use signer_link::{MemSigner, Signer};
 use std::alloc::{AllocError, Global};
 use std::net::Net;
 use std::process::ExitCode;
-use std::rt::Env;
+use std::rt::{Clock, Env};
 use std::sync::Wait;
 use std::thread::Threads;
 use std::{env, io};
 use validator_cli::{Node, Plan, Status, plan, run_validator};
+use web3_signer::Web3Signer;
 
 /// What no command uses yet.
 #[derive(Clone, Copy, Drop)]
@@ -30,8 +32,6 @@ impl Door for Unused {
 impl Node for Unused {
     ghost faults = { λ _. 0 };
 }
-
-impl Clock for Unused {}
 
 /// The words of the command line. Where one is no UTF-8 there are none, which is no command.
 fn words<R: Env + AllocGlobal>(rt: &R) -> Result<Vec<String>, AllocError> {
@@ -121,7 +121,7 @@ fn memory_disks(alloc: Global) -> Result<Disks<MemDisk>, AllocError>
 
 /// A run of the words over these disks, with the signing service at this address, or with a signer in
 /// memory where there is none.
-fn run_signing<R: Threads + Wait + Sync + Input + Print + Net, D: Disk + Drop>(
+fn run_signing<R: Threads + Wait + Sync + Input + Print + Net + Clock, D: Disk + Drop>(
     rt: &R,
     alloc: Global,
     words: &[String],
@@ -140,7 +140,7 @@ fn run_signing<R: Threads + Wait + Sync + Input + Print + Net, D: Disk + Drop>(
 }
 
 /// A run of the words over these disks, with this signer.
-fn run<R: Threads + Wait + Sync + Input + Print, D: Disk + Drop, S: Signer + Drop>(
+fn run<R: Threads + Wait + Sync + Input + Print + Clock, D: Disk + Drop, S: Signer + Drop>(
     rt: &R,
     alloc: Global,
     words: &[String],
@@ -157,7 +157,7 @@ fn run<R: Threads + Wait + Sync + Input + Print, D: Disk + Drop, S: Signer + Dro
         disks,
         signer,
         nodes,
-        Unused,
+        SystemClock::new(rt),
         Unused,
         &mut input,
         &mut output,

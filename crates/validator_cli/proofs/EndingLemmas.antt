@@ -1,5 +1,5 @@
 -- What the parts of a run make of its ending.
-use Rattle.std.proofs.Common.{◌≡◌, ◌⊎◌, ℕ, List, [], Option, Some, refl, sym, subst, inl, inr}
+use Rattle.std.proofs.Common.{◌≡◌, ◌⊎◌, ℕ, List, [], Option, refl, sym, subst, inl, inr}
 use Rattle.edge_kit.specs.Causes.{Rose}
 use Rattle.edge_kit.specs.declared.disk.Disks.{Disks}
 use Rattle.desk_machine.specs.declared.event.DeskEvent.{DeskEvent}
@@ -8,7 +8,7 @@ use Rattle.program_end.specs.declared.status.Status.{Status}
 use Rattle.program_end.specs.declared.status.Status.TheVariants as status
 use Rattle.program_end.proofs.ClosingLemmas.{closed_by, ended_by}
 use Rattle.command_line.specs.Plans.{Asked, session, merge, show, shown, nothing}
-use Rattle.journal_commands.specs.Views.{Output, ClosedBy, EndsBy, Unwritten}
+use Rattle.journal_commands.specs.Views.{Output, EndsBy, Unwritten}
 use Rattle.validator_cli.specs.Endings.{Outside, Causes, DoesNothing, EndsAs, IsComplete, IsWithin, NoCommand, RunEnds}
 
 module _ {D : Type 0} (shows : D → List ℕ → Type 0) (moment : D → ℕ) (leaves : D → ℕ → List ℕ → Type 0) (faults : D → ℕ) (first last : Disks D) (before now : Outside) (events : List DeskEvent) (s : Status) where
@@ -57,7 +57,7 @@ refused_causes before now left Reads Disk s asked is ends = caused_for nothing a
 
 -- want of memory is complete
 want_complete : (asked : Asked) (left : Option (List ℕ)) → IsWithin asked left → IsComplete asked status.OutOfMemory
-want_complete (session genesis journal fork signer) left within = tt
+want_complete (session genesis journal fork signer watch) left within = tt
 want_complete (merge genesis journal) left within = tt
 want_complete (show genesis journal) left within = tt
 want_complete shown left within = inr refl

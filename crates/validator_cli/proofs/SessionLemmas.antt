@@ -1,6 +1,5 @@
 -- A session over the desk of a journal.
-use Rattle.std.proofs.Common.{◌≡◌, ℕ, ◌≤◌, List, Option, refl, sym, subst, inr, arith}
-use Rattle.std.specs.Prelude.{false}
+use Rattle.std.proofs.Common.{◌≡◌, ℕ, ◌≤◌, Bool, List, Option, refl, sym, subst, inr, arith}
 use Rattle.edge_kit.specs.Causes.{Rose}
 use Rattle.edge_kit.specs.declared.disk.Disks.{Disks}
 use Rattle.sign_roots.specs.declared.domains.Domains.{Domains}
@@ -12,7 +11,7 @@ use Rattle.check_sign.specs.Opening.{Opening}
 use Rattle.program_end.specs.declared.status.Status.{Status}
 use Rattle.program_end.specs.declared.status.Status.TheVariants as status
 use Rattle.session_run.specs.Acts.{AtBench, DeskFares}
-use Rattle.session_run.specs.Ends.{Ends, Wires}
+use Rattle.session_run.specs.Ends.{Ends}
 use Rattle.session_run.specs.Inputs.{WithinLimits}
 use Rattle.session_run.proofs.EndLemmas.{ends_disk, ends_fares, ends_read, ends_within, ends_write}
 use Rattle.command_line.specs.declared.planned.Plan.{Plan}
@@ -22,10 +21,17 @@ use Rattle.validator_cli.specs.Endings.{Outside, IsSessionComplete, SessionEnds,
 
 -- the domains of a plan, if it has any
 abbrev pub domains_of : Domains → Plan → Domains
-domains_of none (plan.Session genesis journal fork signer) = record { fork = fork; genesis = genesis }
+domains_of none (plan.Session genesis journal fork signer watch) = record { fork = fork; genesis = genesis }
 domains_of none (plan.Merge genesis journal) = none
 domains_of none (plan.Show genesis journal) = none
 domains_of none (plan.Shown text) = none
+
+-- whether keys are watched by a plan, if it says
+abbrev pub watch_of : Bool → Plan → Bool
+watch_of none (plan.Session genesis journal fork signer watch) = watch
+watch_of none (plan.Merge genesis journal) = none
+watch_of none (plan.Show genesis journal) = none
+watch_of none (plan.Shown text) = none
 
 pub at_bench : {D : Type 0} (b : AtBench D) (desk : Seen D) (told : Option (List Told)) (failed denied : ℕ) → b.desk ≡ desk → b.told ≡ told → b.signs_failed ≡ failed → b.signs_denied ≡ denied → b ≡ record { desk = desk; told = told; signs_failed = failed; signs_denied = denied }
 at_bench b desk told failed denied d t f n = λ i. record { desk = d i; told = t i; signs_failed = f i; signs_denied = n i }
@@ -46,9 +52,9 @@ module _ {D : Type 0} (shows : D → List ℕ → Type 0) (moment : D → ℕ) (
       let N : AtBench D → Type 0 = λ x. Ends moment leaves faults domains (bench_at opened before) x (wires_of before.view) (wires_of now.view) result in
       subst N n (subst B b (subst E d ends))
 
-  module _ (first last : Disks D) (events : List DeskEvent) (opening : Opening shows moment leaves faults first.first first.second domains.genesis false 0 opened) (handed : Handed ended last events) (ends : Served result) where
-    pub session_ended : LeavesDesk moment leaves ended.disk ended.contents → SessionEnds shows moment leaves faults domains first last before now events result
-    session_ended left = inr (had_desk moment leaves faults shows domains.genesis first last events
+  module _ (watch : Bool) (first last : Disks D) (events : List DeskEvent) (opening : Opening shows moment leaves faults first.first first.second domains.genesis watch 0 opened) (handed : Handed ended last events) (ends : Served result) where
+    pub session_ended : LeavesDesk moment leaves ended.disk ended.contents → SessionEnds shows moment leaves faults domains watch first last before now events result
+    session_ended left = inr (had_desk moment leaves faults shows domains.genesis watch first last events
         (λ o e. Ends moment leaves faults domains (bench_at o before) (bench_at e now) (wires_of before.view) (wires_of now.view) result) opened ended opening ends
         (fares_as faults opened ended (ends_fares moment leaves faults domains (bench_at opened before) (bench_at ended now) (wires_of before.view) (wires_of now.view) result ends)) left handed)
 

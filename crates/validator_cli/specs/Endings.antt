@@ -1,7 +1,6 @@
 -- What a run of the program does, by what its words ask for.
-use Rattle.std.specs.Prelude.{◌≡◌, ◌⊎◌, ℕ, List, [], Option, Some, string_bytes}
+use Rattle.std.specs.Prelude.{◌≡◌, ◌⊎◌, ℕ, Bool, List, [], Option, Some, string_bytes}
 use Rattle.std.specs.Str.Iter.{LacksByte}
-use Rattle.edge_kit.specs.declared.bytes.Root.{Root}
 use Rattle.edge_kit.specs.declared.disk.Disks.{Disks}
 use Rattle.interchange_io.specs.Reading.{file_limit}
 use Rattle.sign_roots.specs.declared.domains.Domains.{Domains}
@@ -53,11 +52,11 @@ wires_of view = record { left = view.left; held = view.out.held; reads_failed = 
 abbrev pub bench_at : {D : Type 0} → Seen D → Outside → AtBench D
 bench_at desk o = record { desk = desk; told = o.told; signs_failed = o.signs_failed; signs_denied = o.signs_denied }
 
--- a session over the desk of a disk; where none was opened nothing was read or asked
-abbrev pub SessionEnds : {D : Type 0} → (D → List ℕ → Type 0) → (D → ℕ) → (D → ℕ → List ℕ → Type 0) → (D → ℕ) → Domains → Disks D → Disks D → Outside → Outside → List DeskEvent → Status → Type 0
-SessionEnds shows moment leaves faults domains disks_before disks_now before now events ended =
+-- a session over the desk of a disk, its keys watched or not; where none was opened nothing was read or asked
+abbrev pub SessionEnds : {D : Type 0} → (D → List ℕ → Type 0) → (D → ℕ) → (D → ℕ → List ℕ → Type 0) → (D → ℕ) → Domains → Bool → Disks D → Disks D → Outside → Outside → List DeskEvent → Status → Type 0
+SessionEnds shows moment leaves faults domains watch disks_before disks_now before now events ended =
     (NotOpened shows moment leaves faults domains.genesis disks_before disks_now before.view.out now.view.out events ended × IsUntouched before now)
-    ⊎ HadDesk shows moment leaves faults domains.genesis disks_before disks_now events
+    ⊎ HadDesk shows moment leaves faults domains.genesis watch disks_before disks_now events
     (λ desk_before desk_now. Ends moment leaves faults domains (bench_at desk_before before) (bench_at desk_now now) (wires_of before.view) (wires_of now.view) ended)
 
 -- the disks come back as they were, nothing was read or asked, and nothing is noted
@@ -84,7 +83,7 @@ pub record NotBegun (before now : Outside) (ended : Status) : Type 0 where
 
 -- what was asked for was done, or ended as it may
 abbrev pub EndsAs : {D : Type 0} → (D → List ℕ → Type 0) → (D → ℕ) → (D → ℕ → List ℕ → Type 0) → (D → ℕ) → Asked → Disks D → Disks D → Outside → Outside → List DeskEvent → Status → Type 0
-EndsAs shows moment leaves faults (session genesis journal fork signer) disks_before disks_now before now events s = SessionEnds shows moment leaves faults (record { fork = fork; genesis = genesis }) disks_before disks_now before now events s
+EndsAs shows moment leaves faults (session genesis journal fork signer watch) disks_before disks_now before now events s = SessionEnds shows moment leaves faults (record { fork = fork; genesis = genesis }) watch disks_before disks_now before now events s
 EndsAs shows moment leaves faults (merge genesis journal) disks_before disks_now before now events s = MergeEnds shows moment leaves faults genesis disks_before disks_now before.view now.view events s × Unasked before now
 EndsAs shows moment leaves faults (show genesis journal) disks_before disks_now before now events s = ShowEnds shows moment leaves faults genesis disks_before disks_now before.view.out now.view.out events s × IsUntouched before now
 EndsAs shows moment leaves faults shown disks_before disks_now before now events s = TextShown before.view.out now.view.out s × DoesNothing disks_before disks_now before now events
@@ -99,7 +98,7 @@ RunEnds shows moment leaves faults asked disks_before disks_now before now event
 -- the input is within the limits of what was asked for: of a session its lines and its length, of a merge its length; a showing and
 -- a text read nothing
 abbrev pub IsWithin : Asked → Option (List ℕ) → Type 0
-IsWithin (session genesis journal fork signer) left = WithinLimits left
+IsWithin (session genesis journal fork signer watch) left = WithinLimits left
 IsWithin (merge genesis journal) left = WithinLimit file_limit left
 IsWithin (show genesis journal) left = Unit {0}
 IsWithin shown left = Unit {0}
@@ -116,7 +115,7 @@ IsSessionComplete s = ⊥
 
 -- the same for what was asked for
 abbrev pub IsComplete : Asked → Status → Type 0
-IsComplete (session genesis journal fork signer) s = IsSessionComplete s
+IsComplete (session genesis journal fork signer watch) s = IsSessionComplete s
 IsComplete (merge genesis journal) s = IsMergeComplete s
 IsComplete (show genesis journal) s = IsShowComplete s
 IsComplete shown s = (s ≡ status.Done) ⊎ (s ≡ status.OutOfMemory)
@@ -132,7 +131,7 @@ pub record Causes (asked : Asked) (left : Option (List ℕ)) (Reads Writes Disk 
 
 -- the plan is a session's
 abbrev pub IsSession : Plan → Type 0
-IsSession (plan.Session genesis journal fork signer) = Unit {0}
+IsSession (plan.Session genesis journal fork signer watch) = Unit {0}
 IsSession (plan.Merge genesis journal) = ⊥
 IsSession (plan.Show genesis journal) = ⊥
 IsSession (plan.Shown text) = ⊥

@@ -1,5 +1,5 @@
 //! A session: a request a line in, an answer a line out.
-ghost use Rattle.std.specs.Prelude.{◌≡◌, ◌≤◌, ℕ, List, Option};
+ghost use Rattle.std.specs.Prelude.{◌≡◌, ◌≤◌, ℕ, Bool, List, Option};
 ghost use Rattle.edge_kit.specs.Causes.{Rose};
 ghost use Rattle.edge_kit.specs.declared.bytes.Root.{Root};
 ghost use Rattle.phase0_types.specs.declared.fork.Fork.{Fork};
@@ -18,7 +18,9 @@ use signer_link::Signer;
 use std::alloc::Global;
 
 /// Does what a session's plan says: serves the lines of the input, a request each, over the desk of the journal
-/// on the first disk, which is begun where there is none. The second disk comes back untouched.
+/// on the first disk, which is begun where there is none, with or without a watch as the plan says: an active
+/// key is watched from epoch 0 on, and one that becomes active later from then on. The second disk comes back
+/// untouched.
 ///
 /// The status is that of the lines (`serve_lines`); or, with a line that closes the output, `DiskFault`,
 /// `Damaged`, `GenesisDiffers` and `InputTooLong(Limit::Keys)` where the journal is not opened, and nothing was
@@ -32,8 +34,8 @@ pub fn run_session<D: Disk, S: Signer, I: Source, O: Sink>(
     out: &mut O,
 ) -> (Status, Disks<D>, S, Events)
     requires { IsSession plan.now }
-    ensures ends { (genesis : Root) (journal : Option (List ℕ)) (fork : Fork) (signer_at : Option Service) → plan.now ≡ Plan.Session genesis journal fork signer_at
-        → SessionEnds D.shows D.moment D.leaves D.faults (record { fork = fork; genesis = genesis }) disks result.1
+    ensures ends { (genesis : Root) (journal : Option (List ℕ)) (fork : Fork) (signer_at : Option Service) (watch : Bool) → plan.now ≡ Plan.Session genesis journal fork signer_at watch
+        → SessionEnds D.shows D.moment D.leaves D.faults (record { fork = fork; genesis = genesis }) watch disks result.1
         (outside_of I.left I.faults O.held O.faults S.told S.faults S.denials input.old out.old signer) (outside_of I.left I.faults O.held O.faults S.told S.faults S.denials input.new out.new result.2) result.3 result.0 }
     ensures second { result.1.second ≡ disks.second }
     ensures read_fault { result.0 ≡ Status.ReadFault → Rose (I.faults input.old) (I.faults input.new) }
@@ -43,10 +45,16 @@ pub fn run_session<D: Disk, S: Signer, I: Source, O: Sink>(
         → ¬ (Rose (I.faults input.old) (I.faults input.new)) → ¬ (Rose (O.faults out.old) (O.faults out.new)) → ¬ (Rose (D.faults disks.first) (D.faults result.1.first))
         → IsSessionComplete result.0 }
 {
-    let Plan::Session { genesis, fork, .. } = plan else {
+    let Plan::Session {
+        genesis,
+        fork,
+        watch,
+        ..
+    } = plan
+    else {
         unreachable!()
     };
-    let desk = match Desk::open(alloc, disks, *genesis, false, 0) {
+    let desk = match Desk::open(alloc, disks, *genesis, *watch, 0) {
         Ok(desk) => desk,
         Err((fault, disks)) => {
             let status = close_unopened(alloc, out, fault);

@@ -15,12 +15,12 @@ keys-preserved g c =
     record {
       shown = subst A
           (sym (listed_more c.args.desk.now.contents.keys (take c.keys.one-index c.args.listed.now) _) ∙ ap (listed_text c.args.desk.now.contents.keys) (sym (take_more c.args.listed.now c.keys.one-index _ c.keys-test.true)))
-          (Appends-trans _ _ _ _ _ c.keys.invariant.shown c.in_ok-show_key.ensures.shown);
+          (Appends-trans _ _ _ _ _ c.keys.invariant.shown (rw c.state.ensures at c.in_ok-show_key.ensures.shown));
       later = omega (arith, c.keys.invariant.later, c.in_ok-show_key.ensures.later);
     }
 
 pub returns-in_err-show_key-clause-part : goal.returns-in_err-show_key-clause-part
 returns-in_err-show_key-clause-part g c =
     let A : List ℕ → Type 0 = λ t. Appends (g.O.Sink.held c.args.out.now) (g.O.Sink.held c.show_key.new.out) t in
-    let part = c.in_err-show_key.ensures.part in
+    let part = rw c.state.ensures at c.in_err-show_key.ensures.part in
     at_err c.from_residual.result (_, subst A (listed_part c.args.desk.now.contents.keys c.args.listed.now c.keys.one-index _ part.0 c.keys-test.true part.1) (Appends-trans _ _ _ _ _ c.keys.invariant.shown part.2))

@@ -45,6 +45,12 @@ returns-in-GenesisDiffers-clause-done g c = plain_done g.D.Disk.moment g.D.Disk.
 pub returns-in-GenesisDiffers-clause-undone : goal.returns-in-GenesisDiffers-clause-undone
 returns-in-GenesisDiffers-clause-undone g c = plain_undone g.D.Disk.moment g.D.Disk.leaves g.D.Disk.faults string_bytes _ _ _ _ _ _ tt c.in-GenesisDiffers.ensures.called c.ask.ensures.told c.ask.ensures.signs c.ask.ensures.denials
 
+pub returns-in-Noted-clause-done : goal.returns-in-Noted-clause-done
+returns-in-Noted-clause-done g c = plain_done g.D.Disk.moment g.D.Disk.leaves g.D.Disk.faults string_bytes _ _ _ _ _ _ tt tt c.in-Noted.ensures.called c.ask.ensures.told c.ask.ensures.signs c.ask.ensures.denials c.line-in-Noted.ensures
+
+pub returns-in-Noted-clause-undone : goal.returns-in-Noted-clause-undone
+returns-in-Noted-clause-undone g c = plain_undone g.D.Disk.moment g.D.Disk.leaves g.D.Disk.faults string_bytes _ _ _ _ _ _ tt c.in-Noted.ensures.called c.ask.ensures.told c.ask.ensures.signs c.ask.ensures.denials
+
 pub returns-in-Unknown-clause-done : goal.returns-in-Unknown-clause-done
 returns-in-Unknown-clause-done g c = plain_done g.D.Disk.moment g.D.Disk.leaves g.D.Disk.faults string_bytes _ _ _ _ _ _ tt tt c.in-Unknown.ensures.called c.ask.ensures.told c.ask.ensures.signs c.ask.ensures.denials c.line-in-Unknown.ensures
 
@@ -56,6 +62,18 @@ returns-in-NotActive-clause-done g c = plain_done g.D.Disk.moment g.D.Disk.leave
 
 pub returns-in-NotActive-clause-undone : goal.returns-in-NotActive-clause-undone
 returns-in-NotActive-clause-undone g c = plain_undone g.D.Disk.moment g.D.Disk.leaves g.D.Disk.faults string_bytes _ _ _ _ _ _ tt c.in-NotActive.ensures.called c.ask.ensures.told c.ask.ensures.signs c.ask.ensures.denials
+
+pub returns-in-Live-clause-done : goal.returns-in-Live-clause-done
+returns-in-Live-clause-done g c = plain_done g.D.Disk.moment g.D.Disk.leaves g.D.Disk.faults string_bytes _ _ _ _ _ _ tt tt c.in-Live.ensures.called c.ask.ensures.told c.ask.ensures.signs c.ask.ensures.denials c.line-in-Live.ensures
+
+pub returns-in-Live-clause-undone : goal.returns-in-Live-clause-undone
+returns-in-Live-clause-undone g c = plain_undone g.D.Disk.moment g.D.Disk.leaves g.D.Disk.faults string_bytes _ _ _ _ _ _ tt c.in-Live.ensures.called c.ask.ensures.told c.ask.ensures.signs c.ask.ensures.denials
+
+pub returns-in-Watching-clause-done : goal.returns-in-Watching-clause-done
+returns-in-Watching-clause-done g c = plain_done g.D.Disk.moment g.D.Disk.leaves g.D.Disk.faults string_bytes _ _ _ _ _ _ tt tt c.in-Watching.ensures.called c.ask.ensures.told c.ask.ensures.signs c.ask.ensures.denials c.line-in-Watching.ensures
+
+pub returns-in-Watching-clause-undone : goal.returns-in-Watching-clause-undone
+returns-in-Watching-clause-undone g c = plain_undone g.D.Disk.moment g.D.Disk.leaves g.D.Disk.faults string_bytes _ _ _ _ _ _ tt c.in-Watching.ensures.called c.ask.ensures.told c.ask.ensures.signs c.ask.ensures.denials
 
 pub returns-in-Refused-clause-done : goal.returns-in-Refused-clause-done
 returns-in-Refused-clause-done g c = plain_done g.D.Disk.moment g.D.Disk.leaves g.D.Disk.faults string_bytes _ _ _ _ _ _ tt tt c.in-Refused.ensures.called c.ask.ensures.told c.ask.ensures.signs c.ask.ensures.denials c.line-in-Refused.ensures
