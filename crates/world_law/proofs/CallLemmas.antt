@@ -29,7 +29,7 @@ use Rattle.world_law.proofs.KeyStanding as at_key
 use Rattle.world_law.proofs.KeyStanding.Phase.{Fresh, Held, Resting}
 use Rattle.world_law.proofs.DeedLemmas.{phase_of, SentWhileHeld, rests_at}
 use Rattle.world_law.proofs.PastLemmas.{KeepsIn, keeps_all, covers_on, grown_keeps}
-use Rattle.world_law.proofs.ClientLemmas.{held, is_held, held_cases, Moved, NoGrants, Fewer, Changes, effect, TornFits, IsBookOf, has_book, changes_ok, changes_torn, failed, fits_up, fits_same, without_fewer, granted_covers}
+use Rattle.world_law.proofs.ClientLemmas.{held, is_held, held_cases, Moved, NoGrants, Fewer, Changes, effect, TornFits, IsBookOf, has_book, changes_ok, changes_torn, failed, fits_up, fits_same, without_fewer, plain_fewer, granted_covers}
 use Rattle.world_law.proofs.ClientLemmas.Effect.{Opening, Shutting, Staying}
 use Rattle.world_law.proofs.WorldLemmas.{Messages, HasOpen, view_of, Invariant, stepped, Free, DeedsAt, step, client_cases, both_cases, at_here}
 
@@ -259,8 +259,8 @@ granted before w c key m now grant new inv reply keys states grants torn = recor
     older n (inr x) = absurd (not x.0)
   at k (inl is) = let P : PubKey → Type 0 = λ q. IsKeySafe (view_of before (stepped w c new (w.torn c) []) q) in subst P (sym is) (at_key.grants (view_of before w key) (view_of before (stepped w c new (w.torn c) []) key) c m (inv.keys key) (record {
     carries = carries key;
-    was = ap is_held reply.0.1.0;
-    passes = λ n x. passes_covered (past_of (w.desks c) key) m n reply.0.1.1 x;
+    was = ap is_held reply.0.1.0.0;
+    passes = λ n x. passes_covered (past_of (w.desks c) key) m n reply.0.1.0.1 x;
     covered = here;
     phase = refl;
     holds = holds key;
@@ -277,7 +277,7 @@ granted before w c key m now grant new inv reply keys states grants torn = recor
     here =
         let P : List (PubKey × Past) → Type 0 = λ ks. IsSomeAnd (kept_of ks key) (λ past. Covers past m) in
         let Q : State → Type 0 = λ s. HasCovered s key m in
-        subst Q (sym (at_here w.desks c new)) (subst P (sym keys) (granted_covers (w.desks c) key m (some_past (past_of (w.desks c) key) (λ past. Passes past m) reply.0.1.1)))
+        subst Q (sym (at_here w.desks c new)) (subst P (sym keys) (granted_covers (w.desks c) key m (some_past (past_of (w.desks c) key) (λ past. Passes past m) reply.0.1.0.1)))
 
 -- ---- a call that a fault of the disk tears
 
@@ -397,6 +397,10 @@ call_step before w c (call.FinishClose key) (reply.Closed book) inv h law =
     answered before w c (call.FinishClose key) (after (w.desks c) (call.FinishClose key) (reply.Closed book)) (Exported c ((key, book) ∷ []) ∷ Closed c key ∷ []) inv (changes_ok (w.desks c) (call.FinishClose key) (reply.Closed book) tt h) h.0.0 refl refl refl refl
     (λ k. closing_deeds w c key k book (is_at (key_cmp k) key) refl h.1) refl (λ x. x) (λ k e. absurd (shuts_none (is_at (key_cmp k) key) e))
 call_step before w c (call.Propose key m now) (reply.Granted grant) inv h law = granted before w c key m now grant (after (w.desks c) (call.Propose key m now) (reply.Granted grant)) inv h refl refl refl refl
+call_step before w c (call.Allow key now) (reply.Granted grant) inv h law =
+    refused before w c (after (w.desks c) (call.Allow key now) (reply.Granted grant)) inv refl refl (λ g n says x. plain_fewer (w.desks c).grants grant g n (ap (λ y. y.message) h.1) says x) refl [] (λ k. no_deeds w c k) refl (λ x. x)
+call_step before w c (call.Answer key epoch live now) reply.Noted inv h law =
+    refused before w c (after (w.desks c) (call.Answer key epoch live now) reply.Noted) inv refl refl (λ g n says x. x) refl [] (λ k. no_deeds w c k) refl (λ x. x)
 call_step before w c (call.Settle grant outcome) reply.Settled inv h law =
     refused before w c (after (w.desks c) (call.Settle grant outcome) reply.Settled) inv refl refl (λ g n says x. without_fewer (w.desks c).grants grant.number g x) refl [] (λ k. no_deeds w c k) refl (λ x. x)
 call_step before w c (call.BeginClose key) reply.CloseBegun inv h law = begun before w c key inv h

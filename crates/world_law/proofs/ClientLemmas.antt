@@ -1,9 +1,9 @@
 -- What a call makes of one client's desk.
-use Rattle.std.proofs.Common.{◌≡◌, ◌≢◌, ◌⊎◌, inl, inr, ℕ, ◌+◌, Bool, true, false, cond, List, [], ◌∷◌, Option, Some, None, refl, sym, ◌∙◌, ap, subst, arith, nat_eq}
+use Rattle.std.proofs.Common.{◌≡◌, ◌≢◌, ◌⊎◌, inl, inr, ℕ, ◌+◌, Bool, true, false, cond, List, [], ◌∷◌, ◌++◌, Option, Some, None, refl, sym, ◌∙◌, ap, subst, arith, nat_eq}
 use Rattle.std.specs.Prelude.{Contains, IsSome, IsSomeAnd, is_some}
 use Rattle.std.specs.BTreeMap.{is_at}
 use Rattle.std.proofs.lemmas.List.Sums.{sum_by-cons}
-use Rattle.std.proofs.lemmas.List.Elements.{All-contains, Contains-append_left, Contains-append_right}
+use Rattle.std.proofs.lemmas.List.Elements.{All-contains, Contains-append_left, Contains-append_right, Contains-push_cases}
 use Rattle.edge_kit.specs.declared.bytes.PubKey.{PubKey}
 use Rattle.slash_defs.specs.declared.message.Message.{Message}
 use Rattle.slash_defs.specs.declared.book.Book.{Book}
@@ -115,17 +115,18 @@ none_open (h ∷ hs) k e g has is = at (is_at (key_cmp k) h.key) refl (contains_
       let bad : true ≡ false = sym (at_itself k) ∙ here in cc
   at false f (inr there) rest = let total : 0 + open_grants hs k ≡ 0 = sym (open_cons h hs k false f) ∙ e in rest (omega (arith, total)) there is
 
--- the call writes where it succeeds
-abbrev pub Writes : DeskCall → Type 0
-Writes (call.Merge file) = Unit {0}
-Writes (call.Activate key now) = Unit {0}
-Writes (call.Propose key m now) = Unit {0}
-Writes (call.FinishClose key) = Unit {0}
-Writes (call.Prune key) = Unit {0}
-Writes c = ⊥
+-- the disk may have failed at the call, now or before
+abbrev pub CanFail : DeskCall → Type 0
+CanFail (call.Merge file) = Unit {0}
+CanFail (call.Activate key now) = Unit {0}
+CanFail (call.Propose key m now) = Unit {0}
+CanFail (call.Allow key now) = Unit {0}
+CanFail (call.FinishClose key) = Unit {0}
+CanFail (call.Prune key) = Unit {0}
+CanFail c = ⊥
 
--- each writing call that proceeds
-changes_proceeding : (state : State) (c : DeskCall) → Proceeds state c → Writes c → Changes state c (lasting_after state c)
+-- each such call that proceeds
+changes_proceeding : (state : State) (c : DeskCall) → Proceeds state c → CanFail c → Changes state c (lasting_after state c)
 changes_proceeding state (call.Merge file) p w = record { kept = file_keeps state.keys file.books; moved = λ k. refl }
 changes_proceeding state (call.Activate key now) p w = record {
   kept = known_keeps state.keys key (is_some (past_of state key)) refl;
@@ -138,6 +139,7 @@ changes_proceeding state (call.Activate key now) p w = record {
       subst P (sym same) (idle (kept_of state.states key) p.0.0 p.0.1, ap is_held (kept_here state.states key Active))
   at k false e = ap is_held (kept_apart state.states key k Active (apart_back k key e))
 changes_proceeding state (call.Propose key m now) p w = record { kept = grown_keeps state.keys key m (past_of state key) refl; moved = λ k. refl }
+changes_proceeding state (call.Allow key now) p w = record { kept = keeps_all state.keys; moved = λ k. refl }
 changes_proceeding state (call.FinishClose key) p w = record {
   kept = keeps_all state.keys;
   moved = λ k. at k (is_at (key_cmp k) key) refl;
@@ -181,6 +183,8 @@ pub changes_ok : (state : State) (c : DeskCall) (r : DeskReply) → IsOkOf c r �
 changes_ok state (call.Merge file) (reply.Merged keys) ok h = changes_proceeding state (call.Merge file) h.0.1 tt
 changes_ok state (call.Activate key now) reply.Active ok h = changes_proceeding state (call.Activate key now) h.1 tt
 changes_ok state (call.Propose key m now) (reply.Granted grant) ok h = changes_proceeding state (call.Propose key m now) h.0.1 tt
+changes_ok state (call.Allow key now) (reply.Granted grant) ok h = changes_none state (call.Allow key now) (λ k. refl)
+changes_ok state (call.Answer key epoch live now) reply.Noted ok h = changes_none state (call.Answer key epoch live now) (λ k. refl)
 changes_ok state (call.Settle grant outcome) reply.Settled ok h = changes_none state (call.Settle grant outcome) (λ k. refl)
 changes_ok state (call.BeginClose key) reply.CloseBegun ok h = changes_begun state key h.1
 changes_ok state (call.FinishClose key) (reply.Closed book) ok h = changes_proceeding state (call.FinishClose key) h.0.1 tt
@@ -192,11 +196,12 @@ changes_ok state c r ok h = absurd ok
 
 -- ---- a call that the disk tore
 
--- the disk fails only a call that writes, first or again
-pub failed : (state : State) (c : DeskCall) → Reply state c reply.Disk → MayFail state c × Writes c
+-- the disk fails only such a call, first or again
+pub failed : (state : State) (c : DeskCall) → Reply state c reply.Disk → MayFail state c × CanFail c
 failed state (call.Merge file) h = (h, tt)
 failed state (call.Activate key now) h = (h, tt)
 failed state (call.Propose key m now) h = (h, tt)
+failed state (call.Allow key now) h = (h, tt)
 failed state (call.FinishClose key) h = (h, tt)
 failed state (call.Prune key) h = (h, tt)
 failed state c h = absurd h
@@ -204,7 +209,7 @@ failed state c h = absurd h
 some_none : {X : Type 0} (o : Option X) → IsSome o → o ≡ None → ⊥
 some_none {X} o s e = let P : Option X → Type 0 = λ x. IsSome x in let bad : false ≡ true = subst P e s in cc
 
-pub changes_torn : (state : State) (c : DeskCall) → state.torn ≡ None → MayFail state c → Writes c → Changes state c (lasting_after state c)
+pub changes_torn : (state : State) (c : DeskCall) → state.torn ≡ None → MayFail state c → CanFail c → Changes state c (lasting_after state c)
 changes_torn state c up (inl down) writes = absurd (some_none state.torn down up)
 changes_torn state c up (inr h) writes = changes_proceeding state c h.1 writes
 
@@ -254,6 +259,13 @@ without_fewer (h ∷ hs) number g has = at (nat_eq h.number number) has (without
     cases : (h ≡ g) ⊎ Contains (without hs number) g → Contains (h ∷ hs) g
     cases (inl same) = let P : OpenGrant → Type 0 = λ x. Contains (h ∷ hs) x in subst P same first
     cases (inr x) = later (rest x)
+
+-- a grant without a message grants none
+pub plain_fewer : (grants : List OpenGrant) (plain g : OpenGrant) (m : Message) → plain.message ≡ None → g.message ≡ Some m → Contains (grants ++ plain ∷ []) g → Contains grants g
+plain_fewer grants plain g m none says has = cases (Contains-push_cases grants plain g has) where
+  cases : Contains grants g ⊎ (plain ≡ g) → Contains grants g
+  cases (inl there) = there
+  cases (inr e) = absurd (none_some m (sym none ∙ (ap (λ x. x.message) e ∙ says)))
 
 -- ---- what a granted message leaves
 

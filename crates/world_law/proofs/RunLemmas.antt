@@ -104,11 +104,11 @@ passes = (All-from_contains (λ b. ¬ (BookRefuses b m)) (first ∷ []) (λ b ha
 
 runs_second : IsRun (one_chain root) (there_and_back root key m grant first second second 0)
 unfolding number
-runs_second = ((refl, ((λ e. cc, λ e. cc), inr (omega arith)), (omega arith, omega arith)), ((refl, refl), (((refl, (refl, refl, refl), (omega arith, omega arith)), record { parts = no_parts; stands = no_parts_stand; value = refl }), (((refl, (refl, omega arith), (omega arith, omega arith)), refl), ((refl, ((λ e. cc, λ e. cc), inl refl), (omega arith, omega arith)), (((refl, (refl, passes), (omega arith, omega arith)), refl), (((0, omega arith, refl), refl), (tt, ((refl, refl), (((refl, (refl, refl, refl), (omega arith, omega arith)), record { parts = parts; stands = stands; value = refl }), (((refl, (refl, omega arith), (omega arith, omega arith)), refl), ((refl, ((λ e. cc, λ e. cc), inl refl), (omega arith, omega arith)), tt))))))))))))
+runs_second = ((refl, ((λ e. cc, λ e. cc), inr (omega arith)), (omega arith, omega arith)), ((refl, refl), (((refl, (refl, refl, refl), (omega arith, omega arith)), record { parts = no_parts; stands = no_parts_stand; value = refl }), (((refl, (refl, omega arith), (omega arith, omega arith)), refl), ((refl, ((λ e. cc, λ e. cc), inl refl), (omega arith, omega arith)), (((refl, ((refl, passes), refl), (omega arith, omega arith)), refl), (((0, omega arith, refl), refl), (tt, ((refl, refl), (((refl, (refl, refl, refl), (omega arith, omega arith)), record { parts = parts; stands = stands; value = refl }), (((refl, (refl, omega arith), (omega arith, omega arith)), refl), ((refl, ((λ e. cc, λ e. cc), inl refl), (omega arith, omega arith)), tt))))))))))))
 
 runs_first : IsRun (one_chain root) (there_and_back root key m grant first second first 0)
 unfolding number
-runs_first = ((refl, ((λ e. cc, λ e. cc), inr (omega arith)), (omega arith, omega arith)), ((refl, refl), (((refl, (refl, refl, refl), (omega arith, omega arith)), record { parts = no_parts; stands = no_parts_stand; value = refl }), (((refl, (refl, omega arith), (omega arith, omega arith)), refl), ((refl, ((λ e. cc, λ e. cc), inl refl), (omega arith, omega arith)), (((refl, (refl, passes), (omega arith, omega arith)), refl), (((0, omega arith, refl), refl), (tt, ((refl, refl), (((refl, (refl, refl, refl), (omega arith, omega arith)), record { parts = parts; stands = stands; value = refl }), (((refl, (refl, omega arith), (omega arith, omega arith)), refl), ((refl, ((λ e. cc, λ e. cc), inl refl), (omega arith, omega arith)), tt))))))))))))
+runs_first = ((refl, ((λ e. cc, λ e. cc), inr (omega arith)), (omega arith, omega arith)), ((refl, refl), (((refl, (refl, refl, refl), (omega arith, omega arith)), record { parts = no_parts; stands = no_parts_stand; value = refl }), (((refl, (refl, omega arith), (omega arith, omega arith)), refl), ((refl, ((λ e. cc, λ e. cc), inl refl), (omega arith, omega arith)), (((refl, ((refl, passes), refl), (omega arith, omega arith)), refl), (((0, omega arith, refl), refl), (tt, ((refl, refl), (((refl, (refl, refl, refl), (omega arith, omega arith)), record { parts = parts; stands = stands; value = refl }), (((refl, (refl, omega arith), (omega arith, omega arith)), refl), ((refl, ((λ e. cc, λ e. cc), inl refl), (omega arith, omega arith)), tt))))))))))))
 
 pub runs_back : HasRunsBack
 runs_back = (root, key, m, grant, first, second, differ, runs_second, runs_first)

@@ -19,7 +19,7 @@ use Rattle.check_sign.specs.Contents.{Contents}
 use Rattle.desk_machine.specs.States.{State, Lasting, lasting, past_of}
 use Rattle.check_sign.specs.Standing.{DeskStands, MayOpen, Opens}
 use Rattle.desk_machine.specs.Handing.{IsExport}
-use Rattle.desk_machine.specs.Machine.{Reply, after, lasting_after, Succeeds, MayFail, grant_for, torn_first}
+use Rattle.desk_machine.specs.Machine.{Reply, after, lasting_after, Succeeds, MayFail, grant_for, plain_grant_for, torn_first}
 use Rattle.desk_machine.specs.Written.{HasRoomFor, IsWritten, written}
 use Rattle.desk_machine.specs.declared.call.DeskCall.{DeskCall}
 use Rattle.desk_machine.specs.declared.call.DeskCall.TheVariants as call
@@ -28,7 +28,7 @@ use Rattle.desk_machine.specs.declared.call.DeskReply.TheVariants as reply
 use Rattle.world_law.specs.Worlds.{MayBeDone, lasting_done}
 use Rattle.desk_machine.specs.Kinds.{HasOk}
 use Rattle.world_law.specs.Stops.{IsOfStop, StopsBetween, StopsWithin}
-use Rattle.world_law.proofs.ClientLemmas.{Writes, failed}
+use Rattle.world_law.proofs.ClientLemmas.{CanFail, failed}
 
 -- ---- a key that closes is active after a stop
 
@@ -87,10 +87,11 @@ some_past : (o : Option Past) → IsSome o → (p : Past) × (o ≡ Some p)
 some_past None s = absurd (let bad : false ≡ true = s in cc)
 some_past (Some p) s = (p, refl)
 
-succeeds_ok : (desk : Contents) (state : State) (c : DeskCall) → DeskStands desk state → Writes c → Succeeds state c → HasOk state c
+succeeds_ok : (desk : Contents) (state : State) (c : DeskCall) → DeskStands desk state → CanFail c → Succeeds state c → HasOk state c
 succeeds_ok desk state (call.Merge file) stands w s = (reply.Merged (length file.books), tt, (s, refl))
 succeeds_ok desk state (call.Activate key now) stands w s = (reply.Active, tt, s)
 succeeds_ok desk state (call.Propose key m now) stands w s = (reply.Granted (grant_for state key m), tt, (s, refl))
+succeeds_ok desk state (call.Allow key now) stands w s = (reply.Granted (plain_grant_for state key), tt, (s, refl))
 succeeds_ok desk state (call.FinishClose key) stands w s =
     let past = some_past (past_of state key) s.1.0 in
     let found = each_found (λ (q : Past) (p : Parts). Stands p q) state.keys desk.keys key past.0 (each_flip Stands desk.keys state.keys stands.keys) past.1 in
@@ -108,7 +109,7 @@ succeeds_ok desk state c stands w s = absurd w
 torn_left : (genesis : Root) (desk : Contents) (state : State) (c : DeskCall) (file : List ℕ) → DeskStands desk state → Reply state c reply.Disk
     → IsSomeAnd (torn_first state.torn (lasting_after state c)) (λ l. Opens genesis file l) → IsOfStop genesis state (Some c) file
 torn_left genesis desk state c file stands h o = at state.torn refl where
-  fault : MayFail state c × Writes c
+  fault : MayFail state c × CanFail c
   fault = failed state c h
 
   ok : state.torn ≡ None → MayFail state c → HasOk state c
@@ -134,6 +135,8 @@ after_torn : (genesis : Root) (desk : Contents) (state : State) (c : DeskCall) (
 after_torn genesis desk state (call.Merge file) (reply.Merged keys) bytes stands h t = torn_done genesis state (Some (call.Merge file)) bytes t
 after_torn genesis desk state (call.Activate key now) reply.Active bytes stands h t = torn_done genesis state (Some (call.Activate key now)) bytes t
 after_torn genesis desk state (call.Propose key m now) (reply.Granted grant) bytes stands h t = torn_done genesis state (Some (call.Propose key m now)) bytes t
+after_torn genesis desk state (call.Allow key now) (reply.Granted grant) bytes stands h t = torn_done genesis state (Some (call.Allow key now)) bytes t
+after_torn genesis desk state (call.Answer key epoch live now) reply.Noted bytes stands h t = torn_done genesis state (Some (call.Answer key epoch live now)) bytes t
 after_torn genesis desk state (call.Settle grant outcome) reply.Settled bytes stands h t = torn_done genesis state (Some (call.Settle grant outcome)) bytes t
 after_torn genesis desk state (call.BeginClose key) reply.CloseBegun bytes stands h t = torn_done genesis state (Some (call.BeginClose key)) bytes t
 after_torn genesis desk state (call.FinishClose key) (reply.Closed book) bytes stands h t = torn_done genesis state (Some (call.FinishClose key)) bytes t
@@ -148,6 +151,8 @@ after_call genesis desk state (call.Propose key m now) (reply.Granted grant) byt
 after_call genesis desk state (call.BeginClose key) reply.CloseBegun bytes stands h (inl o) = undone genesis state (Some (call.BeginClose key)) bytes (opens_same genesis bytes (lasting_after state (call.BeginClose key)) state.states (closing_lasts state.states key h.1) o)
 after_call genesis desk state (call.FinishClose key) (reply.Closed book) bytes stands h (inl o) = call_done genesis state (call.FinishClose key) bytes h.0.0 (reply.Closed book, tt, h) o
 after_call genesis desk state (call.Prune key) (reply.Pruned book) bytes stands h (inl o) = call_done genesis state (call.Prune key) bytes h.0.0 (reply.Pruned book, tt, h) o
+after_call genesis desk state (call.Allow key now) (reply.Granted grant) bytes stands h (inl o) = undone genesis state (Some (call.Allow key now)) bytes o
+after_call genesis desk state (call.Answer key epoch live now) reply.Noted bytes stands h (inl o) = undone genesis state (Some (call.Answer key epoch live now)) bytes o
 after_call genesis desk state (call.Settle grant outcome) reply.Settled bytes stands h (inl o) = undone genesis state (Some (call.Settle grant outcome)) bytes o
 after_call genesis desk state c reply.Disk bytes stands h (inl o) = undone genesis state (Some c) bytes o
 after_call genesis desk state c r bytes stands h (inl o) = undone genesis state (Some c) bytes o

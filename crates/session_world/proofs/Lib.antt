@@ -1,0 +1,5 @@
+pub mod ListLemmas
+pub mod EventLemmas
+pub mod StopLemmas
+pub mod StartLemmas
+pub mod RunLemmas

@@ -1,0 +1,4 @@
+pub mod Events
+pub mod Stopping
+pub mod Starting
+pub mod Running

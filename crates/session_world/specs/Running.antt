@@ -1,0 +1,66 @@
+-- A run of the program that serves a session, as events of one client behind those of its earlier runs.
+use Rattle.std.specs.Prelude.{◌≡◌, ◌⊎◌, ℕ, ◌≤◌, Bool, List, [], ◌∷◌, ◌++◌, Option}
+use Rattle.edge_kit.specs.declared.bytes.Root.{Root}
+use Rattle.edge_kit.specs.declared.disk.Disks.{Disks}
+use Rattle.phase0_types.specs.declared.fork.Fork.{Fork}
+use Rattle.service_url.specs.Services.{Service}
+use Rattle.desk_machine.specs.States.{State, no_state}
+use Rattle.desk_machine.specs.declared.event.DeskEvent.{DeskEvent}
+use Rattle.check_sign.specs.Contents.{Seen}
+use Rattle.check_sign.specs.Standing.{DeskStands}
+use Rattle.world_law.specs.Worlds.{Event}
+use Rattle.world_law.specs.Worlds.Event.{Crash}
+use Rattle.world_law.specs.Clients.{RunsFrom, state_over, own, messages_in}
+use Rattle.program_end.specs.declared.status.Status.{Status}
+use Rattle.command_line.specs.Plans.{session}
+use Rattle.session_run.specs.Acts.{AtBench}
+use Rattle.session_run.specs.Ends.{Ends}
+use Rattle.session_run.specs.Runs.{Run}
+use Rattle.session_run.specs.Turns.{Turn, moment_after, sent}
+use Rattle.validator_cli.specs.Endings.{Outside, RunEnds, bench_at, wires_of}
+use Rattle.session_world.specs.Events.{session_events, turn_events}
+use Rattle.session_world.specs.Stopping.{StopsIn, StopsBehind}
+
+-- the events of a client before a stop, and its start, at epoch 0 and with the watch on or off
+abbrev pub started : (genesis : Root) (client : ℕ) (past : List Event) (file : List ℕ) → StopsIn genesis client (no_state genesis) past file → Bool → List Event
+started genesis client past file stop watch = stop.front ++ Crash client stop.within stop.done 0 watch ∷ []
+
+-- each file that a crash at this moment leaves of the disk is what a stop leaves behind the first few events of the client
+abbrev pub LeftBy : {D : Type 0} → (D → ℕ → List ℕ → Type 0) → Root → ℕ → List Event → D → ℕ → Type 0
+LeftBy leaves genesis client events disk k = (file : List ℕ) → leaves disk k file → StopsIn genesis client (no_state genesis) events file
+
+-- no desk was opened: the client did nothing, and a crash at any moment leaves what such a stop leaves
+abbrev pub StaysSo : {D : Type 0} → (D → ℕ) → (D → ℕ → List ℕ → Type 0) → Root → ℕ → List Event → D → D → Type 0
+StaysSo moment leaves genesis client past first now = (k : ℕ) → moment first ≤ k → k ≤ moment now → LeftBy leaves genesis client past now k
+
+-- A desk was opened, and lines were served: what they did are events of the client that may happen behind its start, in the state
+-- that the start left; so much is sent; and in the end the desk stands for the state after them. A crash up to the opening's end
+-- leaves what a stop before the start leaves; and one later, what a stop leaves behind the start and all events of the lines that were
+-- over by then, as the disk stood behind them.
+pub record Served {D : Type 0} (moment : D → ℕ) (leaves : D → ℕ → List ℕ → Type 0) (faults : D → ℕ) (genesis : Root) (fork : Fork) (watch : Bool) (before now : Outside) (ended : Status) (client : ℕ) (past : List Event) (file : List ℕ)
+    (stop : StopsIn genesis client (no_state genesis) past file) (first last : D) : Type 0 where
+  pub opened : Seen D
+  pub closed : Seen D
+  pub ends : Ends moment leaves faults (record { fork = fork; genesis = genesis }) (bench_at opened before) (bench_at closed now) (wires_of before.view) (wires_of now.view) ended
+  pub state : State
+  pub state_is : state ≡ state_over (no_state genesis) (started genesis client past file stop watch)
+  pub events : List Event
+  pub events_are : events ≡ session_events moment leaves faults (record { fork = fork; genesis = genesis }) (bench_at opened before) (bench_at closed now) (wires_of before.view) (wires_of now.view) ended ends client state
+  pub at_client : own client events ≡ events
+  pub runs : RunsFrom (no_state genesis) (started genesis client past file stop watch ++ events)
+  pub sends : messages_in events ≡ sent ends.turns
+  pub stands : DeskStands closed.contents (state_over (no_state genesis) (started genesis client past file stop watch ++ events))
+  pub opening : (k : ℕ) → moment first ≤ k → k ≤ moment opened.disk → LeftBy leaves genesis client past last k
+  pub stops : (over rest : List Turn) (here : AtBench D) → ends.turns ≡ over ++ rest → Run moment leaves faults (record { fork = fork; genesis = genesis }) 0 over (bench_at opened before) here
+      → Run moment leaves faults (record { fork = fork; genesis = genesis }) (moment_after 0 over) rest here ends.mid
+      → (k : ℕ) (c : List ℕ) → moment here.desk.disk ≤ k → k ≤ moment last → leaves last k c
+      → StopsBehind genesis client (no_state genesis) (started genesis client past file stop watch ++ turn_events client (record { desk = state; moment = 0 }) over) (started genesis client past file stop watch ++ events) c
+
+-- However a run of the program that is asked for a session ends, over a disk that shows what a stop of the client left, and of which a
+-- crash leaves such files: no desk was opened, or lines were served.
+abbrev pub RunGoesOn : {D : Type 0} → (D → List ℕ → Type 0) → (D → ℕ) → (D → ℕ → List ℕ → Type 0) → (D → ℕ) → Type 0
+RunGoesOn {D} shows moment leaves faults = (genesis : Root) (journal : Option (List ℕ)) (fork : Fork) (signer_at : Option Service) (watch : Bool) (disks_before disks_now : Disks D) (before now : Outside) (noted : List DeskEvent) (ended : Status)
+    → RunEnds shows moment leaves faults (session genesis journal fork signer_at watch) disks_before disks_now before now noted ended
+    → (client : ℕ) (past : List Event) (file : List ℕ) → shows disks_before.first file → (stop : StopsIn genesis client (no_state genesis) past file) → LeftBy leaves genesis client past disks_before.first (moment disks_before.first)
+    → StaysSo moment leaves genesis client past disks_before.first disks_now.first
+    ⊎ Served moment leaves faults genesis fork watch before now ended client past file stop disks_before.first disks_now.first

@@ -1,0 +1,43 @@
+//! From a session's ending to the events of its client, and from there to the next opening.
+ghost use Rattle.session_world.specs.Events.{CallsRun, SessionRuns};
+ghost use Rattle.session_world.specs.Stopping.{CallsStop, SessionStops};
+ghost use Rattle.session_world.specs.Starting.{StartsAgain, StartsEmpty, StartsKeep};
+ghost use Rattle.session_world.specs.Running.{RunGoesOn};
+
+use edge_kit::Disk;
+
+/// However a session ends, what it did is a list of events of one client: they may happen from each state that the
+/// desk stood for, one after the other; the messages that are sent in it are those of its signed lines, in order;
+/// and at the end the desk stands for the state after them. Where each file that a crash at the start would have left
+/// opens to what the desk stood for, each that a crash at any moment of the session leaves opens to what a stop leaves
+/// behind the first few of these events, maybe within the next; and those of the lines that were over by then, as the
+/// disk stood behind them, are among these few. Over a disk that tells nothing of what it leaves, as a real file, this
+/// says nothing of files.
+pub fn session_law<D: Disk>()
+    ensures runs { SessionRuns D.moment D.leaves D.faults }
+    ensures stops { SessionStops D.moment D.leaves D.faults }
+{}
+
+/// So it is with calls of a desk, one after another, under which nothing is sent: each is an event, and a crash leaves
+/// what a stop leaves behind those that were over by then.
+pub fn calls_law<D: Disk>()
+    ensures runs { CallsRun D.moment D.leaves D.faults }
+    ensures stops { CallsStop D.moment D.leaves D.faults }
+{}
+
+/// A desk that is opened over what such a stop left stands for the state after the stop, and a crash while it is
+/// opened, or refused, leaves what such a stop leaves. A file that is no journal yet, or an empty one, is what a stop
+/// leaves of a client that has done nothing.
+pub fn start_law<D: Disk>()
+    ensures again { StartsAgain D.shows D.moment D.leaves D.faults }
+    ensures keep { StartsKeep D.moment D.leaves }
+    ensures empty { StartsEmpty }
+{}
+
+/// However a run of the program that was asked for a session ends, over a disk that shows what a stop of the client
+/// left, and of which a crash leaves such files: the client did nothing, and what a crash leaves is as before; or it
+/// started, and what its lines did are events of it behind those before the stop, as `session_law` says. So the runs
+/// over one journal, one after another, are one list of events of one client, which `handover_law` speaks of.
+pub fn run_law<D: Disk>()
+    ensures { RunGoesOn D.shows D.moment D.leaves D.faults }
+{}
