@@ -1,9 +1,15 @@
 //! The commands over a journal, and journals that are not opened.
-use crate::outside::{disks_after, disks_of, fresh_disks, play};
-use crate::sessions::{ACTIVATE, SESSION};
+use run_doubles::{disks_after, disks_of, fresh_disks, play};
 use std::alloc::{AllocError, Global};
 use std::test::Fail;
 use validator_cli::Status;
+
+/// The words of a session for the chain G0.
+const SESSION: &str = "validator session --genesis <G0>";
+
+/// A line that makes K1 active.
+const ACTIVATE: &str = r#"{"op":"activate","pubkey":"<K1>"}
+"#;
 
 /// Merges the file on the input. The disks are handed in, and the path names nothing here.
 const MERGE: &str = "validator merge --genesis <G0> --journal j";

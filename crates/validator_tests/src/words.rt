@@ -1,5 +1,5 @@
 //! Words of the command line, and what the program says of them.
-use crate::outside::{Ended, Faults, fresh_disks, ready_signer, run};
+use run_doubles::{Ended, Faults, fresh_disks, ready_signer, run};
 use signer_link::MemSigner;
 use std::alloc::{AllocError, Global};
 use std::sync::Wait;

@@ -2,7 +2,8 @@
 use crate::events::words_of;
 use crate::marks::{filled, is_text};
 use check_sign::Events;
-use edge_kit::{Clock, Disks, Door, MemDisk, MemSink, MemSource, PubKey, Sig};
+use edge_clock::MemClock;
+use edge_kit::{Disks, Door, MemDisk, MemSink, MemSource, PubKey, Sig};
 use signer_link::{
     DeleteReply, ImportReply, MemSigner, PlainRequest, SignReply, SignRequest, Signer,
 };
@@ -24,11 +25,10 @@ impl Node for Unused {
     ghost faults = { λ _. 0 };
 }
 
-impl Clock for Unused {}
-
 /// Signs everything with the same 96 bytes `77`, and keeps the requests.
 #[derive(Drop)]
 pub struct KeepingSigner {
+    pub alloc: Global,
     pub requests: Vec<SignRequest>,
 }
 
@@ -42,7 +42,10 @@ impl Signer for KeepingSigner {
     ghost denials = { λ _. 0 };
 
     fn sign<G: Granted>(&mut self, request: &SignRequest, _grant: &G) -> SignReply {
-        match self.requests.push(*request) {
+        let Ok(request) = request.copy(self.alloc) else {
+            return SignReply::OutOfMemory;
+        };
+        match self.requests.push(request) {
             Ok(()) => SignReply::Signed(Sig([0x77; 96])),
             Err(_) => SignReply::OutOfMemory,
         }
@@ -161,7 +164,7 @@ pub fn run<T: Threads + Wait + Sync, S: Signer + Drop>(
         disks,
         signer,
         nodes,
-        Unused,
+        MemClock::new(0, Vec::new(alloc)),
         Unused,
         &mut source,
         &mut sink,

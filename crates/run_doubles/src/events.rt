@@ -32,6 +32,15 @@ fn event_words(alloc: Global, event: &Event) -> Result<String, AllocError> {
             let message = message_words(alloc, message)?;
             format!(in alloc; "{} {}", granted.as_str(), message.as_str())
         }
+        Event::Allowed { key, grant } => {
+            let allowed = format!(in alloc; "allowed {}", *grant)?;
+            key_words(alloc, allowed.as_str(), key)
+        }
+        Event::Told { key, epoch, live } => {
+            let told = if *live { "live" } else { "not live" };
+            let told = format!(in alloc; "told {told} in {}", *epoch)?;
+            key_words(alloc, told.as_str(), key)
+        }
         Event::Settled { grant, outcome } => match outcome {
             Outcome::Sent => format!(in alloc; "sent {}", *grant),
             Outcome::Dropped => format!(in alloc; "dropped {}", *grant),

@@ -1,16 +1,16 @@
 //! Sessions whose signatures a service makes, over a link in memory.
-use crate::marks::filled;
-use crate::outside::{Ended, fresh_disks, no_faults, run};
 use crate::sessions::SESSION;
 use edge_kit::{MemLink, PubKey, Root, Sig};
+use run_doubles::{Ended, filled, fresh_disks, no_faults, run};
 use service_url::ServiceUrl;
-use signer_link::{SignReply, Told, Web3Signer};
+use signer_link::{SignReply, Told};
 use slash_defs::Message;
 use std::alloc::{AllocError, Global};
 use std::sync::Wait;
 use std::test::Fail;
 use std::thread::Threads;
 use validator_cli::Status;
+use web3_signer::Web3Signer;
 
 /// Activates K1 and signs a block.
 const INPUT: &str = r#"{"op":"activate","pubkey":"<K1>"}

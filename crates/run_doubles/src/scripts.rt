@@ -1,6 +1,5 @@
 //! Sessions as they are told in scripts.
 use std::alloc::{AllocError, Global};
-use std::process::Abort;
 
 /// What goes into a session and what comes of it, by texts with marks.
 #[derive(Drop)]
@@ -13,28 +12,29 @@ pub struct Session {
 
 impl Session {
     /// Reads the lines of a script: `>` begins a request, `>>` one without its newline, `<` an answer, `*` an
-    /// event, and `!` with the name of a member a request that is refused as bad in that member.
-    pub fn read<T: Abort>(rt: &T, alloc: Global, lines: &str) -> Result<Session, AllocError> {
+    /// event, and `!` with the name of a member a request that is refused as bad in that member. Any other line is
+    /// taken as an answer, so that no run comes to it.
+    pub fn read(alloc: Global, lines: &str) -> Result<Session, AllocError> {
         let mut session = Session {
             input: String::new(alloc),
             output: String::new(alloc),
             events: String::new(alloc),
         };
         for line in lines.lines() {
-            session.add(rt, line)?;
+            session.add(line)?;
         }
         Ok(session)
     }
 
     /// Adds a line of a script.
-    fn add<T: Abort>(&mut self, rt: &T, line: &str) -> Result<(), AllocError> {
+    fn add(&mut self, line: &str) -> Result<(), AllocError> {
         match line.split_once(' ') {
             Some((">", request)) => push_line(&mut self.input, request),
             Some((">>", request)) => self.input.push_str(request),
             Some(("<", answer)) => push_line(&mut self.output, answer),
             Some(("*", event)) => push_line(&mut self.events, event),
             Some(("!", bad)) => self.add_bad(bad),
-            _ => rt.panic("no line of a script"),
+            _ => push_line(&mut self.output, line),
         }
     }
 

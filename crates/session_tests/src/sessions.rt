@@ -1,9 +1,10 @@
 //! Sessions without faults: what is read, what is written, and what the desk did.
 use crate::files::FILES;
-use crate::marks::filled;
-use crate::outside::{Ended, disks_after, fresh_disks, no_faults, play, ready_signer, run};
-use crate::scripts::{Session, in_two, titled};
 use crate::signing::SIGNING;
+use run_doubles::{
+    Ended, Session, disks_after, filled, fresh_disks, in_two, no_faults, play, ready_signer, run,
+    titled,
+};
 use signer_link::MemSigner;
 use std::alloc::{AllocError, Global};
 use std::process::Abort;
@@ -20,7 +21,7 @@ pub const ACTIVATE: &str = r#"{"op":"activate","pubkey":"<K1>"}
 "#;
 
 /// Compares what a run came to with a session.
-fn compare<T: Abort>(
+pub fn compare<T: Abort>(
     rt: &T,
     alloc: Global,
     shows: &str,
@@ -33,17 +34,18 @@ fn compare<T: Abort>(
     Ok(())
 }
 
-/// Runs each session, and compares what it came to with what it has to come to.
-fn play_each<T: Threads + Wait + Sync + Abort>(
+/// Runs each session of these words, and compares what it came to with what it has to come to.
+pub fn play_each<T: Threads + Wait + Sync + Abort>(
     rt: &T,
     alloc: Global,
+    words: &str,
     scripts: &[&str],
 ) -> Result<(), AllocError> {
     for script in scripts {
         let (shows, lines) = titled(script);
-        let session = Session::read(rt, alloc, lines)?;
+        let session = Session::read(alloc, lines)?;
         let disks = fresh_disks(alloc)?;
-        let ended = play(rt, alloc, SESSION, disks, session.input.as_str())?;
+        let ended = play(rt, alloc, words, disks, session.input.as_str())?;
         compare(rt, alloc, shows, &ended, &session)?;
     }
     Ok(())
@@ -51,13 +53,13 @@ fn play_each<T: Threads + Wait + Sync + Abort>(
 
 #[test]
 fn signing_sessions_answer_line_by_line(rt: HostRuntime) -> Result<(), Fail> {
-    play_each(&rt, rt.alloc(), &SIGNING)?;
+    play_each(&rt, rt.alloc(), SESSION, &SIGNING)?;
     Ok(())
 }
 
 #[test]
 fn sessions_with_files_answer_line_by_line(rt: HostRuntime) -> Result<(), Fail> {
-    play_each(&rt, rt.alloc(), &FILES)?;
+    play_each(&rt, rt.alloc(), SESSION, &FILES)?;
     Ok(())
 }
 
@@ -71,8 +73,8 @@ fn play_each_in_two<T: Threads + Wait + Sync + Abort>(
     for script in scripts {
         let (shows, lines) = titled(script);
         let (before, last) = in_two(alloc, lines)?;
-        let before = Session::read(rt, alloc, before.as_str())?;
-        let last = Session::read(rt, alloc, last.as_str())?;
+        let before = Session::read(alloc, before.as_str())?;
+        let last = Session::read(alloc, last.as_str())?;
         let disks = fresh_disks(alloc)?;
         let first = play(rt, alloc, SESSION, disks, before.input.as_str())?;
         compare(rt, alloc, shows, &first, &before)?;

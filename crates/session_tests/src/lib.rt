@@ -1,0 +1,17 @@
+//! Tests of whole sessions, over the top call.
+#![tactic(auto)]
+
+#[cfg(test)]
+mod faults;
+#[cfg(test)]
+mod files;
+#[cfg(test)]
+mod objects;
+#[cfg(test)]
+mod services;
+#[cfg(test)]
+mod sessions;
+#[cfg(test)]
+mod signing;
+#[cfg(test)]
+mod watches;
