@@ -1,0 +1,7 @@
+pub mod CustodyLemmas
+pub mod RestLemmas
+pub mod DeleteLemmas
+pub mod AgainLemmas
+pub mod HoldLemmas
+pub mod ImportLemmas
+pub mod ImportAgainLemmas

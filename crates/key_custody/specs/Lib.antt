@@ -1,0 +1,6 @@
+pub mod Statuses
+pub mod Keystores
+pub mod Replies
+pub mod Custody
+pub mod Plans
+pub mod Once
