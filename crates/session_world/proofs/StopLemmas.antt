@@ -195,7 +195,7 @@ session_stops moment leaves faults domains first last before now result ends ove
 
 module _ {D : Type 0} (moment : D → ℕ) (leaves : D → ℕ → List ℕ → Type 0) (faults : D → ℕ) (client : ℕ) where
   -- what a crash before these calls might have left stays
-  past_stays : (first last : Seen D) (made : List (DeskCall × DeskReply)) → Path moment leaves faults first made last → (state : State) → DeskStands first.contents state
+  pub past_stays : (first last : Seen D) (made : List (DeskCall × DeskReply)) → Path moment leaves faults first made last → (state : State) → DeskStands first.contents state
       → (k : ℕ) (file : List ℕ) → k ≤ moment first.disk → leaves last.disk k file → leaves first.disk k file
   past_stays first last [] path state stands k file low left = let P : Seen D → Type 0 = λ s. leaves s.disk k file in subst P path left
   past_stays first last (x ∷ made) path state stands k file low left =

@@ -1,24 +1,27 @@
 -- A run of the program that serves a session, as events of one client behind those of its earlier runs.
-use Rattle.std.specs.Prelude.{◌≡◌, ◌⊎◌, ℕ, ◌≤◌, Bool, List, [], ◌∷◌, ◌++◌, Option}
+use Rattle.std.specs.Prelude.{◌≡◌, ◌⊎◌, ℕ, ◌≤◌, Bool, false, List, [], ◌∷◌, ◌++◌, Option}
 use Rattle.edge_kit.specs.declared.bytes.Root.{Root}
 use Rattle.edge_kit.specs.declared.disk.Disks.{Disks}
 use Rattle.phase0_types.specs.declared.fork.Fork.{Fork}
 use Rattle.service_url.specs.Services.{Service}
 use Rattle.desk_machine.specs.States.{State, no_state}
+use Rattle.desk_machine.specs.declared.call.DeskCall.{DeskCall}
+use Rattle.desk_machine.specs.declared.call.DeskReply.{DeskReply}
 use Rattle.desk_machine.specs.declared.event.DeskEvent.{DeskEvent}
 use Rattle.check_sign.specs.Contents.{Seen}
+use Rattle.check_sign.specs.Paths.{Path}
 use Rattle.check_sign.specs.Standing.{DeskStands}
 use Rattle.world_law.specs.Worlds.{Event}
 use Rattle.world_law.specs.Worlds.Event.{Crash}
 use Rattle.world_law.specs.Clients.{RunsFrom, state_over, own, messages_in}
 use Rattle.program_end.specs.declared.status.Status.{Status}
-use Rattle.command_line.specs.Plans.{session}
+use Rattle.command_line.specs.Plans.{Asked, session, merge, show}
 use Rattle.session_run.specs.Acts.{AtBench}
 use Rattle.session_run.specs.Ends.{Ends}
 use Rattle.session_run.specs.Runs.{Run}
 use Rattle.session_run.specs.Turns.{Turn, moment_after, sent}
 use Rattle.validator_cli.specs.Endings.{Outside, RunEnds, bench_at, wires_of}
-use Rattle.session_world.specs.Events.{session_events, turn_events}
+use Rattle.session_world.specs.Events.{calls_of, session_events, turn_events}
 use Rattle.session_world.specs.Stopping.{StopsIn, StopsBehind}
 
 -- the events of a client before a stop, and its start, at epoch 0 and with the watch on or off
@@ -64,3 +67,33 @@ RunGoesOn {D} shows moment leaves faults = (genesis : Root) (journal : Option (L
     → (client : ℕ) (past : List Event) (file : List ℕ) → shows disks_before.first file → (stop : StopsIn genesis client (no_state genesis) past file) → LeftBy leaves genesis client past disks_before.first (moment disks_before.first)
     → StaysSo moment leaves genesis client past disks_before.first disks_now.first
     ⊎ Served moment leaves faults genesis fork watch before now ended client past file stop disks_before.first disks_now.first
+
+-- A desk was opened, its keys not watched, and these calls were made of it, under which nothing is sent: they are events of the client,
+-- likewise.
+pub record Called {D : Type 0} (moment : D → ℕ) (leaves : D → ℕ → List ℕ → Type 0) (faults : D → ℕ) (genesis : Root) (client : ℕ) (past : List Event) (file : List ℕ) (stop : StopsIn genesis client (no_state genesis) past file) (first last : D) : Type 0 where
+  pub opened : Seen D
+  pub closed : Seen D
+  pub made : List (DeskCall × DeskReply)
+  pub path : Path moment leaves faults opened made closed
+  pub at_client : own client (calls_of client made) ≡ calls_of client made
+  pub runs : RunsFrom (no_state genesis) (started genesis client past file stop false ++ calls_of client made)
+  pub sends : messages_in (calls_of client made) ≡ []
+  pub stands : DeskStands closed.contents (state_over (no_state genesis) (started genesis client past file stop false ++ calls_of client made))
+  pub opening : (k : ℕ) → moment first ≤ k → k ≤ moment opened.disk → LeftBy leaves genesis client past last k
+  pub stops : (over rest : List (DeskCall × DeskReply)) (here : Seen D) → made ≡ over ++ rest → Path moment leaves faults opened over here → Path moment leaves faults here rest closed
+      → (k : ℕ) (c : List ℕ) → moment here.disk ≤ k → k ≤ moment last → leaves last k c
+      → StopsBehind genesis client (no_state genesis) (started genesis client past file stop false ++ calls_of client over) (started genesis client past file stop false ++ calls_of client made) c
+
+-- what is asked for calls a desk of this chain, and serves no lines
+abbrev pub IsOfChain : Root → Asked → Type 0
+IsOfChain genesis (merge root journal) = root ≡ genesis
+IsOfChain genesis (show root journal) = root ≡ genesis
+IsOfChain genesis asked = ⊥
+
+-- so it is of a run that is asked for a merge or a showing
+abbrev pub CommandGoesOn : {D : Type 0} → (D → List ℕ → Type 0) → (D → ℕ) → (D → ℕ → List ℕ → Type 0) → (D → ℕ) → Type 0
+CommandGoesOn {D} shows moment leaves faults = (genesis : Root) (asked : Asked) → IsOfChain genesis asked → (disks_before disks_now : Disks D) (before now : Outside) (noted : List DeskEvent) (ended : Status)
+    → RunEnds shows moment leaves faults asked disks_before disks_now before now noted ended
+    → (client : ℕ) (past : List Event) (file : List ℕ) → shows disks_before.first file → (stop : StopsIn genesis client (no_state genesis) past file) → LeftBy leaves genesis client past disks_before.first (moment disks_before.first)
+    → StaysSo moment leaves genesis client past disks_before.first disks_now.first
+    ⊎ Called moment leaves faults genesis client past file stop disks_before.first disks_now.first

@@ -2,7 +2,7 @@
 ghost use Rattle.session_world.specs.Events.{CallsRun, SessionRuns};
 ghost use Rattle.session_world.specs.Stopping.{CallsStop, SessionStops};
 ghost use Rattle.session_world.specs.Starting.{StartsAgain, StartsEmpty, StartsKeep};
-ghost use Rattle.session_world.specs.Running.{RunGoesOn};
+ghost use Rattle.session_world.specs.Running.{CommandGoesOn, RunGoesOn};
 
 use edge_kit::Disk;
 
@@ -34,10 +34,12 @@ pub fn start_law<D: Disk>()
     ensures empty { StartsEmpty }
 {}
 
-/// However a run of the program that was asked for a session ends, over a disk that shows what a stop of the client
-/// left, and of which a crash leaves such files: the client did nothing, and what a crash leaves is as before; or it
-/// started, and what its lines did are events of it behind those before the stop, as `session_law` says. So the runs
-/// over one journal, one after another, are one list of events of one client, which `handover_law` speaks of.
+/// However a run of the program that was asked for a session, a merge or a showing ends, over a disk that shows what a
+/// stop of the client left, and of which a crash leaves such files: the client did nothing, and what a crash leaves is
+/// as before; or it started, and what its lines did, as `session_law` says, or its one call, are events of it behind
+/// those before the stop. So the runs over one journal, one after another, are one list of events of one client, which
+/// `handover_law` speaks of.
 pub fn run_law<D: Disk>()
-    ensures { RunGoesOn D.shows D.moment D.leaves D.faults }
+    ensures session { RunGoesOn D.shows D.moment D.leaves D.faults }
+    ensures command { CommandGoesOn D.shows D.moment D.leaves D.faults }
 {}

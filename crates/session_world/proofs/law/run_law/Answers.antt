@@ -1,5 +1,8 @@
-use Rattle.session_world.proofs.RunLemmas.{run_goes_on}
+use Rattle.session_world.proofs.RunLemmas.{command_goes_on, run_goes_on}
 use Rattle.session_world.proofs.law.run_law.Goals as goal
 
-pub returns : goal.returns
-returns g c = run_goes_on g.D.Disk.shows g.D.Disk.moment g.D.Disk.leaves g.D.Disk.faults
+pub returns-clause-session : goal.returns-clause-session
+returns-clause-session g c = run_goes_on g.D.Disk.shows g.D.Disk.moment g.D.Disk.leaves g.D.Disk.faults
+
+pub returns-clause-command : goal.returns-clause-command
+returns-clause-command g c = command_goes_on g.D.Disk.shows g.D.Disk.moment g.D.Disk.leaves g.D.Disk.faults
