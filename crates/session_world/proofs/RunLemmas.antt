@@ -25,7 +25,7 @@ use Rattle.session_run.specs.Ends.{Ends}
 use Rattle.validator_cli.specs.Endings.{Outside, RunEnds, bench_at, wires_of}
 use Rattle.session_world.specs.Events.{calls_of, session_events, turn_events}
 use Rattle.session_world.specs.Stopping.{StopsIn, StopsBehind}
-use Rattle.session_world.specs.Running.{Called, CommandGoesOn, LeftBy, RunGoesOn, Served, StaysSo, started}
+use Rattle.session_world.specs.Running.{Called, CommandGoesOn, Idle, LeftBy, RunGoesOn, Served, StaysSo, started}
 use Rattle.session_world.proofs.ListLemmas.{runs_both, over_both}
 use Rattle.session_world.proofs.EventLemmas.{calls_run, session_runs}
 use Rattle.session_world.proofs.StopLemmas.{calls_stop, later, past_stays, session_stops}
@@ -56,7 +56,7 @@ module _ {D : Type 0} (shows : D → List ℕ → Type 0) (moment : D → ℕ) (
   served : (noted : List DeskEvent) (ended : Status)
       → HadDesk shows moment leaves faults genesis watch disks_before disks_now noted (λ desk_before desk_now. Ends moment leaves faults (record { fork = fork; genesis = genesis }) (bench_at desk_before before) (bench_at desk_now now) (wires_of before.view) (wires_of now.view) ended)
       → shows disks_before.first file → (stop : StopsIn genesis client (no_state genesis) past file) → LeftBy leaves genesis client past disks_before.first (moment disks_before.first)
-      → Served moment leaves faults genesis fork watch before now ended client past file stop disks_before.first disks_now.first
+      → Served moment leaves faults genesis fork watch before now noted ended client past file stop disks_before.first disks_now.first
   served noted ended had visible stop left =
       let domains : Domains = record { fork = fork; genesis = genesis } in
       let first = bench_at had.opened before in
@@ -74,6 +74,7 @@ module _ {D : Type 0} (shows : D → List ℕ → Type 0) (moment : D → ℕ) (
       record {
         opened = had.opened;
         closed = had.ended;
+        noted_is = had.desk.noted;
         ends = had.ends;
         state = state;
         state_is = refl;
@@ -98,7 +99,7 @@ module _ {D : Type 0} (shows : D → List ℕ → Type 0) (moment : D → ℕ) (
   -- a desk was opened and called
   called : (noted : List DeskEvent) (opened ended : Seen D) (made : List (DeskCall × DeskReply)) → Opening shows moment leaves faults disks_before.first disks_before.second genesis false 0 opened → Path moment leaves faults opened made ended
       → DeskEnded moment leaves faults genesis disks_before disks_now ended noted → shows disks_before.first file → (stop : StopsIn genesis client (no_state genesis) past file) → LeftBy leaves genesis client past disks_before.first (moment disks_before.first)
-      → Called moment leaves faults genesis client past file stop disks_before.first disks_now.first
+      → Called moment leaves faults genesis noted client past file stop disks_before.first disks_now.first
   called noted opened ended made opening path desk visible stop left =
       let front = started genesis client past file stop false in
       let state = state_over (no_state genesis) front in
@@ -112,6 +113,7 @@ module _ {D : Type 0} (shows : D → List ℕ → Type 0) (moment : D → ℕ) (
       record {
         opened = opened;
         closed = ended;
+        noted_is = desk.noted;
         made = made;
         path = path;
         at_client = are.at_client;
@@ -140,18 +142,18 @@ merge_path moment leaves faults before now opened ended result (inr (inr one)) =
 module _ {D : Type 0} (shows : D → List ℕ → Type 0) (moment : D → ℕ) (leaves : D → ℕ → List ℕ → Type 0) (faults : D → ℕ) (genesis : Root) (journal : List ℕ) (disks_before disks_now : Disks D) (before now : Outside) (noted : List DeskEvent) (ended : Status)
     (client : ℕ) (past : List Event) (file : List ℕ) (visible : shows disks_before.first file) (stop : StopsIn genesis client (no_state genesis) past file) (left : LeftBy leaves genesis client past disks_before.first (moment disks_before.first)) where
   abbrev GoesOn : Type 0
-  GoesOn = StaysSo moment leaves genesis client past disks_before.first disks_now.first ⊎ Called moment leaves faults genesis client past file stop disks_before.first disks_now.first
+  GoesOn = Idle moment leaves genesis client past before now noted disks_before.first disks_now.first ⊎ Called moment leaves faults genesis noted client past file stop disks_before.first disks_now.first
 
   merged : RunEnds shows moment leaves faults (merge genesis journal) disks_before disks_now before now noted ended → GoesOn
-  merged (inr none) = inl (idle moment leaves genesis disks_before disks_now client past none.1.same left)
-  merged (inl (inl refused, unasked)) = inl (λ k low high c l. starts_keep moment leaves disks_before.first disks_now.first genesis refused.0.refused.moments client (no_state genesis) past left k c low high l)
+  merged (inr none) = inl (record { stays = idle moment leaves genesis disks_before disks_now client past none.1.same left; untouched = none.1.untouched; none = none.1.none })
+  merged (inl (inl refused, unasked)) = inl (record { stays = λ k low high c l. starts_keep moment leaves disks_before.first disks_now.first genesis refused.0.refused.moments client (no_state genesis) past left k c low high l; untouched = record { unread = refused.1; unasked = unasked }; none = refused.0.unnoted })
   merged (inl (inr had, unasked)) =
       let path = merge_path moment leaves faults before.view now.view had.opened had.ended ended had.ends.0 in
       inr (called shows moment leaves faults genesis disks_before disks_now client past file noted had.opened had.ended path.0 had.opening path.1 had.desk visible stop left)
 
   showed : RunEnds shows moment leaves faults (show genesis journal) disks_before disks_now before now noted ended → GoesOn
-  showed (inr none) = inl (idle moment leaves genesis disks_before disks_now client past none.1.same left)
-  showed (inl (inl refused, untouched)) = inl (λ k low high c l. starts_keep moment leaves disks_before.first disks_now.first genesis refused.refused.moments client (no_state genesis) past left k c low high l)
+  showed (inr none) = inl (record { stays = idle moment leaves genesis disks_before disks_now client past none.1.same left; untouched = none.1.untouched; none = none.1.none })
+  showed (inl (inl refused, untouched)) = inl (record { stays = λ k low high c l. starts_keep moment leaves disks_before.first disks_now.first genesis refused.refused.moments client (no_state genesis) past left k c low high l; untouched = untouched; none = refused.unnoted })
   showed (inl (inr had, untouched)) =
       inr (called shows moment leaves faults genesis disks_before disks_now client past file noted had.opened had.ended ((call.Keys, had.ends.0.reply_is) ∷ []) had.opening (had.ended, had.ends.0.called, refl) had.desk visible stop left)
 
@@ -170,8 +172,8 @@ pub run_goes_on : {D : Type 0} (shows : D → List ℕ → Type 0) (moment : D �
 run_goes_on shows moment leaves faults genesis journal fork signer_at watch disks_before disks_now before now noted ended ending client past file visible stop left =
     ⊎_elim
     (λ served_or_not. ⊎_elim
-    (λ refused. inl (λ k low high c l. starts_keep moment leaves disks_before.first disks_now.first genesis refused.0.refused.moments client (no_state genesis) past left k c low high l))
+    (λ refused. inl (record { stays = λ k low high c l. starts_keep moment leaves disks_before.first disks_now.first genesis refused.0.refused.moments client (no_state genesis) past left k c low high l; untouched = refused.1; none = refused.0.unnoted }))
     (λ had. inr (served shows moment leaves faults genesis fork watch disks_before disks_now before now client past file noted ended had visible stop left))
     served_or_not)
-    (λ none. inl (idle moment leaves genesis disks_before disks_now client past none.1.same left))
+    (λ none. inl (record { stays = idle moment leaves genesis disks_before disks_now client past none.1.same left; untouched = none.1.untouched; none = none.1.none }))
     ending

@@ -20,7 +20,7 @@ use Rattle.session_run.specs.Acts.{AtBench}
 use Rattle.session_run.specs.Ends.{Ends}
 use Rattle.session_run.specs.Runs.{Run}
 use Rattle.session_run.specs.Turns.{Turn, moment_after, sent}
-use Rattle.validator_cli.specs.Endings.{Outside, RunEnds, bench_at, wires_of}
+use Rattle.validator_cli.specs.Endings.{IsUntouched, Outside, RunEnds, bench_at, wires_of}
 use Rattle.session_world.specs.Events.{calls_of, session_events, turn_events}
 use Rattle.session_world.specs.Stopping.{StopsIn, StopsBehind}
 
@@ -32,18 +32,25 @@ started genesis client past file stop watch = stop.front ++ Crash client stop.wi
 abbrev pub LeftBy : {D : Type 0} → (D → ℕ → List ℕ → Type 0) → Root → ℕ → List Event → D → ℕ → Type 0
 LeftBy leaves genesis client events disk k = (file : List ℕ) → leaves disk k file → StopsIn genesis client (no_state genesis) events file
 
--- no desk was opened: the client did nothing, and a crash at any moment leaves what such a stop leaves
+-- a crash at any moment leaves what such a stop leaves
 abbrev pub StaysSo : {D : Type 0} → (D → ℕ) → (D → ℕ → List ℕ → Type 0) → Root → ℕ → List Event → D → D → Type 0
 StaysSo moment leaves genesis client past first now = (k : ℕ) → moment first ≤ k → k ≤ moment now → LeftBy leaves genesis client past now k
+
+-- no desk was opened: the client did nothing, and nothing was read, asked or noted; and a crash leaves what one before would have left
+pub record Idle {D : Type 0} (moment : D → ℕ) (leaves : D → ℕ → List ℕ → Type 0) (genesis : Root) (client : ℕ) (past : List Event) (before now : Outside) (noted : List DeskEvent) (first last : D) : Type 0 where
+  pub stays : StaysSo moment leaves genesis client past first last
+  pub untouched : IsUntouched before now
+  pub none : noted ≡ []
 
 -- A desk was opened, and lines were served: what they did are events of the client that may happen behind its start, in the state
 -- that the start left; so much is sent; and in the end the desk stands for the state after them. A crash up to the opening's end
 -- leaves what a stop before the start leaves; and one later, what a stop leaves behind the start and all events of the lines that were
 -- over by then, as the disk stood behind them.
-pub record Served {D : Type 0} (moment : D → ℕ) (leaves : D → ℕ → List ℕ → Type 0) (faults : D → ℕ) (genesis : Root) (fork : Fork) (watch : Bool) (before now : Outside) (ended : Status) (client : ℕ) (past : List Event) (file : List ℕ)
+pub record Served {D : Type 0} (moment : D → ℕ) (leaves : D → ℕ → List ℕ → Type 0) (faults : D → ℕ) (genesis : Root) (fork : Fork) (watch : Bool) (before now : Outside) (noted : List DeskEvent) (ended : Status) (client : ℕ) (past : List Event) (file : List ℕ)
     (stop : StopsIn genesis client (no_state genesis) past file) (first last : D) : Type 0 where
   pub opened : Seen D
   pub closed : Seen D
+  pub noted_is : noted ≡ closed.contents.events
   pub ends : Ends moment leaves faults (record { fork = fork; genesis = genesis }) (bench_at opened before) (bench_at closed now) (wires_of before.view) (wires_of now.view) ended
   pub state : State
   pub state_is : state ≡ state_over (no_state genesis) (started genesis client past file stop watch)
@@ -65,14 +72,15 @@ abbrev pub RunGoesOn : {D : Type 0} → (D → List ℕ → Type 0) → (D → �
 RunGoesOn {D} shows moment leaves faults = (genesis : Root) (journal : Option (List ℕ)) (fork : Fork) (signer_at : Option Service) (watch : Bool) (disks_before disks_now : Disks D) (before now : Outside) (noted : List DeskEvent) (ended : Status)
     → RunEnds shows moment leaves faults (session genesis journal fork signer_at watch) disks_before disks_now before now noted ended
     → (client : ℕ) (past : List Event) (file : List ℕ) → shows disks_before.first file → (stop : StopsIn genesis client (no_state genesis) past file) → LeftBy leaves genesis client past disks_before.first (moment disks_before.first)
-    → StaysSo moment leaves genesis client past disks_before.first disks_now.first
-    ⊎ Served moment leaves faults genesis fork watch before now ended client past file stop disks_before.first disks_now.first
+    → Idle moment leaves genesis client past before now noted disks_before.first disks_now.first
+    ⊎ Served moment leaves faults genesis fork watch before now noted ended client past file stop disks_before.first disks_now.first
 
 -- A desk was opened, its keys not watched, and these calls were made of it, under which nothing is sent: they are events of the client,
 -- likewise.
-pub record Called {D : Type 0} (moment : D → ℕ) (leaves : D → ℕ → List ℕ → Type 0) (faults : D → ℕ) (genesis : Root) (client : ℕ) (past : List Event) (file : List ℕ) (stop : StopsIn genesis client (no_state genesis) past file) (first last : D) : Type 0 where
+pub record Called {D : Type 0} (moment : D → ℕ) (leaves : D → ℕ → List ℕ → Type 0) (faults : D → ℕ) (genesis : Root) (noted : List DeskEvent) (client : ℕ) (past : List Event) (file : List ℕ) (stop : StopsIn genesis client (no_state genesis) past file) (first last : D) : Type 0 where
   pub opened : Seen D
   pub closed : Seen D
+  pub noted_is : noted ≡ closed.contents.events
   pub made : List (DeskCall × DeskReply)
   pub path : Path moment leaves faults opened made closed
   pub at_client : own client (calls_of client made) ≡ calls_of client made
@@ -95,5 +103,5 @@ abbrev pub CommandGoesOn : {D : Type 0} → (D → List ℕ → Type 0) → (D �
 CommandGoesOn {D} shows moment leaves faults = (genesis : Root) (asked : Asked) → IsOfChain genesis asked → (disks_before disks_now : Disks D) (before now : Outside) (noted : List DeskEvent) (ended : Status)
     → RunEnds shows moment leaves faults asked disks_before disks_now before now noted ended
     → (client : ℕ) (past : List Event) (file : List ℕ) → shows disks_before.first file → (stop : StopsIn genesis client (no_state genesis) past file) → LeftBy leaves genesis client past disks_before.first (moment disks_before.first)
-    → StaysSo moment leaves genesis client past disks_before.first disks_now.first
-    ⊎ Called moment leaves faults genesis client past file stop disks_before.first disks_now.first
+    → Idle moment leaves genesis client past before now noted disks_before.first disks_now.first
+    ⊎ Called moment leaves faults genesis noted client past file stop disks_before.first disks_now.first
