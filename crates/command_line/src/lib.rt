@@ -12,6 +12,3 @@ mod words;
 pub use path_text::PathText;
 pub use planned::{Plan, ShownText, Usage};
 pub use words::plan;
-
-#[cfg(test)]
-mod tests;

@@ -8,6 +8,3 @@ mod watch;
 
 pub use laws::watch_law;
 pub use watch::{MOMENT_LIMIT, Watch, WatchState};
-
-#[cfg(test)]
-mod tests;

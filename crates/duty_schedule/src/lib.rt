@@ -15,6 +15,3 @@ pub use law::schedule_law;
 pub use rows::{Duty, DutyRows, Taken};
 pub use schedule::Schedule;
 pub use slots::{BeforeGenesis, slot_at};
-
-#[cfg(test)]
-mod tests;

@@ -8,6 +8,3 @@ mod system_clock;
 pub use clock::Clock;
 pub use mem_clock::{Delay, MemClock};
 pub use system_clock::SystemClock;
-
-#[cfg(test)]
-mod tests;

@@ -5,6 +5,3 @@ mod calls;
 mod request;
 
 pub use calls::call;
-
-#[cfg(test)]
-mod tests;

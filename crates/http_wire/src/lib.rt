@@ -26,6 +26,3 @@ pub use message::{Request, Response, WireFault};
 pub use read::read_request;
 pub use response::read_response;
 pub use write::{write_request, write_response};
-
-#[cfg(test)]
-mod tests;

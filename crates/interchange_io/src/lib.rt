@@ -22,6 +22,3 @@ pub use laws::{files_list_once, united_books, written_order};
 pub use member::Member;
 pub use reading::{FILE_LIMIT, read};
 pub use writing::{write, write_text};
-
-#[cfg(test)]
-mod tests;

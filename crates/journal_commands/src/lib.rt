@@ -1,13 +1,9 @@
 //! Commands on a journal: a file that is merged into it, and what is written of each of its keys.
 #![tactic(auto)]
 
-#[cfg(test)]
-mod command_tests;
 mod keys;
 mod merge;
 mod showing;
-#[cfg(test)]
-mod tests;
 mod unopened;
 mod whole;
 

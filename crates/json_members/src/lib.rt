@@ -4,6 +4,3 @@
 mod members;
 
 pub use members::{bytes_in, flag_in, items_in, json_of, number_in, text_in};
-
-#[cfg(test)]
-mod tests;

@@ -4,8 +4,6 @@
 mod entries;
 mod laws;
 mod snapshot;
-#[cfg(test)]
-mod tests;
 
 pub use laws::{batches_law, restoring_law};
 pub use snapshot::snapshot_batches;

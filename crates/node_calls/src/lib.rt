@@ -17,6 +17,3 @@ pub use mem_node::MemNode;
 pub use node::Node;
 pub use post::{Post, aggregation_bits};
 pub use told::{NodeCall, PostCall};
-
-#[cfg(test)]
-mod tests;

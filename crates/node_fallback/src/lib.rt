@@ -9,6 +9,3 @@ mod one_node;
 pub use laws::first_answer_law;
 pub use no_node::{Cause, NoAnswer};
 pub use nodes::Nodes;
-
-#[cfg(test)]
-mod tests;

@@ -10,6 +10,3 @@ pub use block::{BeaconBlock, BeaconBlockBody};
 pub use operation::{AttesterSlashing, Deposit, DepositData, ProposerSlashing, VoluntaryExit};
 pub use signed::{Signed, SignedBeaconBlock, SignedBeaconBlockHeader, SignedVoluntaryExit};
 pub use vote::{Attestation, IndexedAttestation};
-
-#[cfg(test)]
-mod tests;

@@ -20,6 +20,3 @@ pub use header::{BeaconBlockHeader, Eth1Data};
 pub use list::BoundedList;
 pub use member::Member;
 pub use shaped::{Container, ReadResult, Shaped, container_root, read_member};
-
-#[cfg(test)]
-mod tests;

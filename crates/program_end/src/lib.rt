@@ -12,6 +12,3 @@ pub use file_refusal::FileRefusal;
 pub use limit::{FILE_LIMIT, INPUT_LIMIT, KEY_LIMIT, LINE_LIMIT, Limit};
 pub use status::Status;
 pub use write::{close, finish, write_all};
-
-#[cfg(test)]
-mod tests;

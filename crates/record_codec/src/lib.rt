@@ -8,6 +8,3 @@ mod writing;
 pub use item::{BadAt, JournalItem};
 pub use reading::{check_batch, decode};
 pub use writing::encode;
-
-#[cfg(test)]
-mod tests;

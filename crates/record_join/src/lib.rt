@@ -11,8 +11,6 @@ mod limit;
 mod merge;
 mod message;
 mod room;
-#[cfg(test)]
-mod tests;
 
 pub use books::{Books, Fresh, Keys};
 pub use fault::{BeginFault, MergeFault};

@@ -13,6 +13,3 @@ pub use journal::Journal;
 pub use law::journal_law;
 pub use log::AppendFault;
 pub use open::OpenFault;
-
-#[cfg(test)]
-mod tests;

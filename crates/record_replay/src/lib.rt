@@ -8,8 +8,6 @@ mod key_history;
 mod laws;
 mod payloads;
 mod state;
-#[cfg(test)]
-mod tests;
 
 pub use batches::{book_items, file_items, message_item};
 pub use fault::ReplayFault;

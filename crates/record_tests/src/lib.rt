@@ -2,4 +2,14 @@
 #![tactic(auto)]
 
 #[cfg(test)]
+mod batches;
+#[cfg(test)]
+mod joins;
+#[cfg(test)]
+mod journals;
+#[cfg(test)]
 mod records;
+#[cfg(test)]
+mod replays;
+#[cfg(test)]
+mod snapshots;

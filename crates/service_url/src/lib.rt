@@ -5,6 +5,3 @@ mod ends;
 mod service;
 
 pub use service::ServiceUrl;
-
-#[cfg(test)]
-mod tests;

@@ -16,6 +16,3 @@ pub use cause::Cause;
 pub use member::Member;
 pub use reading::read_request;
 pub use request::{Keys, Op, Request};
-
-#[cfg(test)]
-mod tests;

@@ -10,6 +10,3 @@ pub use domains::Domains;
 pub use kind::DomainKind;
 pub use phase0_types::Fork;
 pub use signing::signing_root;
-
-#[cfg(test)]
-mod tests;

@@ -11,6 +11,3 @@ pub use chunks::Chunks;
 pub use hashing::{mix_length, number_root};
 pub use packing::{pack, pack_bits};
 pub use tree::{TooLong, bits_root, bytes_root, chunks_root, merkleize, numbers_root};
-
-#[cfg(test)]
-mod tests;

@@ -1,4 +1,4 @@
-use super::*;
+use service_url::ServiceUrl;
 use std::alloc::Global;
 use std::test::Fail;
 

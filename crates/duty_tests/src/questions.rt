@@ -1,5 +1,5 @@
-use super::*;
 use edge_kit::{Items, PubKey, Root};
+use node_calls::{Answer, Ask, AttesterRow, ProposerRow, aggregation_bits};
 use std::alloc::Global;
 use std::test::Fail;
 

@@ -1,6 +1,6 @@
 //! Lines of keys, and inputs that are read whole.
-use crate::{WholeFault, key_line, read_whole};
 use edge_kit::{MemSource, PubKey};
+use journal_commands::{WholeFault, key_line, read_whole};
 use protect_record::{Floors, Record};
 use record_replay::KeyState;
 use slash_defs::{BlockEntry, VoteEntry};

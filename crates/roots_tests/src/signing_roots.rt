@@ -1,7 +1,7 @@
 //! Domains and signing roots against those that another program computed.
-use crate::{DomainKind, Domains, Fork};
 use edge_kit::{Root, read_hex};
 use phase0_types::{AttestationData, BeaconBlockHeader, Checkpoint};
+use sign_roots::{DomainKind, Domains, Fork};
 use std::process::Abort;
 
 /// The 32 bytes that a text of 64 hex digits writes.

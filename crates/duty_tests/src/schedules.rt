@@ -1,4 +1,4 @@
-use super::*;
+use duty_schedule::{BeforeGenesis, Duty, DutyRows, Schedule, Taken, check_data, slot_at};
 use edge_kit::{Items, PubKey, Root};
 use node_calls::{AttesterRow, ProposerRow};
 use phase0_types::{AttestationData, Checkpoint};

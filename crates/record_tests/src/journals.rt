@@ -1,6 +1,6 @@
-use super::*;
 use edge_kit::{Crash, MemDisk, PubKey, Root};
 use record_codec::{JournalItem, encode};
+use record_journal::{Journal, OpenFault};
 use std::alloc::{AllocError, Global};
 use std::test::Fail;
 

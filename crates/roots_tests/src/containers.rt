@@ -1,8 +1,8 @@
 //! Roots against those that another program computed, and JSON with faults.
-use crate::{
+use edge_kit::{Root, read_hex};
+use phase0_types::{
     BeaconBlockHeader, Checkpoint, Eth1Data, Fork, ForkData, Member, ReadFault, Shaped, SigningData,
 };
-use edge_kit::{Root, read_hex};
 use serde_json::Value;
 use std::process::Abort;
 use std::test::Fail;

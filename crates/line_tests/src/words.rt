@@ -1,5 +1,5 @@
 //! Command lines, and what they come to.
-use crate::{Plan, Usage, plan};
+use command_line::{Plan, Usage, plan};
 use edge_kit::Root;
 use phase0_types::Fork;
 use std::alloc::{AllocError, Global};

@@ -1,7 +1,7 @@
 //! Closing lines and their bytes.
-use crate::{ClosingLine, FileRefusal, Limit, close, finish};
 use edge_kit::{MemSink, Root};
 use interchange_io::{Member, ReadFault, VersionText};
+use program_end::{ClosingLine, FileRefusal, Limit, close, finish};
 use std::alloc::{AllocError, Global};
 use std::test::Fail;
 

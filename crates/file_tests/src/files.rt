@@ -1,7 +1,7 @@
 //! Texts and what becomes of them: the written text of the file that was read, or the refusal. A longer list of
 //! texts is the input of the program `interchange_bench`.
-use crate::{FILE_LIMIT, ReadFault, in_written_order, read, write};
 use edge_kit::{Items, PubKey, Root};
+use interchange_io::{FILE_LIMIT, ReadFault, in_written_order, read, write};
 use slash_defs::{BlockEntry, Book, File};
 use std::alloc::{AllocError, Global};
 use std::test::Fail;

@@ -2,10 +2,10 @@
 ghost use Rattle.std.specs.Prelude.{◌≡◌, true};
 ghost use Rattle.record_codec.specs.Spelling.{is_record};
 
-use crate::{KeyState, Replayed, book_items, replay};
 use edge_kit::{Items, PubKey, Root};
 use protect_record::{Floors, Record};
 use record_codec::{JournalItem, encode};
+use record_replay::{KeyState, Replayed, book_items, replay};
 use slash_defs::{BlockEntry, Book, Entry, VoteEntry};
 use std::alloc::{AllocError, Global};
 use std::test::Fail;

@@ -1,6 +1,6 @@
 //! How many items the batches of a key have.
-use crate::snapshot_batches;
 use edge_kit::PubKey;
+use key_snapshot::snapshot_batches;
 use protect_record::{Floors, Record};
 use record_replay::KeyState;
 use slash_defs::{BlockEntry, VoteEntry};

@@ -1,7 +1,7 @@
 //! The commands over disks in memory.
-use crate::{run_merge, run_show};
 use command_line::{PathText, Plan};
 use edge_kit::{Disks, MemDisk, MemSink, MemSource, Root};
+use journal_commands::{run_merge, run_show};
 use program_end::Status;
 use std::alloc::Global;
 use std::test::Fail;

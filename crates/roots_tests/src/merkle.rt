@@ -1,6 +1,6 @@
 //! Roots against those that another program computed.
-use crate::{TooLong, bits_root, merkleize, mix_length, pack};
 use edge_kit::{Root, read_hex};
+use ssz_roots::{TooLong, bits_root, merkleize, mix_length, pack};
 use std::process::Abort;
 use std::test::Fail;
 

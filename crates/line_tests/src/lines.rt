@@ -1,8 +1,8 @@
 //! Lines and their requests, and answers and their lines.
-use crate::{Answer, Cause, Member, Op, read_request};
 use edge_kit::{Items, PubKey, Root, Sig};
 use interchange_io::{ReadFault, VersionText};
 use protect_record::Verdict;
+use session_format::{Answer, Cause, Member, Op, read_request};
 use sign_roots::{Domains, Fork};
 use signer_link::SignObject;
 use slash_defs::{BlockEntry, Book, File, Message, VoteEntry};

@@ -1,5 +1,5 @@
 //! Clocks in memory, and the system's.
-use crate::{Clock, Delay, MemClock, SystemClock};
+use edge_clock::{Clock, Delay, MemClock, SystemClock};
 use std::test::Fail;
 
 /// The delays of a clock, what a wait is for, and when it is over.

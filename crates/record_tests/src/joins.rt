@@ -2,9 +2,9 @@
 ghost use Rattle.std.specs.Prelude.{IfOk};
 ghost use Rattle.record_join.specs.BooksPasts.{EachOnce};
 
-use crate::{BeginFault, Books, Judged, KEY_LIMIT, MergeFault};
 use edge_kit::{Items, PubKey, Root};
 use protect_record::{Record, Verdict};
+use record_join::{BeginFault, Books, Judged, KEY_LIMIT, MergeFault};
 use slash_defs::{BlockEntry, Book, File, Message, VoteEntry};
 use std::alloc::{AllocError, Global};
 use std::test::Fail;

@@ -1,6 +1,6 @@
-use super::*;
 use edge_kit::{Items, PubKey, Root, Sig};
 use node_calls::{Answer, Ask, MemNode, NodeCall, Post, aggregation_bits};
+use node_fallback::{Cause, NoAnswer, Nodes};
 use phase0_blocks::Attestation;
 use phase0_types::{AttestationData, Checkpoint};
 use slash_defs::{Granted, Message};

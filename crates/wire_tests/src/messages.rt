@@ -1,11 +1,11 @@
 //! Messages that are read and written over a link.
 ghost use Rattle.std.specs.Prelude.{None};
 
-use crate::{
-    Field, Request, Response, WireFault, read_request, read_response, write_request, write_response,
-};
 use edge_kit::{Failed, Link, MemLink};
 use http::Method;
+use http_wire::{
+    Field, Request, Response, WireFault, read_request, read_response, write_request, write_response,
+};
 use std::alloc::{AllocError, Global};
 use std::test::Fail;
 

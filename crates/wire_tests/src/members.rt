@@ -1,4 +1,4 @@
-use super::*;
+use json_members::{bytes_in, flag_in, items_in, json_of, number_in, text_in};
 use std::alloc::Global;
 use std::test::Fail;
 

@@ -1,9 +1,9 @@
 //! Roots against those that another program computed, and bit lists as texts.
-use crate::{
+use edge_kit::{PubKey, Root, Sig, read_hex};
+use phase0_blocks::{
     Attestation, AttesterSlashing, BeaconBlock, BeaconBlockBody, Deposit, DepositData,
     IndexedAttestation, ProposerSlashing, Signed, SignedBeaconBlock, VoluntaryExit,
 };
-use edge_kit::{PubKey, Root, Sig, read_hex};
 use phase0_types::{
     AttestationData, BeaconBlockHeader, BoundedList, Checkpoint, Eth1Data, Member, ReadFault,
     Shaped,

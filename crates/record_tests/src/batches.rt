@@ -1,5 +1,5 @@
-use super::*;
 use edge_kit::{PubKey, Root};
+use record_codec::{BadAt, JournalItem, check_batch, decode, encode};
 use slash_defs::{BlockEntry, VoteEntry};
 use std::alloc::{AllocError, Global};
 use std::process::Abort;

@@ -1,7 +1,7 @@
 //! Calls over a link in memory.
-use crate::call;
 use edge_kit::MemLink;
 use http::Method;
+use http_call::call;
 use service_url::ServiceUrl;
 use std::alloc::Global;
 use std::test::Fail;

@@ -1,4 +1,4 @@
-use crate::{Watch, WatchState};
+use doppel_watch::{Watch, WatchState};
 
 /// What is told of an epoch: whether the key was live, and the moment.
 type Told = (u8, bool, u8);
