@@ -45,7 +45,7 @@ use Rattle.key_custody.specs.declared.status.KeyStatus.TheVariants as status
 use Rattle.key_custody.specs.declared.delete.Deletion.{Deletion}
 use Rattle.key_custody.specs.Statuses.{is_handed, handed_keys}
 use Rattle.key_custody.specs.Replies.{replied_of}
-use Rattle.key_custody.specs.Custody.{CustodyCall, CustodyReply, CustodyStep, Calls, Replies, ClosedBy, Imported, Deleted, Fits, step_calls, step_told, desk_calls, told_in}
+use Rattle.client_calls.specs.Steps.{ClientCall, ClientReply, ClientStep, Calls, Replies, ClosedBy, Signed, Imported, Deleted, Fits, step_calls, step_told, desk_calls, told_in}
 use Rattle.key_custody.specs.Plans.{said_in, closing_plan, delete_plan, statuses_plan, exported_plan, export_plan, deletion_plan}
 use Rattle.key_custody.specs.Once.{MachineRun, Moves, IsWhole, AreFine, DeletesOnce}
 use Rattle.key_custody.proofs.RestLemmas.{AtRest, RestsIn, RestsTorn, Rests, not_active, not_closing, rests_between, PastTorn, past_between, genesis_between}
@@ -129,12 +129,12 @@ kept_same c keys k b s statuses e f same =
     ap (λ t. cond t (k ∷ handed_keys keys statuses) (handed_keys keys statuses)) (e ∙ sym f) ∙ ap (λ l. cond (is_some (past_of c k)) (k ∷ l) l) same
 
 -- what a deletion does where each key is at rest: nothing
-pub record Again (asked : List PubKey) (c d : State) (steps : List CustodyStep) (got : List KeyStatus) (v : Option (List KeyStatus)) : Type 0 where
+pub record Again (asked : List PubKey) (c d : State) (steps : List ClientStep) (got : List KeyStatus) (v : Option (List KeyStatus)) : Type 0 where
   pub same : d ≡ c
   pub told : told_in steps ≡ []
   pub handed : IfSome v (λ all. (statuses : List KeyStatus) × (all ≡ got ++ statuses) × (handed_keys asked statuses ≡ kept_keys c asked))
 
-again_more : (k : PubKey) (keys : List PubKey) (c d : State) (r : DeskReply) (steps : List CustodyStep) (got : List KeyStatus) (v : Option (List KeyStatus)) (s : KeyStatus)
+again_more : (k : PubKey) (keys : List PubKey) (c d : State) (r : DeskReply) (steps : List ClientStep) (got : List KeyStatus) (v : Option (List KeyStatus)) (s : KeyStatus)
     → is_handed s ≡ is_some (past_of c k) → Again keys c d steps (got ++ s ∷ []) v → Again (k ∷ keys) c d ((Calls (call.BeginClose k), Replies r) ∷ steps) got v
 again_more k keys c d r steps got v s e a = record {
   same = a.same;
@@ -146,7 +146,7 @@ again_more k keys c d r steps got v s e a = record {
   at None h = h
   at (Some all) h = (s ∷ h.0, h.1 ∙ append_assoc got (s ∷ []) h.0, kept_same c keys k (is_some (past_of c k)) s h.0 e refl h.2)
 
-begun_again : (k : PubKey) (keys : List PubKey) (c m d : State) (r : DeskReply) (steps : List CustodyStep) (got : List KeyStatus) (v : Option (List KeyStatus))
+begun_again : (k : PubKey) (keys : List PubKey) (c m d : State) (r : DeskReply) (steps : List ClientStep) (got : List KeyStatus) (v : Option (List KeyStatus))
     → RestsIn k c.states → IsKind (call.BeginClose k) r
     → Follows Fits (bind (closing_plan k (replied_of r)) (λ s. each_plan delete_plan (got ++ s ∷ []) keys)) steps v → Moves c (call.BeginClose k, r) m
     → ((s : KeyStatus) → Follows Fits (each_plan delete_plan (got ++ s ∷ []) keys) steps v → m ≡ c → Again keys c d steps (got ++ s ∷ []) v)
@@ -159,7 +159,7 @@ begun_again k keys c m d reply.CloseBegun steps got v rests kind f moves on = no
 begun_again k keys c m d reply.AlreadyClosing steps got v rests kind f moves on = not_closing k c.states rests moves.0.1
 begun_again k keys c m d r steps got v rests kind f moves on = absurd kind
 
-again_each : (keys : List PubKey) (c d : State) (steps : List CustodyStep) (got : List KeyStatus) (v : Option (List KeyStatus)) → ((k : PubKey) → Contains keys k → RestsIn k c.states)
+again_each : (keys : List PubKey) (c d : State) (steps : List ClientStep) (got : List KeyStatus) (v : Option (List KeyStatus)) → ((k : PubKey) → Contains keys k → RestsIn k c.states)
     → Follows Fits (each_plan delete_plan got keys) steps v → MachineRun c (desk_calls steps) d → Again keys c d steps got v
 again_each [] c d [] got (Some all) rest f p = record { same = p; told = refl; handed = ([], f ∙ sym (append-nil got), refl) }
 again_each [] c d [] got None rest f p = record { same = p; told = refl; handed = tt }
@@ -167,16 +167,17 @@ again_each [] c d (x ∷ xs) got v rest f p = absurd f
 again_each (k ∷ keys) c d [] got (Some all) rest f p = absurd f
 again_each (k ∷ keys) c d [] got None rest f p = record { same = p; told = refl; handed = tt }
 again_each (k ∷ keys) c d (x ∷ xs) got v rest f p =
-    let P : CustodyCall → Type 0 = λ q. Again (k ∷ keys) c d ((q, x.1) ∷ xs) got v in
-    subst P (sym f.0) (at x.1 f.1 f.2 (subst (λ (q : CustodyCall). MachineRun c (step_calls (q, x.1) ++ desk_calls xs) d) f.0 p)
+    let P : ClientCall → Type 0 = λ q. Again (k ∷ keys) c d ((q, x.1) ∷ xs) got v in
+    subst P (sym f.0) (at x.1 f.1 f.2 (subst (λ (q : ClientCall). MachineRun c (step_calls (q, x.1) ++ desk_calls xs) d) f.0 p)
     (λ s h run. again_each keys c d xs (got ++ s ∷ []) v (λ z has. rest z (contains_later k keys z has)) h run)) where
-      at : (y : CustodyReply) → Fits (Calls (call.BeginClose k)) y → Follows Fits (bind (closing_plan k (said_in y)) (λ s. each_plan delete_plan (got ++ s ∷ []) keys)) xs v
+      at : (y : ClientReply) → Fits (Calls (call.BeginClose k)) y → Follows Fits (bind (closing_plan k (said_in y)) (λ s. each_plan delete_plan (got ++ s ∷ []) keys)) xs v
           → MachineRun c (step_calls (Calls (call.BeginClose k), y) ++ desk_calls xs) d
           → ((s : KeyStatus) → Follows Fits (each_plan delete_plan (got ++ s ∷ []) keys) xs v → MachineRun c (desk_calls xs) d → Again keys c d xs (got ++ s ∷ []) v)
           → Again (k ∷ keys) c d ((Calls (call.BeginClose k), y) ∷ xs) got v
       at (Replies r) fits g q on =
           begun_again k keys c q.0 d r xs got v (rest k (contains_first k keys)) fits g q.1 (λ s h same. on s h (subst (λ (m : State). MachineRun m (desk_calls xs) d) same q.2))
       at (ClosedBy made r) fits g q on = absurd fits
+      at (Signed r) fits g q on = absurd fits
       at (Imported r) fits g q on = absurd fits
       at (Deleted r) fits g q on = absurd fits
 
@@ -230,12 +231,12 @@ same_kept {X} (x ∷ xs) (y ∷ ys) s t same = at (key_cmp x.0 y.0) refl (same_k
       ap (λ z. z ∷ xs) one ∙ ap (λ l. y ∷ l) (rest (tails key))
 
 -- what is handed out: the last step of a deletion
-pub record Handed (a d : State) (asked : List PubKey) (steps : List CustodyStep) (statuses : List KeyStatus) (v : Option Deletion) : Type 0 where
+pub record Handed (a d : State) (asked : List PubKey) (steps : List ClientStep) (statuses : List KeyStatus) (v : Option Deletion) : Type 0 where
   pub same : d ≡ a
   pub told : told_in steps ≡ []
   pub file : IfSome v (λ x. (x.statuses ≡ statuses) × (x.file.genesis ≡ a.genesis) × Exports a.keys asked x.file.books)
 
-export_end : (a m d : State) (asked : List PubKey) (statuses : List KeyStatus) (r : DeskReply) (last : List CustodyStep) (v : Option Deletion) → IsKind (call.Export asked) r
+export_end : (a m d : State) (asked : List PubKey) (statuses : List KeyStatus) (r : DeskReply) (last : List ClientStep) (v : Option Deletion) → IsKind (call.Export asked) r
     → Follows Fits (exported_plan statuses (replied_of r)) last v → Moves a (call.Export asked, r) m → MachineRun m (desk_calls last) d → Handed a d asked ((Calls (call.Export asked), Replies r) ∷ last) statuses v
 export_end a m d asked statuses (reply.Exported file) [] (Some x) kind f moves p = record {
   same = p ∙ moves.1;
@@ -253,17 +254,18 @@ export_end a m d asked statuses reply.OutOfMemory [] None kind f moves p = recor
 export_end a m d asked statuses reply.OutOfMemory (x ∷ xs) v kind f moves p = absurd f
 export_end a m d asked statuses r last v kind f moves p = absurd kind
 
-pub export_run : (a d : State) (keys : List PubKey) (statuses : List KeyStatus) (steps : List CustodyStep) (v : Option Deletion) → Follows Fits (export_plan keys statuses) steps v → MachineRun a (desk_calls steps) d
+pub export_run : (a d : State) (keys : List PubKey) (statuses : List KeyStatus) (steps : List ClientStep) (v : Option Deletion) → Follows Fits (export_plan keys statuses) steps v → MachineRun a (desk_calls steps) d
     → Handed a d (handed_keys keys statuses) steps statuses v
 export_run a d keys statuses [] (Some x) f p = absurd f
 export_run a d keys statuses [] None f p = record { same = p; told = refl; file = tt }
 export_run a d keys statuses (x ∷ xs) v f p =
-    let P : CustodyCall → Type 0 = λ q. Handed a d (handed_keys keys statuses) ((q, x.1) ∷ xs) statuses v in
-    subst P (sym f.0) (at x.1 f.1 f.2 (subst (λ (q : CustodyCall). MachineRun a (step_calls (q, x.1) ++ desk_calls xs) d) f.0 p)) where
-      at : (y : CustodyReply) → Fits (Calls (call.Export (handed_keys keys statuses))) y → Follows Fits (exported_plan statuses (said_in y)) xs v
+    let P : ClientCall → Type 0 = λ q. Handed a d (handed_keys keys statuses) ((q, x.1) ∷ xs) statuses v in
+    subst P (sym f.0) (at x.1 f.1 f.2 (subst (λ (q : ClientCall). MachineRun a (step_calls (q, x.1) ++ desk_calls xs) d) f.0 p)) where
+      at : (y : ClientReply) → Fits (Calls (call.Export (handed_keys keys statuses))) y → Follows Fits (exported_plan statuses (said_in y)) xs v
           → MachineRun a (step_calls (Calls (call.Export (handed_keys keys statuses)), y) ++ desk_calls xs) d → Handed a d (handed_keys keys statuses) ((Calls (call.Export (handed_keys keys statuses)), y) ∷ xs) statuses v
       at (Replies r) fits g q = export_end a q.0 d (handed_keys keys statuses) statuses r xs v fits g q.1 q.2
       at (ClosedBy made r) fits g q = absurd fits
+      at (Signed r) fits g q = absurd fits
       at (Imported r) fits g q = absurd fits
       at (Deleted r) fits g q = absurd fits
 
@@ -274,10 +276,10 @@ filter_on p q [] same = refl
 filter_on p q (k ∷ keys) same =
     ap (λ b. cond b (k ∷ filter p keys) (filter p keys)) (same k (contains_first k keys)) ∙ ap (λ l. cond (q k) (k ∷ l) l) (filter_on p q keys (λ x h. same x (contains_later k keys x h)))
 
-pub told_on : (xs ys : List CustodyStep) → told_in xs ≡ [] → told_in ys ≡ [] → told_in (xs ++ ys) ≡ []
+pub told_on : (xs ys : List ClientStep) → told_in xs ≡ [] → told_in ys ≡ [] → told_in (xs ++ ys) ≡ []
 told_on xs ys e f = flat_map_on step_told xs ys ∙ ap (λ l. l ++ told_in ys) e ∙ f
 
-pub calls_on : (steps xs ys : List CustodyStep) → steps ≡ xs ++ ys → desk_calls steps ≡ desk_calls xs ++ desk_calls ys
+pub calls_on : (steps xs ys : List ClientStep) → steps ≡ xs ++ ys → desk_calls steps ≡ desk_calls xs ++ desk_calls ys
 calls_on steps xs ys e = ap (λ l. flat_map step_calls l) e ∙ flat_map_on step_calls xs ys
 
 -- the first deletion: each key is at rest, and what it handed out is what is exported of the kept ones
@@ -288,7 +290,7 @@ pub record FirstDone (keys : List PubKey) (a b : State) (deletion : Deletion) : 
   pub genesis : deletion.file.genesis ≡ b.genesis
   pub books : Exports b.keys (kept_keys b keys) deletion.file.books
 
-first_done : (keys : List PubKey) (a b : State) (first : List CustodyStep) (deletion : Deletion) → IsWhole a → a.torn ≡ None → MachineRun a (desk_calls first) b → Follows Fits (deletion_plan keys) first (Some deletion)
+first_done : (keys : List PubKey) (a b : State) (first : List ClientStep) (deletion : Deletion) → IsWhole a → a.torn ≡ None → MachineRun a (desk_calls first) b → Follows Fits (deletion_plan keys) first (Some deletion)
     → AreFine deletion.statuses → FirstDone keys a b deletion
 first_done keys a b first deletion whole up p f fine =
     let r = follows_split Fits (statuses_plan keys) (λ st. export_plan keys st) first deletion f in
@@ -314,12 +316,12 @@ first_done keys a b first deletion whole up p f fine =
     }
 
 -- a deletion where each key is at rest
-pub record SecondDone (keys : List PubKey) (c d : State) (second : List CustodyStep) (v : Option Deletion) : Type 0 where
+pub record SecondDone (keys : List PubKey) (c d : State) (second : List ClientStep) (v : Option Deletion) : Type 0 where
   pub same : d ≡ c
   pub told : told_in second ≡ []
   pub file : IfSome v (λ x. (x.file.genesis ≡ c.genesis) × Exports c.keys (kept_keys c keys) x.file.books)
 
-second_done : (keys : List PubKey) (c d : State) (second : List CustodyStep) (v : Option Deletion) → ((k : PubKey) → Contains keys k → RestsIn k c.states) → MachineRun c (desk_calls second) d
+second_done : (keys : List PubKey) (c d : State) (second : List ClientStep) (v : Option Deletion) → ((k : PubKey) → Contains keys k → RestsIn k c.states) → MachineRun c (desk_calls second) d
     → Follows Fits (deletion_plan keys) second v → SecondDone keys c d second v
 second_done keys c d second v rest p f = elim (follows_cases Fits (statuses_plan keys) (λ st. export_plan keys st) second v f) [
   | inl h ↦ (

@@ -1,26 +1,24 @@
 -- Custody's calls, one before others.
 use Rattle.std.proofs.Common.{◌≡◌, ℕ, ◌≤◌, ◌+◌, ◌<◌, Bool, true, false, List, [], ◌∷◌, ◌++◌, length, drop, get_or, drop-cons, add-one, Option, Some, None, refl, sym, ◌∙◌, ap, subst, append_assoc, arith}
-use Rattle.std.specs.Prelude.{cond, ◌||◌}
+use Rattle.std.specs.Prelude.{cond}
 use Rattle.std.proofs.lemmas.List.{drop_all, at_drop_more, at_drop_all}
 use Rattle.edge_kit.specs.Causes.{Rose}
 use Rattle.edge_kit.specs.Tellings.{Tells}
-use Rattle.edge_kit.proofs.TellingLemmas.{Tells-nil, Tells-trans}
 use Rattle.edge_kit.specs.declared.bytes.PubKey.{PubKey}
 use Rattle.desk_machine.specs.Grants.{IsGrantFor}
 use Rattle.desk_machine.specs.declared.call.DeskCall.{DeskCall}
 use Rattle.desk_machine.specs.declared.call.DeskCall.TheVariants as call
 use Rattle.desk_machine.specs.declared.call.DeskReply.{DeskReply}
 use Rattle.desk_machine.specs.declared.call.DeskReply.TheVariants as reply
-use Rattle.signer_link.specs.Outcomes.{CountsDenial, import_failed, import_denied, delete_failed, delete_denied}
+use Rattle.signer_link.specs.Outcomes.{CountsDenial, import_denied, delete_denied}
 use Rattle.signer_link.specs.Signing.{imported, told_import, told_delete}
 use Rattle.signer_link.specs.declared.request.ImportCall.{ImportCall}
 use Rattle.signer_link.specs.declared.reply.ImportReply.{ImportReply}
 use Rattle.signer_link.specs.declared.reply.ImportReply.TheVariants as importing
 use Rattle.signer_link.specs.declared.reply.DeleteReply.{DeleteReply}
 use Rattle.signer_link.specs.declared.reply.DeleteReply.TheVariants as deleting
-use Rattle.signer_link.specs.declared.reply.Told.{Told}
 use Rattle.call_plans.specs.Plans.{Done}
-use Rattle.call_plans.specs.Paths.{Path, Carries}
+use Rattle.call_plans.specs.Paths.{Carries}
 use Rattle.call_plans.proofs.PathLemmas.{carries_step, carries_end, carries_cut}
 use Rattle.key_custody.specs.declared.ask.Replied.{Replied}
 use Rattle.key_custody.specs.declared.delete.Deletion.{Deletion}
@@ -29,8 +27,10 @@ use Rattle.key_custody.specs.declared.status.KeyStatus.TheVariants as status
 use Rattle.desk_machine.specs.declared.call.KeyStanding.{KeyStanding}
 use Rattle.key_custody.specs.Statuses.{is_handed, handed_keys}
 use Rattle.key_custody.specs.Replies.{Asked, ClosesKey, IsNoGrant, IsOfCustody, is_listed_active, active_keys, is_active_in}
-use Rattle.key_custody.specs.Custody.{CustodyStep, Calls, Closes, Imports, Deletes, Replies, ClosedBy, Imported, Deleted, Fits, step_calls, step_told, step_failed, step_denied, desk_calls, told_in, has_failed, has_denied, SignerSeen, SignerTells, Seat, at_seat, Does, Ran}
-use Rattle.key_custody.specs.Plans.{CustodyPlan, asks, closes, imports, deletes, listed_plan, taken_plan, export_plan, exported_plan, paired}
+use Rattle.client_calls.specs.Steps.{Calls, Closes, Imports, Deletes, Replies, ClosedBy, Imported, Deleted, Fits, ClientPlan}
+use Rattle.client_calls.specs.Seats.{SignerSeen, Seat, at_seat, Does}
+use Rattle.client_calls.proofs.SeatLemmas.{Leads, NoneLed, signer_none, import_fault, delete_fault}
+use Rattle.key_custody.specs.Plans.{asks, closes, imports, deletes, listed_plan, taken_plan, export_plan, exported_plan, paired}
 
 -- no call of custody is answered with a grant
 pub no_grant : (c : DeskCall) (r : DeskReply) → IsOfCustody c → IsGrantFor c r → IsNoGrant r
@@ -43,108 +43,33 @@ no_grant call.Keys (reply.Granted grant) of h = absurd h
 no_grant c (reply.Granted grant) of h = absurd of
 no_grant c r of h = tt
 
--- ---- the signer
-
-not_true : {P : Type 0} → false ≡ true → P
-not_true e = absurd cc
-
-pub signer_none : (a : SignerSeen) → SignerTells a a [] false false
-signer_none a = record { told = Tells-nil a.told; later = omega arith; fault = not_true; denials = omega arith; denied = refl }
-
-rose_before : (a b c : ℕ) → Rose a b → b ≤ c → Rose a c
-rose_before a b c r h = omega arith
-
-rose_after : (a b c : ℕ) → a ≤ b → Rose b c → Rose a c
-rose_after a b c h r = omega arith
-
-faults_on : (f g : Bool) (a b c : ℕ) → a ≤ b → b ≤ c → (f ≡ true → Rose a b) → (g ≡ true → Rose b c) → (f || g) ≡ true → Rose a c
-faults_on true g a b c l m p q e = rose_before a b c (p refl) m
-faults_on false g a b c l m p q e = rose_after a b c l (q e)
-
-denials_on : (f g : Bool) (a b c : ℕ) → a ≤ b → b ≤ c → CountsDenial f a b → CountsDenial g b c → CountsDenial (f || g) a c
-denials_on true g a b c l m p q = rose_before a b c p m
-denials_on false true a b c l m p q = rose_after a b c l q
-denials_on false false a b c l m p q = q ∙ p
-
-pub signer_on : (a b c : SignerSeen) (xs ys : List Told) (f g p q : Bool) → SignerTells a b xs f p → SignerTells b c ys g q → SignerTells a c (xs ++ ys) (f || g) (p || q)
-signer_on a b c xs ys f g p q s t = record {
-  told = Tells-trans a.told b.told c.told xs ys s.told t.told;
-  later = (let l : a.faults ≤ b.faults = s.later in let m : b.faults ≤ c.faults = t.later in omega arith);
-  fault = faults_on f g a.faults b.faults c.faults s.later t.later s.fault t.fault;
-  denials = (let l : a.denials ≤ b.denials = s.denials in let m : b.denials ≤ c.denials = t.denials in omega arith);
-  denied = denials_on p q a.denials b.denials c.denials s.denials t.denials s.denied t.denied;
-}
-
-import_fault : (r : ImportReply) (a b : ℕ) → (r ≡ importing.Fault → Rose a b) → import_failed r ≡ true → Rose a b
-import_fault importing.Imported a b h e = not_true e
-import_fault importing.Duplicate a b h e = not_true e
-import_fault (importing.Refused text) a b h e = not_true e
-import_fault importing.Fault a b h e = h refl
-import_fault (importing.BadAnswer body) a b h e = not_true e
-import_fault importing.OutOfMemory a b h e = not_true e
-
-delete_fault : (r : DeleteReply) (a b : ℕ) → (r ≡ deleting.Fault → Rose a b) → delete_failed r ≡ true → Rose a b
-delete_fault deleting.Deleted a b h e = not_true e
-delete_fault deleting.NotActive a b h e = not_true e
-delete_fault deleting.NotFound a b h e = not_true e
-delete_fault (deleting.Refused text) a b h e = not_true e
-delete_fault deleting.Fault a b h e = h refl
-delete_fault (deleting.BadAnswer body) a b h e = not_true e
-delete_fault deleting.OutOfMemory a b h e = not_true e
-
 -- ---- a call before the run of a plan
 
-abbrev pub Leads : Type 0 → Type 1
-Leads K = K → List (DeskCall × DeskReply) → K → Type 0
-
-abbrev pub More : {K : Type 0} → Leads K → Type 0
-More {K} leads = (d e f : K) (xs ys : List (DeskCall × DeskReply)) → leads d xs e → leads e ys f → leads d (xs ++ ys) f
-
-abbrev pub NoneLed : {K : Type 0} → Leads K → Type 0
-NoneLed {K} leads = (d : K) → leads d [] d
-
-pub runs_ask : {K X : Type 0} (leads : Leads K) (d e : K) (s : SignerSeen) (now : Seat K) (c : DeskCall) (x : Replied) (next_by : Replied → CustodyPlan X) (v : Option X)
+pub runs_ask : {K X : Type 0} (leads : Leads K) (d e : K) (s : SignerSeen) (now : Seat K) (c : DeskCall) (x : Replied) (next_by : Replied → ClientPlan X) (v : Option X)
     → Asked leads d e c x → Carries Fits (Does leads) (next_by x) (at_seat e s) now v → Carries Fits (Does leads) (asks c next_by) (at_seat d s) now v
 runs_ask leads d e s now c x next_by v a rest =
     carries_step Fits (Does leads) (Calls c) (Replies a.reply) _ (at_seat d s) (at_seat e s) now v (record { desk = a.led; signer = signer_none s }) a.kind
     (subst (λ y. Carries Fits (Does leads) (next_by y) (at_seat e s) now v) a.is rest)
 
-pub runs_close : {K X : Type 0} (leads : Leads K) (d e : K) (s : SignerSeen) (now : Seat K) (key : PubKey) (x : Replied) (next_by : Replied → CustodyPlan X) (v : Option X)
+pub runs_close : {K X : Type 0} (leads : Leads K) (d e : K) (s : SignerSeen) (now : Seat K) (key : PubKey) (x : Replied) (next_by : Replied → ClientPlan X) (v : Option X)
     → ClosesKey leads d e key x → Carries Fits (Does leads) (next_by x) (at_seat e s) now v → Carries Fits (Does leads) (closes key next_by) (at_seat d s) now v
 runs_close leads d e s now key x next_by v a rest =
     carries_step Fits (Does leads) (Closes key) (ClosedBy a.made a.reply) _ (at_seat d s) (at_seat e s) now v (record { desk = a.led; signer = signer_none s }) (a.idle, a.kind)
     (subst (λ y. Carries Fits (Does leads) (next_by y) (at_seat e s) now v) a.is rest)
 
-pub runs_import : {K X : Type 0} (leads : Leads K) (none : NoneLed leads) (d : K) (s t : SignerSeen) (now : Seat K) (q : ImportCall) (r : ImportReply) (next_by : ImportReply → CustodyPlan X) (v : Option X)
+pub runs_import : {K X : Type 0} (leads : Leads K) (none : NoneLed leads) (d : K) (s t : SignerSeen) (now : Seat K) (q : ImportCall) (r : ImportReply) (next_by : ImportReply → ClientPlan X) (v : Option X)
     → Tells s.told t.told (told_import q r) → s.faults ≤ t.faults → (r ≡ importing.Fault → Rose s.faults t.faults) → s.denials ≤ t.denials → CountsDenial (import_denied r) s.denials t.denials
     → Carries Fits (Does leads) (next_by r) (at_seat d t) now v → Carries Fits (Does leads) (imports q next_by) (at_seat d s) now v
 runs_import leads none d s t now q r next_by v tells later fault denials denied rest =
     carries_step Fits (Does leads) (Imports q) (Imported r) _ (at_seat d s) (at_seat d t) now v
     (record { desk = none d; signer = record { told = tells; later = later; fault = import_fault r s.faults t.faults fault; denials = denials; denied = denied } }) tt rest
 
-pub runs_delete : {K X : Type 0} (leads : Leads K) (none : NoneLed leads) (d : K) (s t : SignerSeen) (now : Seat K) (key : PubKey) (r : DeleteReply) (next_by : DeleteReply → CustodyPlan X) (v : Option X)
+pub runs_delete : {K X : Type 0} (leads : Leads K) (none : NoneLed leads) (d : K) (s t : SignerSeen) (now : Seat K) (key : PubKey) (r : DeleteReply) (next_by : DeleteReply → ClientPlan X) (v : Option X)
     → Tells s.told t.told (told_delete key r) → s.faults ≤ t.faults → (r ≡ deleting.Fault → Rose s.faults t.faults) → s.denials ≤ t.denials → CountsDenial (delete_denied r) s.denials t.denials
     → Carries Fits (Does leads) (next_by r) (at_seat d t) now v → Carries Fits (Does leads) (deletes key next_by) (at_seat d s) now v
 runs_delete leads none d s t now key r next_by v tells later fault denials denied rest =
     carries_step Fits (Does leads) (Deletes key) (Deleted r) _ (at_seat d s) (at_seat d t) now v
     (record { desk = none d; signer = record { told = tells; later = later; fault = delete_fault r s.faults t.faults fault; denials = denials; denied = denied } }) tt rest
-
--- ---- what a whole run did
-
-abbrev pub DidAll : {K : Type 0} → Leads K → Seat K → List CustodyStep → Seat K → Type 0
-DidAll leads a steps b = leads a.desk (desk_calls steps) b.desk × SignerTells a.signer b.signer (told_in steps) (has_failed steps) (has_denied steps)
-
-pub did_all : {K : Type 0} (leads : Leads K) (none : NoneLed leads) (more : More leads) (a b : Seat K) (steps : List CustodyStep) → Path (Does leads) a steps b → DidAll leads a steps b
-did_all {K} leads none more a b [] p = let P : Seat K → Type 0 = λ x. DidAll leads a [] x in subst P (sym p) (none a.desk, signer_none a.signer)
-did_all leads none more a b (s ∷ steps) p =
-    let rest = did_all leads none more p.0 b steps p.2 in (
-      more a.desk p.0.desk b.desk (step_calls s) (desk_calls steps) p.1.desk rest.0,
-      signer_on a.signer p.0.signer b.signer (step_told s) (told_in steps) (step_failed s) (has_failed steps) (step_denied s) (has_denied steps) p.1.signer rest.1,
-    )
-
-pub ran_of : {K X : Type 0} (leads : Leads K) (none : NoneLed leads) (more : More leads) (plan : CustodyPlan X) (a b : Seat K) (v : Option X) → Carries Fits (Does leads) plan a b v → Ran leads plan a b v
-ran_of leads none more plan a b v c =
-    let all = did_all leads none more a b c.steps c.path in record { steps = c.steps; follows = c.follows; desk = all.0; signer = all.1 }
 
 -- ---- keystores with their passwords, one more
 
@@ -170,25 +95,25 @@ paired_over text ks ps i h = ap (λ l. paired text l (drop i ps)) (drop_all i ks
 
 -- ---- by what the reply was
 
-pub asks_on : {K X : Type 0} (leads : Leads K) (d e : K) (s : SignerSeen) (now : Seat K) (c : DeskCall) (x : Replied) (next_by : Replied → CustodyPlan X) (q : CustodyPlan X) (v : Option X)
+pub asks_on : {K X : Type 0} (leads : Leads K) (d e : K) (s : SignerSeen) (now : Seat K) (c : DeskCall) (x : Replied) (next_by : Replied → ClientPlan X) (q : ClientPlan X) (v : Option X)
     → Asked leads d e c x → next_by x ≡ q → Carries Fits (Does leads) q (at_seat e s) now v → Carries Fits (Does leads) (asks c next_by) (at_seat d s) now v
 asks_on leads d e s now c x next_by q v a is rest = runs_ask leads d e s now c x next_by v a (subst (λ p. Carries Fits (Does leads) p (at_seat e s) now v) (sym is) rest)
 
-pub asks_end : {K X : Type 0} (leads : Leads K) (d e : K) (s : SignerSeen) (c : DeskCall) (x : Replied) (next_by : Replied → CustodyPlan X) (y : X)
+pub asks_end : {K X : Type 0} (leads : Leads K) (d e : K) (s : SignerSeen) (c : DeskCall) (x : Replied) (next_by : Replied → ClientPlan X) (y : X)
     → Asked leads d e c x → next_by x ≡ Done y → Carries Fits (Does leads) (asks c next_by) (at_seat d s) (at_seat e s) (Some y)
 asks_end leads d e s c x next_by y a is = asks_on leads d e s (at_seat e s) c x next_by (Done y) (Some y) a is (carries_end Fits (Does leads) (Done y) (at_seat e s) (Some y) refl)
 
-pub asks_cut : {K X : Type 0} (leads : Leads K) (d e : K) (s : SignerSeen) (c : DeskCall) (x : Replied) (next_by : Replied → CustodyPlan X)
+pub asks_cut : {K X : Type 0} (leads : Leads K) (d e : K) (s : SignerSeen) (c : DeskCall) (x : Replied) (next_by : Replied → ClientPlan X)
     → Asked leads d e c x → Carries Fits (Does leads) (asks c next_by) (at_seat d s) (at_seat e s) None
 asks_cut leads d e s c x next_by a = runs_ask leads d e s (at_seat e s) c x next_by None a (carries_cut Fits (Does leads) (next_by x) (at_seat e s))
 
-pub closes_end : {K X : Type 0} (leads : Leads K) (d e : K) (s : SignerSeen) (key : PubKey) (x : Replied) (next_by : Replied → CustodyPlan X) (y : X)
+pub closes_end : {K X : Type 0} (leads : Leads K) (d e : K) (s : SignerSeen) (key : PubKey) (x : Replied) (next_by : Replied → ClientPlan X) (y : X)
     → ClosesKey leads d e key x → next_by x ≡ Done y → Carries Fits (Does leads) (closes key next_by) (at_seat d s) (at_seat e s) (Some y)
 closes_end leads d e s key x next_by y a is =
     runs_close leads d e s (at_seat e s) key x next_by (Some y) a
     (subst (λ p. Carries Fits (Does leads) p (at_seat e s) (at_seat e s) (Some y)) (sym is) (carries_end Fits (Does leads) (Done y) (at_seat e s) (Some y) refl))
 
-pub closes_cut : {K X : Type 0} (leads : Leads K) (d e : K) (s : SignerSeen) (key : PubKey) (x : Replied) (next_by : Replied → CustodyPlan X)
+pub closes_cut : {K X : Type 0} (leads : Leads K) (d e : K) (s : SignerSeen) (key : PubKey) (x : Replied) (next_by : Replied → ClientPlan X)
     → ClosesKey leads d e key x → Carries Fits (Does leads) (closes key next_by) (at_seat d s) (at_seat e s) None
 closes_cut leads d e s key x next_by a = runs_close leads d e s (at_seat e s) key x next_by None a (carries_cut Fits (Does leads) (next_by x) (at_seat e s))
 

@@ -28,8 +28,8 @@ use Rattle.key_custody.specs.declared.status.KeyStatus.TheVariants as status
 use Rattle.key_custody.specs.declared.status.Reason.{Reason}
 use Rattle.key_custody.specs.Statuses.{is_handed, handed_keys}
 use Rattle.key_custody.specs.Replies.{replied_of}
-use Rattle.key_custody.specs.Custody.{CustodyCall, CustodyReply, CustodyStep, Calls, Closes, Deletes, Replies, ClosedBy, Imported, Deleted, Fits, step_calls, desk_calls}
-use Rattle.key_custody.specs.Plans.{CustodyPlan, said_in, deletion_in, closed_plan, close_plan, given_up_plan, closing_plan, delete_plan}
+use Rattle.client_calls.specs.Steps.{ClientCall, ClientReply, ClientStep, Calls, Closes, Deletes, Replies, ClosedBy, Signed, Imported, Deleted, Fits, step_calls, desk_calls, ClientPlan}
+use Rattle.key_custody.specs.Plans.{said_in, deletion_in, closed_plan, close_plan, given_up_plan, closing_plan, delete_plan}
 use Rattle.key_custody.specs.Once.{MachineRun, Moves, is_fine}
 use Rattle.key_custody.proofs.RestLemmas.{AtRest, RestsIn, idle_rests, not_active, rests_with_kept}
 
@@ -64,11 +64,11 @@ error_not_fine : {A : Type 0} (s : KeyStatus) (why : Reason) → s ≡ status.Er
 error_not_fine s why e fine = false_true (sym (ap is_fine e) ∙ fine)
 
 -- a plan that is done with an error
-pub done_error : {A : Type 0} (why : Reason) (steps : List CustodyStep) (s : KeyStatus) → Follows Fits (Done (status.Error why)) steps (Some s) → is_fine s ≡ true → A
+pub done_error : {A : Type 0} (why : Reason) (steps : List ClientStep) (s : KeyStatus) → Follows Fits (Done (status.Error why)) steps (Some s) → is_fine s ≡ true → A
 done_error why [] s f fine = error_not_fine s why f fine
 done_error why (x ∷ xs) s f fine = absurd f
 
-closed_end : (k : PubKey) (m m1 b : State) (r : DeskReply) (last : List CustodyStep) (s : KeyStatus) → IsKind (call.FinishClose k) r → Follows Fits (closed_plan (replied_of r)) last (Some s) → is_fine s ≡ true
+closed_end : (k : PubKey) (m m1 b : State) (r : DeskReply) (last : List ClientStep) (s : KeyStatus) → IsKind (call.FinishClose k) r → Follows Fits (closed_plan (replied_of r)) last (Some s) → is_fine s ≡ true
     → Moves m (call.FinishClose k, r) m1 → MachineRun m1 (desk_calls last) b → IsClosedOf k m b s
 closed_end k m m1 b (reply.Closed book) [] s kind f fine moves p =
     let now : b ≡ after m (call.FinishClose k) (reply.Closed book) = p ∙ moves.1 in record {
@@ -89,7 +89,7 @@ closed_end k m m1 b reply.OutOfMemory [] s kind f fine moves p = absurd f
 closed_end k m m1 b reply.OutOfMemory (x ∷ xs) s kind f fine moves p = absurd f
 closed_end k m m1 b r last s kind f fine moves p = absurd kind
 
-closed_by : (k : PubKey) (m b : State) (made : List (DeskCall × DeskReply)) (r : DeskReply) (last : List CustodyStep) (s : KeyStatus) → ClosesIdle (call.FinishClose k) r made → IsKind (call.FinishClose k) r
+closed_by : (k : PubKey) (m b : State) (made : List (DeskCall × DeskReply)) (r : DeskReply) (last : List ClientStep) (s : KeyStatus) → ClosesIdle (call.FinishClose k) r made → IsKind (call.FinishClose k) r
     → Follows Fits (closed_plan (replied_of r)) last (Some s) → is_fine s ≡ true → MachineRun m (made ++ desk_calls last) b → IsClosedOf k m b s
 closed_by k m b made r last s idle kind f fine p =
     let whole = path_split Moves m b made (desk_calls last) p in
@@ -100,19 +100,20 @@ closed_by k m b made r last s idle kind f fine p =
     let rest : MachineRun parts.2.0 (desk_calls last) b = subst (λ (x : State). MachineRun x (desk_calls last) b) parts.2.2 whole.2 in
     closed_end k m parts.2.0 b r last s kind f fine step rest
 
-close_reply : (k : PubKey) (m b : State) (y : CustodyReply) (last : List CustodyStep) (s : KeyStatus) → Fits (Closes k) y → Follows Fits (closed_plan (said_in y)) last (Some s) → is_fine s ≡ true
+close_reply : (k : PubKey) (m b : State) (y : ClientReply) (last : List ClientStep) (s : KeyStatus) → Fits (Closes k) y → Follows Fits (closed_plan (said_in y)) last (Some s) → is_fine s ≡ true
     → MachineRun m (step_calls (Closes k, y) ++ desk_calls last) b → IsClosedOf k m b s
 close_reply k m b (ClosedBy made r) last s fits f fine p = closed_by k m b made r last s fits.0 fits.1 f fine p
 close_reply k m b (Replies r) last s fits f fine p = absurd fits
+close_reply k m b (Signed r) last s fits f fine p = absurd fits
 close_reply k m b (Imported r) last s fits f fine p = absurd fits
 close_reply k m b (Deleted r) last s fits f fine p = absurd fits
 
-close_run : (k : PubKey) (m b : State) (steps : List CustodyStep) (s : KeyStatus) → Follows Fits (close_plan k) steps (Some s) → is_fine s ≡ true → MachineRun m (desk_calls steps) b → IsClosedOf k m b s
+close_run : (k : PubKey) (m b : State) (steps : List ClientStep) (s : KeyStatus) → Follows Fits (close_plan k) steps (Some s) → is_fine s ≡ true → MachineRun m (desk_calls steps) b → IsClosedOf k m b s
 close_run k m b [] s f fine p = absurd f
 close_run k m b (x ∷ xs) s f fine p =
-    close_reply k m b x.1 xs s f.1 f.2 fine (subst (λ (c : CustodyCall). MachineRun m (step_calls (c, x.1) ++ desk_calls xs) b) f.0 p)
+    close_reply k m b x.1 xs s f.1 f.2 fine (subst (λ (c : ClientCall). MachineRun m (step_calls (c, x.1) ++ desk_calls xs) b) f.0 p)
 
-given_up : (k : PubKey) (m b : State) (r : DeleteReply) (steps : List CustodyStep) (s : KeyStatus) → Follows Fits (given_up_plan k r) steps (Some s) → is_fine s ≡ true → MachineRun m (desk_calls steps) b → IsClosedOf k m b s
+given_up : (k : PubKey) (m b : State) (r : DeleteReply) (steps : List ClientStep) (s : KeyStatus) → Follows Fits (given_up_plan k r) steps (Some s) → is_fine s ≡ true → MachineRun m (desk_calls steps) b → IsClosedOf k m b s
 given_up k m b deleting.Deleted steps s f fine p = close_run k m b steps s f fine p
 given_up k m b deleting.NotActive steps s f fine p = close_run k m b steps s f fine p
 given_up k m b deleting.NotFound steps s f fine p = close_run k m b steps s f fine p
@@ -122,19 +123,20 @@ given_up k m b (deleting.BadAnswer body) steps s f fine p = done_error _ steps s
 given_up k m b deleting.OutOfMemory [] s f fine p = absurd f
 given_up k m b deleting.OutOfMemory (x ∷ xs) s f fine p = absurd f
 
-delete_reply : (k : PubKey) (m b : State) (y : CustodyReply) (steps : List CustodyStep) (s : KeyStatus) → Fits (Deletes k) y → Follows Fits (given_up_plan k (deletion_in y)) steps (Some s) → is_fine s ≡ true
+delete_reply : (k : PubKey) (m b : State) (y : ClientReply) (steps : List ClientStep) (s : KeyStatus) → Fits (Deletes k) y → Follows Fits (given_up_plan k (deletion_in y)) steps (Some s) → is_fine s ≡ true
     → MachineRun m (step_calls (Deletes k, y) ++ desk_calls steps) b → IsClosedOf k m b s
 delete_reply k m b (Deleted r) steps s fits f fine p = given_up k m b r steps s f fine p
 delete_reply k m b (Replies r) steps s fits f fine p = absurd fits
 delete_reply k m b (ClosedBy made r) steps s fits f fine p = absurd fits
+delete_reply k m b (Signed r) steps s fits f fine p = absurd fits
 delete_reply k m b (Imported r) steps s fits f fine p = absurd fits
 
 -- the signer gives the key up, and the desk closes it
-deletes_run : (k : PubKey) (m b : State) (steps : List CustodyStep) (s : KeyStatus) → Follows Fits (Ask (Deletes k) (λ r. given_up_plan k (deletion_in r))) steps (Some s) → is_fine s ≡ true
+deletes_run : (k : PubKey) (m b : State) (steps : List ClientStep) (s : KeyStatus) → Follows Fits (Ask (Deletes k) (λ r. given_up_plan k (deletion_in r))) steps (Some s) → is_fine s ≡ true
     → MachineRun m (desk_calls steps) b → IsClosedOf k m b s
 deletes_run k m b [] s f fine p = absurd f
 deletes_run k m b (x ∷ xs) s f fine p =
-    delete_reply k m b x.1 xs s f.1 f.2 fine (subst (λ (c : CustodyCall). MachineRun m (step_calls (c, x.1) ++ desk_calls xs) b) f.0 p)
+    delete_reply k m b x.1 xs s f.1 f.2 fine (subst (λ (c : ClientCall). MachineRun m (step_calls (c, x.1) ++ desk_calls xs) b) f.0 p)
 
 -- ---- a key is deleted, without error
 
@@ -179,7 +181,7 @@ begun_gone k a b s past active g = record {
   handed = g.handed;
 }
 
-begun : (k : PubKey) (a m b : State) (r : DeskReply) (steps : List CustodyStep) (s : KeyStatus) → (past_of a k ≡ None → RestsIn k a.states) → IsKind (call.BeginClose k) r
+begun : (k : PubKey) (a m b : State) (r : DeskReply) (steps : List ClientStep) (s : KeyStatus) → (past_of a k ≡ None → RestsIn k a.states) → IsKind (call.BeginClose k) r
     → Follows Fits (closing_plan k (replied_of r)) steps (Some s) → is_fine s ≡ true → Moves a (call.BeginClose k, r) m → MachineRun m (desk_calls steps) b → Gone k a b s
 begun k a m b reply.Unknown [] s quiet kind f fine moves p =
     subst (λ (x : State). Gone k a x s) (sym (p ∙ moves.1)) (gone_same k a s (quiet moves.0) (ap is_handed f ∙ sym (ap is_some moves.0)))
@@ -195,18 +197,19 @@ begun k a m b reply.AlreadyClosing steps s quiet kind f fine moves p =
     closing_gone k a b s moves.0.0 (deletes_run k a b steps s f fine run)
 begun k a m b r steps s quiet kind f fine moves p = absurd kind
 
-begin_reply : (k : PubKey) (a b : State) (y : CustodyReply) (steps : List CustodyStep) (s : KeyStatus) → (past_of a k ≡ None → RestsIn k a.states) → Fits (Calls (call.BeginClose k)) y
+begin_reply : (k : PubKey) (a b : State) (y : ClientReply) (steps : List ClientStep) (s : KeyStatus) → (past_of a k ≡ None → RestsIn k a.states) → Fits (Calls (call.BeginClose k)) y
     → Follows Fits (closing_plan k (said_in y)) steps (Some s) → is_fine s ≡ true → MachineRun a (step_calls (Calls (call.BeginClose k), y) ++ desk_calls steps) b → Gone k a b s
 begin_reply k a b (Replies r) steps s quiet fits f fine p = begun k a p.0 b r steps s quiet fits f fine p.1 p.2
 begin_reply k a b (ClosedBy made r) steps s quiet fits f fine p = absurd fits
+begin_reply k a b (Signed r) steps s quiet fits f fine p = absurd fits
 begin_reply k a b (Imported r) steps s quiet fits f fine p = absurd fits
 begin_reply k a b (Deleted r) steps s quiet fits f fine p = absurd fits
 
-pub delete_one : (k : PubKey) (a b : State) (steps : List CustodyStep) (s : KeyStatus) → (past_of a k ≡ None → RestsIn k a.states) → Follows Fits (delete_plan k) steps (Some s) → is_fine s ≡ true
+pub delete_one : (k : PubKey) (a b : State) (steps : List ClientStep) (s : KeyStatus) → (past_of a k ≡ None → RestsIn k a.states) → Follows Fits (delete_plan k) steps (Some s) → is_fine s ≡ true
     → MachineRun a (desk_calls steps) b → Gone k a b s
 delete_one k a b [] s quiet f fine p = absurd f
 delete_one k a b (x ∷ xs) s quiet f fine p =
-    begin_reply k a b x.1 xs s quiet f.1 f.2 fine (subst (λ (c : CustodyCall). MachineRun a (step_calls (c, x.1) ++ desk_calls xs) b) f.0 p)
+    begin_reply k a b x.1 xs s quiet f.1 f.2 fine (subst (λ (c : ClientCall). MachineRun a (step_calls (c, x.1) ++ desk_calls xs) b) f.0 p)
 
 -- ---- each key
 
@@ -242,7 +245,7 @@ all_fine (x ∷ xs) ys h = all_fine xs ys (both (is_fine x) h) where
   both false h = false_true h
 
 -- what each plan gives begins with what was given before
-pub each_begins : {A : Type 0} (plan : A → CustodyPlan KeyStatus) (xs : List A) (got all : List KeyStatus) (steps : List CustodyStep) → Follows Fits (each_plan plan got xs) steps (Some all) → (more : List KeyStatus) × (all ≡ got ++ more)
+pub each_begins : {A : Type 0} (plan : A → ClientPlan KeyStatus) (xs : List A) (got all : List KeyStatus) (steps : List ClientStep) → Follows Fits (each_plan plan got xs) steps (Some all) → (more : List KeyStatus) × (all ≡ got ++ more)
 each_begins plan [] got all [] f = ([], f ∙ sym (append-nil got))
 each_begins plan [] got all (x ∷ xs) f = absurd f
 each_begins plan (a ∷ others) got all steps f =
@@ -256,7 +259,7 @@ first_fine s ys h = both (is_fine s) h where
   both true h = refl
   both false h = h
 
-pub first_each : (keys : List PubKey) (a b : State) (got all : List KeyStatus) (steps : List CustodyStep) → ((q : PubKey) → past_of a q ≡ None → RestsIn q a.states)
+pub first_each : (keys : List PubKey) (a b : State) (got all : List KeyStatus) (steps : List ClientStep) → ((q : PubKey) → past_of a q ≡ None → RestsIn q a.states)
     → Follows Fits (each_plan delete_plan got keys) steps (Some all) → list_all is_fine all ≡ true → MachineRun a (desk_calls steps) b → FirstEach keys a b got all
 first_each [] a b got all [] quiet f fine p = record {
   statuses = [];

@@ -31,7 +31,7 @@ use Rattle.key_custody.specs.declared.status.KeyStatus.{KeyStatus}
 use Rattle.key_custody.specs.declared.status.KeyStatus.TheVariants as status
 use Rattle.key_custody.specs.Keystores.{key_of_keystore}
 use Rattle.key_custody.specs.Replies.{replied_of, is_active_at, is_active_in}
-use Rattle.key_custody.specs.Custody.{CustodyCall, CustodyReply, CustodyStep, Calls, Imports, Replies, ClosedBy, Imported, Deleted, Fits, step_calls, desk_calls}
+use Rattle.client_calls.specs.Steps.{ClientCall, ClientReply, ClientStep, Calls, Imports, Replies, ClosedBy, Signed, Imported, Deleted, Fits, step_calls, desk_calls}
 use Rattle.key_custody.specs.Plans.{said_in, import_in, activated_plan, activate_plan, taken_plan, imports, standing_plan, key_plan, found_plan, keystore_plan}
 use Rattle.key_custody.specs.Once.{MachineRun, Moves, IsWhole, is_fine}
 use Rattle.key_custody.proofs.DeleteLemmas.{done_error, each_begins, all_fine, first_fine}
@@ -153,7 +153,7 @@ taken_now m key now whole = record {
   torn = refl;
 }
 
-activated : (m n1 n : State) (key : PubKey) (now : ℕ) (r : DeskReply) (steps : List CustodyStep) (s : KeyStatus) → IsWhole m → IsKind (call.Activate key now) r → Follows Fits (activated_plan (replied_of r)) steps (Some s) → is_fine s ≡ true
+activated : (m n1 n : State) (key : PubKey) (now : ℕ) (r : DeskReply) (steps : List ClientStep) (s : KeyStatus) → IsWhole m → IsKind (call.Activate key now) r → Follows Fits (activated_plan (replied_of r)) steps (Some s) → is_fine s ≡ true
     → Moves m (call.Activate key now, r) n1 → MachineRun n1 (desk_calls steps) n → Taken m n key
 activated m n1 n key now reply.Active [] s whole kind f fine moves p = subst (λ (x : State). Taken m x key) (sym (p ∙ moves.1)) (taken_now m key now whole)
 activated m n1 n key now reply.Active (x ∷ xs) s whole kind f fine moves p = absurd f
@@ -169,18 +169,19 @@ activated m n1 n key now reply.OutOfMemory [] s whole kind f fine moves p = absu
 activated m n1 n key now reply.OutOfMemory (x ∷ xs) s whole kind f fine moves p = absurd f
 activated m n1 n key now r steps s whole kind f fine moves p = absurd kind
 
-activate_reply : (m n : State) (key : PubKey) (now : ℕ) (y : CustodyReply) (steps : List CustodyStep) (s : KeyStatus) → IsWhole m → Fits (Calls (call.Activate key now)) y → Follows Fits (activated_plan (said_in y)) steps (Some s) → is_fine s ≡ true
+activate_reply : (m n : State) (key : PubKey) (now : ℕ) (y : ClientReply) (steps : List ClientStep) (s : KeyStatus) → IsWhole m → Fits (Calls (call.Activate key now)) y → Follows Fits (activated_plan (said_in y)) steps (Some s) → is_fine s ≡ true
     → MachineRun m (step_calls (Calls (call.Activate key now), y) ++ desk_calls steps) n → Taken m n key
 activate_reply m n key now (Replies r) steps s whole fits f fine p = activated m p.0 n key now r steps s whole fits f fine p.1 p.2
 activate_reply m n key now (ClosedBy made r) steps s whole fits f fine p = absurd fits
+activate_reply m n key now (Signed r) steps s whole fits f fine p = absurd fits
 activate_reply m n key now (Imported r) steps s whole fits f fine p = absurd fits
 activate_reply m n key now (Deleted r) steps s whole fits f fine p = absurd fits
 
-activate_run : (m n : State) (key : PubKey) (now : ℕ) (steps : List CustodyStep) (s : KeyStatus) → IsWhole m → Follows Fits (activate_plan now key) steps (Some s) → is_fine s ≡ true → MachineRun m (desk_calls steps) n → Taken m n key
+activate_run : (m n : State) (key : PubKey) (now : ℕ) (steps : List ClientStep) (s : KeyStatus) → IsWhole m → Follows Fits (activate_plan now key) steps (Some s) → is_fine s ≡ true → MachineRun m (desk_calls steps) n → Taken m n key
 activate_run m n key now [] s whole f fine p = absurd f
-activate_run m n key now (x ∷ xs) s whole f fine p = activate_reply m n key now x.1 xs s whole f.1 f.2 fine (subst (λ (c : CustodyCall). MachineRun m (step_calls (c, x.1) ++ desk_calls xs) n) f.0 p)
+activate_run m n key now (x ∷ xs) s whole f fine p = activate_reply m n key now x.1 xs s whole f.1 f.2 fine (subst (λ (c : ClientCall). MachineRun m (step_calls (c, x.1) ++ desk_calls xs) n) f.0 p)
 
-taken_in : (m n : State) (key : PubKey) (now : ℕ) (r : ImportReply) (steps : List CustodyStep) (s : KeyStatus) → IsWhole m → Follows Fits (taken_plan now key r) steps (Some s) → is_fine s ≡ true → MachineRun m (desk_calls steps) n → Taken m n key
+taken_in : (m n : State) (key : PubKey) (now : ℕ) (r : ImportReply) (steps : List ClientStep) (s : KeyStatus) → IsWhole m → Follows Fits (taken_plan now key r) steps (Some s) → is_fine s ≡ true → MachineRun m (desk_calls steps) n → Taken m n key
 taken_in m n key now importing.Imported steps s whole f fine p = activate_run m n key now steps s whole f fine p
 taken_in m n key now importing.Duplicate steps s whole f fine p = activate_run m n key now steps s whole f fine p
 taken_in m n key now (importing.Refused text) steps s whole f fine p = done_error _ steps s f fine
@@ -189,23 +190,24 @@ taken_in m n key now (importing.BadAnswer body) steps s whole f fine p = done_er
 taken_in m n key now importing.OutOfMemory [] s whole f fine p = absurd f
 taken_in m n key now importing.OutOfMemory (x ∷ xs) s whole f fine p = absurd f
 
-import_reply : (m n : State) (key : PubKey) (now : ℕ) (q : ImportCall) (y : CustodyReply) (steps : List CustodyStep) (s : KeyStatus) → IsWhole m → Fits (Imports q) y → Follows Fits (taken_plan now key (import_in y)) steps (Some s) → is_fine s ≡ true
+import_reply : (m n : State) (key : PubKey) (now : ℕ) (q : ImportCall) (y : ClientReply) (steps : List ClientStep) (s : KeyStatus) → IsWhole m → Fits (Imports q) y → Follows Fits (taken_plan now key (import_in y)) steps (Some s) → is_fine s ≡ true
     → MachineRun m (step_calls (Imports q, y) ++ desk_calls steps) n → Taken m n key
 import_reply m n key now q (Imported r) steps s whole fits f fine p = taken_in m n key now r steps s whole f fine p
 import_reply m n key now q (Replies r) steps s whole fits f fine p = absurd fits
 import_reply m n key now q (ClosedBy made r) steps s whole fits f fine p = absurd fits
+import_reply m n key now q (Signed r) steps s whole fits f fine p = absurd fits
 import_reply m n key now q (Deleted r) steps s whole fits f fine p = absurd fits
 
-imports_run : (m n : State) (key : PubKey) (now : ℕ) (q : ImportCall) (steps : List CustodyStep) (s : KeyStatus) → IsWhole m → Follows Fits (imports q (λ r. taken_plan now key r)) steps (Some s) → is_fine s ≡ true
+imports_run : (m n : State) (key : PubKey) (now : ℕ) (q : ImportCall) (steps : List ClientStep) (s : KeyStatus) → IsWhole m → Follows Fits (imports q (λ r. taken_plan now key r)) steps (Some s) → is_fine s ≡ true
     → MachineRun m (desk_calls steps) n → Taken m n key
 imports_run m n key now q [] s whole f fine p = absurd f
-imports_run m n key now q (x ∷ xs) s whole f fine p = import_reply m n key now q x.1 xs s whole f.1 f.2 fine (subst (λ (c : CustodyCall). MachineRun m (step_calls (c, x.1) ++ desk_calls xs) n) f.0 p)
+imports_run m n key now q (x ∷ xs) s whole f fine p = import_reply m n key now q x.1 xs s whole f.1 f.2 fine (subst (λ (c : ClientCall). MachineRun m (step_calls (c, x.1) ++ desk_calls xs) n) f.0 p)
 
-done_here : (m n : State) (steps : List CustodyStep) (x s : KeyStatus) → Follows Fits (Done x) steps (Some s) → MachineRun m (desk_calls steps) n → n ≡ m
+done_here : (m n : State) (steps : List ClientStep) (x s : KeyStatus) → Follows Fits (Done x) steps (Some s) → MachineRun m (desk_calls steps) n → n ≡ m
 done_here m n [] x s f p = p
 done_here m n (y ∷ ys) x s f p = absurd f
 
-listed_run : (m n : State) (key : PubKey) (now : ℕ) (keystore password : List ℕ) (listed : List (PubKey × KeyStanding)) (steps : List CustodyStep) (s : KeyStatus) (b : Bool) → is_active_in listed key ≡ b → listed ≡ key_standings m → IsWhole m
+listed_run : (m n : State) (key : PubKey) (now : ℕ) (keystore password : List ℕ) (listed : List (PubKey × KeyStanding)) (steps : List ClientStep) (s : KeyStatus) (b : Bool) → is_active_in listed key ≡ b → listed ≡ key_standings m → IsWhole m
     → Follows Fits (cond b (Done status.Duplicate) (imports (imported key keystore password) (λ r. taken_plan now key r))) steps (Some s) → is_fine s ≡ true → MachineRun m (desk_calls steps) n → Taken m n key
 listed_run m n key now keystore password listed steps s true e is whole f fine p =
     let same : n ≡ m = done_here m n steps status.Duplicate s f p in
@@ -213,7 +215,7 @@ listed_run m n key now keystore password listed steps s true e is whole f fine p
     taken_same m n key (ap (λ (x : State). x.keys) same) (ap (λ (x : State). x.states) same) (ap (λ (x : State). x.torn) same) whole back.0
 listed_run m n key now keystore password listed steps s false e is whole f fine p = imports_run m n key now (imported key keystore password) steps s whole f fine p
 
-standing_run : (m m1 n : State) (key : PubKey) (now : ℕ) (keystore password : List ℕ) (r : DeskReply) (steps : List CustodyStep) (s : KeyStatus) → IsWhole m → IsKind call.Keys r
+standing_run : (m m1 n : State) (key : PubKey) (now : ℕ) (keystore password : List ℕ) (r : DeskReply) (steps : List ClientStep) (s : KeyStatus) → IsWhole m → IsKind call.Keys r
     → Follows Fits (standing_plan now keystore password key (replied_of r)) steps (Some s) → is_fine s ≡ true → Moves m (call.Keys, r) m1 → MachineRun m1 (desk_calls steps) n → Taken m n key
 standing_run m m1 n key now keystore password (reply.Keys listed) steps s whole kind f fine moves p =
     listed_run m n key now keystore password listed steps s (is_active_in listed key) refl moves.0 whole f fine (subst (λ (x : State). MachineRun x (desk_calls steps) n) moves.1 p)
@@ -221,20 +223,21 @@ standing_run m m1 n key now keystore password reply.OutOfMemory [] s whole kind 
 standing_run m m1 n key now keystore password reply.OutOfMemory (x ∷ xs) s whole kind f fine moves p = absurd f
 standing_run m m1 n key now keystore password r steps s whole kind f fine moves p = absurd kind
 
-keys_reply : (m n : State) (key : PubKey) (now : ℕ) (keystore password : List ℕ) (y : CustodyReply) (steps : List CustodyStep) (s : KeyStatus) → IsWhole m → Fits (Calls call.Keys) y
+keys_reply : (m n : State) (key : PubKey) (now : ℕ) (keystore password : List ℕ) (y : ClientReply) (steps : List ClientStep) (s : KeyStatus) → IsWhole m → Fits (Calls call.Keys) y
     → Follows Fits (standing_plan now keystore password key (said_in y)) steps (Some s) → is_fine s ≡ true → MachineRun m (step_calls (Calls call.Keys, y) ++ desk_calls steps) n → Taken m n key
 keys_reply m n key now keystore password (Replies r) steps s whole fits f fine p = standing_run m p.0 n key now keystore password r steps s whole fits f fine p.1 p.2
 keys_reply m n key now keystore password (ClosedBy made r) steps s whole fits f fine p = absurd fits
+keys_reply m n key now keystore password (Signed r) steps s whole fits f fine p = absurd fits
 keys_reply m n key now keystore password (Imported r) steps s whole fits f fine p = absurd fits
 keys_reply m n key now keystore password (Deleted r) steps s whole fits f fine p = absurd fits
 
-key_run : (m n : State) (key : PubKey) (now : ℕ) (keystore password : List ℕ) (steps : List CustodyStep) (s : KeyStatus) → IsWhole m → Follows Fits (key_plan now keystore password key) steps (Some s) → is_fine s ≡ true
+key_run : (m n : State) (key : PubKey) (now : ℕ) (keystore password : List ℕ) (steps : List ClientStep) (s : KeyStatus) → IsWhole m → Follows Fits (key_plan now keystore password key) steps (Some s) → is_fine s ≡ true
     → MachineRun m (desk_calls steps) n → Taken m n key
 key_run m n key now keystore password [] s whole f fine p = absurd f
 key_run m n key now keystore password (x ∷ xs) s whole f fine p =
-    keys_reply m n key now keystore password x.1 xs s whole f.1 f.2 fine (subst (λ (c : CustodyCall). MachineRun m (step_calls (c, x.1) ++ desk_calls xs) n) f.0 p)
+    keys_reply m n key now keystore password x.1 xs s whole f.1 f.2 fine (subst (λ (c : ClientCall). MachineRun m (step_calls (c, x.1) ++ desk_calls xs) n) f.0 p)
 
-keystore_run : (m n : State) (now : ℕ) (k : List ℕ × List ℕ) (steps : List CustodyStep) (s : KeyStatus) (o : Option PubKey) → key_of_keystore k.0 ≡ o → IsWhole m → Follows Fits (found_plan now k.0 k.1 o) steps (Some s) → is_fine s ≡ true
+keystore_run : (m n : State) (now : ℕ) (k : List ℕ × List ℕ) (steps : List ClientStep) (s : KeyStatus) (o : Option PubKey) → key_of_keystore k.0 ≡ o → IsWhole m → Follows Fits (found_plan now k.0 k.1 o) steps (Some s) → is_fine s ≡ true
     → MachineRun m (desk_calls steps) n → (key : PubKey) × (key_of_keystore k.0 ≡ Some key) × Taken m n key
 keystore_run m n now k steps s None e whole f fine p = done_error _ steps s f fine
 keystore_run m n now k steps s (Some key) e whole f fine p = (key, e, key_run m n key now k.0 k.1 steps s whole f fine p)
@@ -253,7 +256,7 @@ pub record AllTaken (keystores : List (List ℕ × List ℕ)) (m n : State) : Ty
 pub past_on : (xs ys : Kept) (q : PubKey) → Grew xs ys → IsSome (kept_of xs q) → IsSome (kept_of ys q)
 past_on xs ys q grew h = let x = some_of (kept_of xs q) h in let g = grew q x.0 x.1 in ap is_some g.1
 
-pub first_keystores : (keystores : List (List ℕ × List ℕ)) (m n : State) (now : ℕ) (got all : List KeyStatus) (steps : List CustodyStep) → IsWhole m
+pub first_keystores : (keystores : List (List ℕ × List ℕ)) (m n : State) (now : ℕ) (got all : List KeyStatus) (steps : List ClientStep) → IsWhole m
     → Follows Fits (each_plan (λ k. keystore_plan now k) got keystores) steps (Some all) → list_all is_fine all ≡ true → MachineRun m (desk_calls steps) n → AllTaken keystores m n
 first_keystores [] m n now got all [] whole f fine p =
     let P : State → Type 0 = λ x. AllTaken [] m x in subst P (sym p) (record { each = λ k h. contains_none k h; grew = grew_self m.keys; stays = λ q h. h; torn = refl })

@@ -1,6 +1,5 @@
 pub mod Statuses
 pub mod Keystores
 pub mod Replies
-pub mod Custody
 pub mod Plans
 pub mod Once

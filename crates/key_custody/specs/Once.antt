@@ -23,7 +23,7 @@ use Rattle.key_custody.specs.declared.delete.Deletion.{Deletion}
 use Rattle.key_custody.specs.declared.import.ImportEnd.{ImportEnd}
 use Rattle.key_custody.specs.declared.import.ImportEnd.TheVariants as ending
 use Rattle.key_custody.specs.Keystores.{key_of_keystore}
-use Rattle.key_custody.specs.Custody.{CustodyStep, Fits, desk_calls, told_in}
+use Rattle.client_calls.specs.Steps.{ClientStep, Fits, desk_calls, told_in}
 use Rattle.key_custody.specs.Plans.{deletion_plan, import_plan}
 
 -- ---- calls of the machine, and stops
@@ -84,7 +84,7 @@ AreFine statuses = list_all is_fine statuses ≡ true
 -- ---- a deletion that was carried out without error and comes again, where no key of it became active between, changes nothing and
 -- asks the signer nothing, also where memory runs out in it; and it hands out the same file, where nothing was merged or pruned between
 abbrev pub DeletesOnce : Type 0
-DeletesOnce = (keys : List PubKey) (a b c d : State) (first second : List CustodyStep) (between : List Change) (deletion : Deletion) (v : Option Deletion)
+DeletesOnce = (keys : List PubKey) (a b c d : State) (first second : List ClientStep) (between : List Change) (deletion : Deletion) (v : Option Deletion)
     → IsWhole a → IsUp a → MachineRun a (desk_calls first) b → Follows Fits (deletion_plan keys) first (Some deletion) → AreFine deletion.statuses
     → Path Changes b between c → ((key : PubKey) → Contains keys key → Never (Activates key) between)
     → MachineRun c (desk_calls second) d → Follows Fits (deletion_plan keys) second v
@@ -117,7 +117,7 @@ IsKeyOf keystores key = (k : List ℕ × List ℕ) × Contains keystores k × (k
 -- an import that was carried out without error and comes again, where no deletion of a key of it was begun between, leaves every
 -- record, state and watch as it found them and asks the signer nothing, also where it is refused or memory runs out in it
 abbrev pub ImportsOnce : Type 0
-ImportsOnce = (file : Option File) (keystores : List (List ℕ × List ℕ)) (now later : ℕ) (a b c d : State) (first second : List CustodyStep) (between : List Change) (statuses : List KeyStatus) (v : Option ImportEnd)
+ImportsOnce = (file : Option File) (keystores : List (List ℕ × List ℕ)) (now later : ℕ) (a b c d : State) (first second : List ClientStep) (between : List Change) (statuses : List KeyStatus) (v : Option ImportEnd)
     → IfSome file (λ f. EachOnce f.books) → IsWhole a → IsUp a
     → MachineRun a (desk_calls first) b → Follows Fits (import_plan file now keystores) first (Some (ending.Treated statuses)) → AreFine statuses
     → Path Changes b between c → ((key : PubKey) → IsKeyOf keystores key → Never (BeginsDeletion key) between)

@@ -2,7 +2,8 @@
 ghost use Rattle.std.specs.Prelude.{◌≡◌, length, IfOk};
 ghost use Rattle.std.specs.Result.{result_ok};
 ghost use Rattle.call_plans.specs.Paths.{Carries};
-ghost use Rattle.key_custody.specs.Custody.{SignerSeen, Fits, Does, Ran, at_seat};
+ghost use Rattle.client_calls.specs.Steps.{Fits};
+ghost use Rattle.client_calls.specs.Seats.{SignerSeen, Does, Ran, at_seat};
 ghost use Rattle.key_custody.specs.Statuses.{handed_keys};
 ghost use Rattle.key_custody.specs.Plans.{delete_plan, given_up_plan, close_plan, deletion_plan, statuses_plan, export_plan};
 

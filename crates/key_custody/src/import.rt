@@ -4,7 +4,8 @@ ghost use Rattle.std.specs.Result.{result_ok};
 ghost use Rattle.record_join.specs.BooksPasts.{EachOnce};
 ghost use Rattle.desk_machine.specs.Machine.{moment_limit};
 ghost use Rattle.call_plans.specs.Paths.{Carries};
-ghost use Rattle.key_custody.specs.Custody.{SignerSeen, Fits, Does, Ran, at_seat};
+ghost use Rattle.client_calls.specs.Steps.{Fits};
+ghost use Rattle.client_calls.specs.Seats.{SignerSeen, Does, Ran, at_seat};
 ghost use Rattle.key_custody.specs.Plans.{import_plan, file_plan, treated_plan, keystores_plan, keystore_plan, key_plan, listed_plan, taken_plan, activate_plan, paired};
 
 use crate::ask::{Replied, ask};

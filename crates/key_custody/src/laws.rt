@@ -4,7 +4,7 @@ ghost use Rattle.std.specs.declared.option.Option.{Option};
 ghost use Rattle.edge_kit.specs.declared.bytes.PubKey.{PubKey};
 ghost use Rattle.slash_defs.specs.declared.book.File.{File};
 ghost use Rattle.call_plans.specs.Plans.{IsDetermined};
-ghost use Rattle.key_custody.specs.Custody.{Fits};
+ghost use Rattle.client_calls.specs.Steps.{Fits};
 ghost use Rattle.key_custody.specs.Once.{DeletesOnce, ImportsOnce, WholeFromEmpty};
 ghost use Rattle.key_custody.specs.Plans.{deletion_plan, import_plan, list_plan};
 

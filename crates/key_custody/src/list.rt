@@ -5,7 +5,8 @@ ghost use Rattle.std.specs.Result.{result_ok};
 ghost use Rattle.record_join.specs.Keys.{key_cmp};
 ghost use Rattle.desk_machine.specs.States.{is_active, state_in};
 ghost use Rattle.call_plans.specs.Paths.{Carries};
-ghost use Rattle.key_custody.specs.Custody.{SignerSeen, Fits, Does, at_seat};
+ghost use Rattle.client_calls.specs.Steps.{Fits};
+ghost use Rattle.client_calls.specs.Seats.{SignerSeen, Does, at_seat};
 ghost use Rattle.key_custody.specs.Replies.{active_keys, is_active_in, is_active_at};
 ghost use Rattle.key_custody.specs.Plans.{list_plan};
 

@@ -3,7 +3,8 @@ use Rattle.std.proofs.lemmas.List.{length_push}
 use Rattle.call_plans.proofs.PlanLemmas.{cut_now}
 use Rattle.call_plans.proofs.PathLemmas.{carries_cut, comes_none, comes_end}
 use Rattle.call_plans.proofs.EachLemmas.{each_step, each_cut, each_done}
-use Rattle.key_custody.specs.Custody.{Fits, Does}
+use Rattle.client_calls.specs.Steps.{Fits}
+use Rattle.client_calls.specs.Seats.{Does}
 use Rattle.key_custody.specs.Plans.{delete_plan}
 use Rattle.key_custody.proofs.delete.delete_each.Goals as goal
 

@@ -1,7 +1,8 @@
 use Rattle.std.proofs.Common.{◌≡◌, drop, length}
 use Rattle.call_plans.specs.Plans.{each_plan}
 use Rattle.call_plans.specs.Paths.{Comes}
-use Rattle.key_custody.specs.Custody.{Fits, Does, at_seat}
+use Rattle.client_calls.specs.Steps.{Fits}
+use Rattle.client_calls.specs.Seats.{Does, at_seat}
 use Rattle.key_custody.specs.Plans.{delete_plan, statuses_plan}
 use Rattle.key_custody.proofs.delete.delete_each.Given as goal
 

@@ -1,7 +1,8 @@
-use Rattle.key_custody.specs.Custody.{Fits, Does}
+use Rattle.client_calls.specs.Steps.{Fits}
+use Rattle.client_calls.specs.Seats.{Does}
 use Rattle.key_custody.specs.Plans.{statuses_plan, export_plan}
 use Rattle.call_plans.proofs.PathLemmas.{carries_on, carries_short}
-use Rattle.key_custody.proofs.CustodyLemmas.{ran_of}
+use Rattle.client_calls.proofs.SeatLemmas.{ran_of}
 use Rattle.key_custody.proofs.delete.delete_keys.Goals as goal
 
 pub returns-in_default-clause-runs : goal.returns-in_default-clause-runs

@@ -3,7 +3,8 @@ use Rattle.std.specs.Prelude.{string_bytes}
 use Rattle.call_plans.proofs.PlanLemmas.{cut_now}
 use Rattle.call_plans.proofs.PathLemmas.{carries_cut, comes_none, comes_end}
 use Rattle.call_plans.proofs.EachLemmas.{each_next, each_short, each_over}
-use Rattle.key_custody.specs.Custody.{Fits, Does}
+use Rattle.client_calls.specs.Steps.{Fits}
+use Rattle.client_calls.specs.Seats.{Does}
 use Rattle.key_custody.specs.Plans.{keystore_plan}
 use Rattle.key_custody.proofs.CustodyLemmas.{paired_read, paired_over}
 use Rattle.key_custody.proofs.import.import_each.Goals as goal

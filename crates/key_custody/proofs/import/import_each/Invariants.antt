@@ -2,7 +2,8 @@ use Rattle.std.proofs.Common.{drop}
 use Rattle.std.specs.Prelude.{string_bytes}
 use Rattle.call_plans.specs.Plans.{each_plan}
 use Rattle.call_plans.specs.Paths.{Comes}
-use Rattle.key_custody.specs.Custody.{Fits, Does, at_seat}
+use Rattle.client_calls.specs.Steps.{Fits}
+use Rattle.client_calls.specs.Seats.{Does, at_seat}
 use Rattle.key_custody.specs.Plans.{keystore_plan, keystores_plan, paired}
 use Rattle.key_custody.proofs.import.import_each.Given as goal
 

@@ -1,4 +1,4 @@
-use Rattle.key_custody.proofs.CustodyLemmas.{ran_of}
+use Rattle.client_calls.proofs.SeatLemmas.{ran_of}
 use Rattle.key_custody.proofs.import.import_keys.Goals as goal
 
 pub returns-in-Some-clause-runs : goal.returns-in-Some-clause-runs

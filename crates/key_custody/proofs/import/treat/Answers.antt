@@ -1,5 +1,6 @@
 use Rattle.std.proofs.Common.{Some, refl}
-use Rattle.key_custody.specs.Custody.{Fits, Does}
+use Rattle.client_calls.specs.Steps.{Fits}
+use Rattle.client_calls.specs.Seats.{Does}
 use Rattle.key_custody.specs.Plans.{keystores_plan, paired}
 use Rattle.std.specs.Prelude.{string_bytes}
 use Rattle.call_plans.specs.Plans.{Done}

@@ -1,5 +1,5 @@
 use Rattle.call_plans.proofs.PlanLemmas.{determined}
-use Rattle.key_custody.specs.Custody.{Fits}
+use Rattle.client_calls.specs.Steps.{Fits}
 use Rattle.key_custody.specs.Plans.{deletion_plan, import_plan, list_plan}
 use Rattle.key_custody.proofs.laws.custody_law.Goals as goal
 
