@@ -1,1 +1,4 @@
 pub mod SeatLemmas
+pub mod AskLemmas
+pub mod QuietLemmas
+pub mod MachineLemmas

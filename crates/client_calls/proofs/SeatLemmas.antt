@@ -1,6 +1,8 @@
 -- What steps make of a desk and a signer.
 use Rattle.std.proofs.Common.{◌≡◌, ℕ, ◌≤◌, Bool, true, false, List, [], ◌∷◌, ◌++◌, Option, refl, sym, ◌∙◌, subst, arith}
 use Rattle.std.specs.Prelude.{◌||◌}
+use Rattle.std.proofs.lemmas.Grind.{flat_map-append}
+use Rattle.std.proofs.lemmas.List.Folds.{list_any-append}
 use Rattle.edge_kit.specs.Causes.{Rose}
 use Rattle.edge_kit.proofs.TellingLemmas.{Tells-nil, Tells-trans}
 use Rattle.desk_machine.specs.declared.call.DeskCall.{DeskCall}
@@ -15,7 +17,7 @@ use Rattle.signer_link.specs.declared.reply.DeleteReply.TheVariants as deleting
 use Rattle.signer_link.specs.declared.reply.Told.{Told}
 use Rattle.call_plans.specs.Paths.{Path, Carries}
 use Rattle.client_calls.specs.Steps.{ClientPlan, ClientStep, Fits, step_calls, step_told, step_failed, step_denied, desk_calls, told_in, has_failed, has_denied}
-use Rattle.client_calls.specs.Seats.{SignerSeen, SignerTells, Seat, Does, Ran}
+use Rattle.client_calls.specs.Seats.{SignerSeen, SignerTells, Seat, Does, Makes, Ran}
 
 -- ---- the signer
 
@@ -65,6 +67,7 @@ delete_fault (deleting.Refused text) a b h e = not_true e
 delete_fault deleting.Fault a b h e = h refl
 delete_fault (deleting.BadAnswer body) a b h e = not_true e
 delete_fault deleting.OutOfMemory a b h e = not_true e
+
 pub sign_fault : (r : SignReply) (a b : ℕ) → (r ≡ signing.Fault → Rose a b) → sign_failed r ≡ true → Rose a b
 sign_fault (signing.Signed signature) a b h e = not_true e
 sign_fault (signing.NoKey status) a b h e = not_true e
@@ -81,19 +84,34 @@ More {K} leads = (d e f : K) (xs ys : List (DeskCall × DeskReply)) → leads d 
 
 abbrev pub NoneLed : {K : Type 0} → Leads K → Type 0
 NoneLed {K} leads = (d : K) → leads d [] d
+
 -- ---- what a whole run did
 
-abbrev pub DidAll : {K : Type 0} → Leads K → Seat K → List ClientStep → Seat K → Type 0
-DidAll leads a steps b = leads a.desk (desk_calls steps) b.desk × SignerTells a.signer b.signer (told_in steps) (has_failed steps) (has_denied steps)
+pub makes_none : {K : Type 0} (leads : Leads K) (none : NoneLed leads) (a : Seat K) → Makes leads a [] a
+makes_none leads none a = record { desk = none a.desk; signer = signer_none a.signer }
 
-pub did_all : {K : Type 0} (leads : Leads K) (none : NoneLed leads) (more : More leads) (a b : Seat K) (steps : List ClientStep) → Path (Does leads) a steps b → DidAll leads a steps b
-did_all {K} leads none more a b [] p = let P : Seat K → Type 0 = λ x. DidAll leads a [] x in subst P (sym p) (none a.desk, signer_none a.signer)
-did_all leads none more a b (s ∷ steps) p =
-    let rest = did_all leads none more p.0 b steps p.2 in (
-      more a.desk p.0.desk b.desk (step_calls s) (desk_calls steps) p.1.desk rest.0,
-      signer_on a.signer p.0.signer b.signer (step_told s) (told_in steps) (step_failed s) (has_failed steps) (step_denied s) (has_denied steps) p.1.signer rest.1,
-    )
+-- one step before others
+pub makes_step : {K : Type 0} (leads : Leads K) (more : More leads) (a b c : Seat K) (s : ClientStep) (steps : List ClientStep) → Does leads a s b → Makes leads b steps c → Makes leads a (s ∷ steps) c
+makes_step leads more a b c s steps d m = record {
+  desk = more a.desk b.desk c.desk (step_calls s) (desk_calls steps) d.desk m.desk;
+  signer = signer_on a.signer b.signer c.signer (step_told s) (told_in steps) (step_failed s) (has_failed steps) (step_denied s) (has_denied steps) d.signer m.signer;
+}
+
+-- some steps and then others
+pub makes_on : {K : Type 0} (leads : Leads K) (more : More leads) (a b c : Seat K) (xs ys : List ClientStep) → Makes leads a xs b → Makes leads b ys c → Makes leads a (xs ++ ys) c
+makes_on leads more a b c xs ys p q = record {
+  desk = subst (λ (l : List (DeskCall × DeskReply)). leads a.desk l c.desk) (sym (flat_map-append step_calls xs ys)) (more a.desk b.desk c.desk (desk_calls xs) (desk_calls ys) p.desk q.desk);
+  signer =
+      subst (λ (l : List Told). SignerTells a.signer c.signer l (has_failed (xs ++ ys)) (has_denied (xs ++ ys))) (sym (flat_map-append step_told xs ys))
+      (subst (λ (f : Bool). SignerTells a.signer c.signer (told_in xs ++ told_in ys) f (has_denied (xs ++ ys))) (sym (list_any-append step_failed xs ys))
+      (subst (λ (d : Bool). SignerTells a.signer c.signer (told_in xs ++ told_in ys) (has_failed xs || has_failed ys) d) (sym (list_any-append step_denied xs ys))
+      (signer_on a.signer b.signer c.signer (told_in xs) (told_in ys) (has_failed xs) (has_failed ys) (has_denied xs) (has_denied ys) p.signer q.signer)));
+}
+
+pub makes_path : {K : Type 0} (leads : Leads K) (none : NoneLed leads) (more : More leads) (a b : Seat K) (steps : List ClientStep) → Path (Does leads) a steps b → Makes leads a steps b
+makes_path {K} leads none more a b [] p = let P : Seat K → Type 0 = λ x. Makes leads a [] x in subst P (sym p) (makes_none leads none a)
+makes_path leads none more a b (s ∷ steps) p = makes_step leads more a p.0 b s steps p.1 (makes_path leads none more p.0 b steps p.2)
 
 pub ran_of : {K X : Type 0} (leads : Leads K) (none : NoneLed leads) (more : More leads) (plan : ClientPlan X) (a b : Seat K) (v : Option X) → Carries Fits (Does leads) plan a b v → Ran leads plan a b v
 ran_of leads none more plan a b v c =
-    let all = did_all leads none more a b c.steps c.path in record { steps = c.steps; follows = c.follows; desk = all.0; signer = all.1 }
+    let all = makes_path leads none more a b c.steps c.path in record { steps = c.steps; follows = c.follows; desk = all.desk; signer = all.signer }

@@ -35,6 +35,11 @@ pub record Does {K : Type 0} (leads : K → List (DeskCall × DeskReply) → K �
   pub desk : leads before.desk (step_calls s) now.desk
   pub signer : SignerTells before.signer now.signer (step_told s) (step_failed s) (step_denied s)
 
+-- these steps, one after another, were made of the desk and the signer
+pub record Makes {K : Type 0} (leads : K → List (DeskCall × DeskReply) → K → Type 0) (before : Seat K) (steps : List ClientStep) (now : Seat K) : Type 0 where
+  pub desk : leads before.desk (desk_calls steps) now.desk
+  pub signer : SignerTells before.signer now.signer (told_in steps) (has_failed steps) (has_denied steps)
+
 -- The desk and the signer did what the plan says, and it gave this value; None: memory ran out, and the first few steps of the
 -- plan are done, each whole.
 pub record Ran {K X : Type 0} (leads : K → List (DeskCall × DeskReply) → K → Type 0) (plan : ClientPlan X) (before now : Seat K) (value : Option X) : Type 0 where

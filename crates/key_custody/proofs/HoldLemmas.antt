@@ -418,7 +418,7 @@ whole_kept keys states k s has whole q e = changed states k q s has ∙ at (is_a
       absurd (let bad : false ≡ true = sym (ap is_some here) ∙ has in cc)
   at false is = whole q e
 
-whole_lasting : (a : State) (c : DeskCall) → CanLast a c → WholeIn a.keys a.states → WholeIn (lasting_after a c).keys (lasting_after a c).states
+pub whole_lasting : (a : State) (c : DeskCall) → CanLast a c → WholeIn a.keys a.states → WholeIn (lasting_after a c).keys (lasting_after a c).states
 whole_lasting a (call.Merge file) can w = λ q e. w q (was_none a.keys (lasting_after a (call.Merge file)).keys q (grew_lasting a (call.Merge file)) e)
 whole_lasting a (call.Activate k now) can w = whole_activated a.keys a.states k w
 whole_lasting a (call.Propose k m now) can w = λ q e. w q (was_none a.keys (lasting_after a (call.Propose k m now)).keys q (grew_lasting a (call.Propose k m now)) e)
@@ -432,11 +432,11 @@ whole_lasting a (call.Export keys) can w = w
 whole_lasting a call.Keys can w = w
 whole_lasting a call.HasFailed can w = w
 
-abbrev WholeTorn : Option Lasting → Type 0
+abbrev pub WholeTorn : Option Lasting → Type 0
 WholeTorn None = Unit {0}
 WholeTorn (Some l) = WholeIn l.keys l.states
 
-abbrev WholeThrough : State → Type 0
+abbrev pub WholeThrough : State → Type 0
 WholeThrough a = WholeIn a.keys a.states × WholeTorn a.torn
 
 whole_same : (ks ks' : Kept) (ss ss' : List (PubKey × KeyState)) → ks' ≡ ks → ss' ≡ ss → WholeIn ks ss → WholeIn ks' ss'
@@ -446,7 +446,7 @@ torn_whole : (o : Option Lasting) (l : Lasting) → WholeTorn o → (o ≡ None 
 torn_whole None l h new = new refl
 torn_whole (Some first) l h new = h
 
-whole_leaves : (a b : State) (c : DeskCall) → Leaves a c b → WholeThrough a → WholeThrough b
+pub whole_leaves : (a b : State) (c : DeskCall) → Leaves a c b → WholeThrough a → WholeThrough b
 whole_leaves a b c (inl s) h = (whole_same a.keys b.keys a.states b.states s.keys s.states h.0, subst WholeTorn (sym s.torn) h.1)
 whole_leaves a b c (inr (inl s)) h = (whole_same (lasting_after a c).keys b.keys (lasting_after a c).states b.states s.keys s.states (whole_lasting a c s.can h.0), subst WholeTorn (sym s.torn) h.1)
 whole_leaves a b c (inr (inr s)) h = (whole_same a.keys b.keys a.states b.states s.keys s.states h.0, subst WholeTorn (sym s.torn) (torn_whole a.torn (lasting_after a c) h.1 (λ e. whole_lasting a c (s.can e) h.0)))
@@ -455,7 +455,7 @@ whole_lasts : (a : State) (l : Lasting) → MayLast a l → WholeThrough a → W
 whole_lasts a l (inl e) h = let P : Lasting → Type 0 = λ x. WholeIn x.keys x.states in subst P (sym e) h.0
 whole_lasts a l (inr e) h = subst WholeTorn e h.1
 
-whole_opened : (l : Lasting) → WholeIn l.keys l.states → WholeIn l.keys (lasting_states l.states)
+pub whole_opened : (l : Lasting) → WholeIn l.keys l.states → WholeIn l.keys (lasting_states l.states)
 whole_opened l w q e = lookup-map_values lasting_state (is_at (key_cmp q)) l.states ∙ ap (option_map lasting_state) (w q e)
 
 whole_between : (a b : State) (between : List Change) → Path Changes a between b → WholeThrough a → WholeThrough b

@@ -5,3 +5,4 @@ pub mod AgainLemmas
 pub mod HoldLemmas
 pub mod ImportLemmas
 pub mod ImportAgainLemmas
+pub mod QuietLemmas

@@ -12,7 +12,7 @@ use Rattle.signer_link.specs.declared.reply.ImportReply.{ImportReply}
 use Rattle.signer_link.specs.declared.reply.ImportReply.TheVariants as importing
 use Rattle.signer_link.specs.declared.reply.DeleteReply.{DeleteReply}
 use Rattle.signer_link.specs.declared.reply.DeleteReply.TheVariants as deleting
-use Rattle.call_plans.specs.Plans.{Plan, Done, Stop, Ask, bind, each_plan}
+use Rattle.call_plans.specs.Plans.{Done, Stop, Ask, bind, each_plan}
 use Rattle.key_custody.specs.declared.ask.Replied.{Replied}
 use Rattle.key_custody.specs.declared.ask.Replied.TheVariants as said
 use Rattle.key_custody.specs.declared.status.DeskRefusal.TheVariants as refusal
@@ -25,7 +25,7 @@ use Rattle.key_custody.specs.declared.delete.Deletion.{Deletion}
 use Rattle.key_custody.specs.Statuses.{handed_keys}
 use Rattle.key_custody.specs.Keystores.{key_of_keystore}
 use Rattle.key_custody.specs.Replies.{replied_of, active_keys, is_active_in}
-use Rattle.client_calls.specs.Steps.{ClientCall, ClientReply, Calls, Closes, Imports, Deletes, Replies, ClosedBy, Imported, Deleted}
+use Rattle.client_calls.specs.Steps.{ClientReply, ClientPlan, Calls, Closes, Imports, Deletes, Replies, ClosedBy, Imported, Deleted}
 
 -- ---- one call, and then by its reply; a reply that does not fit comes never
 

@@ -1,7 +1,9 @@
 //! Lines and their requests, and answers and their lines.
 use edge_kit::{Items, PubKey, Root, Sig};
 use interchange_io::{ReadFault, VersionText};
+use key_custody::{DeskRefusal, KeyStatus, KeyStatuses, Reason};
 use protect_record::Verdict;
+use record_replay::KeyState;
 use session_format::{Answer, Cause, Member, Op, read_request};
 use sign_roots::{Domains, Fork};
 use signer_link::SignObject;
@@ -98,6 +100,13 @@ fn op_words(alloc: Global, op: &Op) -> Result<String, AllocError> {
             };
             format!(in alloc; "{}{}", message.as_str(), object)
         }
+        Op::Import { file, keystores } => {
+            let (keystores, _passwords) = keystores.texts();
+            let merged = if file.is_some() { " and a file" } else { "" };
+            format!(in alloc; "import {}{}", keystores.len(), merged)
+        }
+        Op::Delete { keys } => format!(in alloc; "delete {}", keys.len()),
+        Op::List => String::from_str(alloc, "list"),
         Op::Export { keys: Some(keys) } => format!(in alloc; "export {}", keys.len()),
         Op::Export { keys: None } => String::from_str(alloc, "export all"),
         Op::Prune { .. } => String::from_str(alloc, "prune"),
@@ -118,7 +127,7 @@ fn outcome(alloc: Global, line: &[u8]) -> Result<String, AllocError> {
     }
 }
 
-const OUTCOMES: [(&str, &str); 51] = [
+const OUTCOMES: [(&str, &str); 62] = [
     // Each op.
     (r#"{"op":"merge","file":"&"}"#, "merge 1"),
     (
@@ -130,6 +139,20 @@ const OUTCOMES: [(&str, &str); 51] = [
         r#" { "epoch" : "7" , "pubkey" : "~" , "op" : "activate" , "more" : [1] } "#,
         "activate at 7",
     ),
+    (
+        r#"{"op":"import","keystores":["k","l"],"passwords":["p","q"]}"#,
+        "import 2",
+    ),
+    (
+        r#"{"op":"import","keystores":[],"passwords":[],"slashing_protection":"&"}"#,
+        "import 0 and a file",
+    ),
+    (
+        r#"{"op":"import","keystores":["k"],"passwords":["p"],"slashing_protection":"{}"}"#,
+        "`metadata` is missing or of another kind",
+    ),
+    (r#"{"op":"delete","pubkeys":["~","~"]}"#, "delete 2"),
+    (r#"{"op":"list","epoch":"7"}"#, "list at 7"),
     (
         r#"{"op":"block","pubkey":"~","slot":"18446744073709551615","signing_root":"%"}"#,
         "block 18446744073709551615 aaaaaaaaaaaaaaaaaaaaaaaaaaaaaaaaaaaaaaaaaaaaaaaaaaaaaaaaaaaaaaaa",
@@ -178,6 +201,21 @@ const OUTCOMES: [(&str, &str); 51] = [
     (r#"{"op":"Activate"}"#, "no op"),
     (r#"{"op":"merge"}"#, "no file"),
     (r#"{"op":"merge","file":{}}"#, "no file"),
+    (r#"{"op":"import","passwords":7}"#, "no keystores"),
+    (
+        r#"{"op":"import","keystores":["k",7],"passwords":[]}"#,
+        "no keystores",
+    ),
+    (
+        r#"{"op":"import","keystores":["k"],"passwords":[]}"#,
+        "no passwords",
+    ),
+    (
+        r#"{"op":"import","keystores":[],"passwords":[],"slashing_protection":null}"#,
+        "no slashing_protection",
+    ),
+    (r#"{"op":"delete"}"#, "no pubkeys"),
+    (r#"{"op":"delete","pubkeys":["0x11"]}"#, "no pubkeys"),
     (r#"{"op":"activate","pubkey":"0x11"}"#, "no pubkey"),
     (r#"{"op":"prune"}"#, "no pubkey"),
     (r#"{"op":"export","pubkeys":null}"#, "no pubkeys"),
@@ -289,8 +327,55 @@ fn answer_at(alloc: Global, place: usize) -> Result<Answer, AllocError> {
         18 => Answer::Unsigned(Cause::BadAnswer {
             body: Items::from_vec(vec![in alloc; 0xee; 257]?),
         }),
+        33..=35 => custody_at(alloc, place)?,
         _ => refusal_at(place),
     })
+}
+
+/// What was asked of keys as a whole, at a place of `LINES`.
+fn custody_at(alloc: Global, place: usize) -> Result<Answer, AllocError> {
+    Ok(match place {
+        33 => Answer::Imported {
+            statuses: imported(alloc)?,
+        },
+        34 => Answer::Deleted {
+            statuses: deleted(alloc)?,
+            file: one_key(alloc)?,
+        },
+        _ => Answer::Listed {
+            keys: Items::from_vec(vec![in alloc; PubKey([0x11; 48]); 1]?),
+        },
+    })
+}
+
+/// A service's text.
+fn service_text(alloc: Global, text: &[u8]) -> Result<KeyStatus, AllocError> {
+    let text = Items::from_vec(Vec::from_slice(alloc, text)?);
+    Ok(KeyStatus::Error(Reason::SignerRefused(text)))
+}
+
+/// What becomes of keys that are taken in, each kind once.
+fn imported(alloc: Global) -> Result<KeyStatuses, AllocError> {
+    let mut statuses = Vec::new(alloc);
+    statuses.push(KeyStatus::Imported)?;
+    statuses.push(KeyStatus::Duplicate)?;
+    statuses.push(KeyStatus::Error(Reason::BadKeystore))?;
+    statuses.push(KeyStatus::Error(Reason::SignerFault))?;
+    statuses.push(service_text(alloc, b"no\xffroom")?)?;
+    Ok(Items::from_vec(statuses))
+}
+
+/// What becomes of keys that are given up, each kind once.
+fn deleted(alloc: Global) -> Result<KeyStatuses, AllocError> {
+    let mut statuses = Vec::new(alloc);
+    statuses.push(KeyStatus::Deleted)?;
+    statuses.push(KeyStatus::NotActive)?;
+    statuses.push(KeyStatus::NotFound)?;
+    statuses.push(KeyStatus::Error(Reason::SignerBadAnswer(Items::new(alloc))))?;
+    statuses.push(KeyStatus::Error(Reason::Desk(DeskRefusal::Busy {
+        grants: 2,
+    })))?;
+    Ok(Items::from_vec(statuses))
 }
 
 /// The refusal by the desk at a place of `LINES`.
@@ -321,6 +406,8 @@ fn refusal_at(place: usize) -> Answer {
             first: 7,
             second: None,
         },
+        36 => Answer::from(DeskRefusal::NotClosing(KeyState::Known)),
+        37 => Answer::from(DeskRefusal::Busy { grants: 2 }),
         _ => Answer::Refused(verdict_at(place)),
     }
 }
@@ -355,7 +442,7 @@ fn verdict_at(place: usize) -> Verdict {
     }
 }
 
-const LINES: [&str; 33] = [
+const LINES: [&str; 38] = [
     r#"{"answer":"merged","keys":"1"}"#,
     r#"{"answer":"active"}"#,
     r#"{"answer":"signed","signature":"0xbbbbbbbbbbbbbbbbbbbbbbbbbbbbbbbbbbbbbbbbbbbbbbbbbbbbbbbbbbbbbbbbbbbbbbbbbbbbbbbbbbbbbbbbbbbbbbbbbbbbbbbbbbbbbbbbbbbbbbbbbbbbbbbbbbbbbbbbbbbbbbbbbbbbbbbbbbbbbbbbbbbbbbbbbbbbbbbbbbbbbbbbbbbbbbbb","signing_root":"%"}"#,
@@ -389,6 +476,11 @@ const LINES: [&str; 33] = [
     r#"{"answer":"refused","entry":{"signing_root":"%","slot":"5"},"reason":"double_block"}"#,
     r#"{"answer":"refused","floor":"4","reason":"target_below"}"#,
     r#"{"answer":"refused","entry":{"source_epoch":"3","target_epoch":"4"},"reason":"surrounds"}"#,
+    r#"{"answer":"imported","data":[{"message":"","status":"imported"},{"message":"","status":"duplicate"},{"message":"bad keystore","status":"error"},{"message":"signer: fault","status":"error"},{"message":"signer: no","status":"error"}]}"#,
+    r#"{"answer":"deleted","data":[{"message":"","status":"deleted"},{"message":"","status":"not_active"},{"message":"","status":"not_found"},{"message":"signer: bad answer","status":"error"},{"message":"busy","status":"error"}],"slashing_protection":"{\"data\":[{\"pubkey\":\"~\",\"signed_attestations\":[],\"signed_blocks\":[]}],\"metadata\":{\"genesis_validators_root\":\"%\",\"interchange_format_version\":\"5\"}}"}"#,
+    r#"{"answer":"keys","data":["~"]}"#,
+    r#"{"answer":"refused","reason":"not_closing","state":"known"}"#,
+    r#"{"answer":"refused","grants":"2","reason":"busy"}"#,
 ];
 
 #[test]
@@ -400,5 +492,25 @@ fn each_answer_has_its_line(rt: HostRuntime) -> Result<(), Fail> {
         wanted.push('\n')?;
         assert_eq!(rt; found.as_str(), wanted.as_str());
     }
+    Ok(())
+}
+
+#[test]
+fn a_text_of_the_service_is_cut_after_200_characters(rt: HostRuntime) -> Result<(), Fail> {
+    let alloc = rt.alloc();
+    let mut text = String::new(alloc);
+    let mut wanted = String::from_str(alloc, r#"{"answer":"imported","data":[{"message":"signer: "#)?;
+    for _ in 0..200 {
+        text.push('é')?;
+        wanted.push('é')?;
+    }
+    text.push('é')?;
+    wanted.push_str(r#"","status":"error"}]}"#)?;
+    wanted.push('\n')?;
+    let mut statuses = Vec::new(alloc);
+    statuses.push(service_text(alloc, text.as_bytes())?)?;
+    let statuses = Items::from_vec(statuses);
+    let found = Answer::Imported { statuses }.line(alloc)?;
+    assert_eq!(rt; found.as_str(), wanted.as_str());
     Ok(())
 }

@@ -10,6 +10,7 @@ use Rattle.interchange_io.specs.declared.fault.ReadFault.{ReadFault}
 use Rattle.interchange_io.specs.declared.fault.ReadFault.TheVariants as fault
 use Rattle.serde_json.specs.Data.{string, member, no_members}
 use Rattle.serde_json.specs.Written.{has_float}
+use Rattle.custody_format.proofs.PlainLemmas.{imported_plain, deleted_plain, listed_plain}
 use Rattle.session_format.specs.Causes.{cause_data}
 use Rattle.session_format.specs.declared.cause.Cause.{Cause}
 use Rattle.session_format.specs.declared.cause.Cause.TheVariants as cause
@@ -58,6 +59,9 @@ plain_cause (cause.BadAnswer body) = refl
 pub no_float : (a : Answer) → has_float (answer_data a) ≡ false
 no_float (answer.Merged keys) = refl
 no_float answer.Active = refl
+no_float (answer.Imported statuses) = imported_plain statuses
+no_float (answer.Deleted statuses file) = deleted_plain statuses file
+no_float (answer.Listed keys) = listed_plain keys
 no_float (answer.Signed signature root) = refl
 no_float (answer.Unsigned c) = plain_cause c
 no_float (answer.Exported file) = refl
@@ -72,6 +76,8 @@ no_float answer.Disk = refl
 no_float answer.Unknown = refl
 no_float answer.NotActive = refl
 no_float answer.Closing = refl
+no_float (answer.NotClosing state) = refl
+no_float (answer.Busy grants) = refl
 no_float (answer.Live epoch) = refl
 no_float (answer.Watching first None) = refl
 no_float (answer.Watching first (Some second)) = refl

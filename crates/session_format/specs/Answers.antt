@@ -12,6 +12,9 @@ use Rattle.interchange_io.specs.declared.fault.ReadFault.{ReadFault}
 use Rattle.interchange_io.specs.declared.fault.ReadFault.TheVariants as fault
 use Rattle.serde_json.specs.Data.{Data, string, array, object, Items, item, no_items, Members, member, no_members}
 use Rattle.serde_json.specs.Written.{compact_text}
+use Rattle.key_custody.specs.declared.status.DeskRefusal.{DeskRefusal}
+use Rattle.key_custody.specs.declared.status.DeskRefusal.TheVariants as refusal
+use Rattle.custody_format.specs.Answers.{imported_data, deleted_data, listed_data, not_closing_data, busy_data}
 use Rattle.session_format.specs.Causes.{cause_data}
 use Rattle.session_format.specs.Members.{member_name}
 use Rattle.session_format.specs.declared.answer.Answer.{Answer}
@@ -86,6 +89,9 @@ abbrev pub answer_data : Answer → Data
 answer_data (answer.Merged keys) =
     object (member (codes "answer") (string (codes "merged")) (member (codes "keys") (string (decimal keys)) no_members))
 answer_data answer.Active = done (codes "active")
+answer_data (answer.Imported statuses) = imported_data statuses
+answer_data (answer.Deleted statuses file) = deleted_data statuses file
+answer_data (answer.Listed keys) = listed_data keys
 answer_data (answer.Signed signature root) =
     object (member (codes "answer") (string (codes "signed"))
     (member (codes "signature") (string (hex_text signature.0))
@@ -116,9 +122,22 @@ answer_data answer.Disk = with_reason (codes "disk")
 answer_data answer.Unknown = with_reason (codes "unknown")
 answer_data answer.NotActive = with_reason (codes "not_active")
 answer_data answer.Closing = with_reason (codes "closing")
+answer_data (answer.NotClosing state) = not_closing_data state
+answer_data (answer.Busy grants) = busy_data grants
 answer_data (answer.Live epoch) = with_one (codes "epoch") (string (decimal epoch)) (codes "live")
 answer_data (answer.Watching first second) = with_one (codes "missing") (array (missing_epochs first second)) (codes "watching")
 answer_data (answer.Refused v) = verdict_data v
+
+-- the answer where the desk refused what custody of keys asked of it
+abbrev pub refusal_answer : DeskRefusal → Answer
+refusal_answer (refusal.GenesisDiffers kept given) = answer.GenesisDiffers kept given
+refusal_answer (refusal.TooManyKeys have new) = answer.TooManyKeys have new
+refusal_answer (refusal.Full size wanted) = answer.Full size wanted
+refusal_answer refusal.Disk = answer.Disk
+refusal_answer refusal.Closing = answer.Closing
+refusal_answer refusal.Unknown = answer.Unknown
+refusal_answer (refusal.NotClosing state) = answer.NotClosing state
+refusal_answer (refusal.Busy grants) = answer.Busy grants
 
 -- the bytes of the answer's line
 unfoldable pub answer_text : Answer → List ℕ

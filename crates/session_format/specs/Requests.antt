@@ -4,9 +4,9 @@ use Rattle.std.specs.Str.{is_utf8, bytes_eq}
 use Rattle.edge_kit.specs.Texts.{quoted_number, hex_bytes}
 use Rattle.edge_kit.specs.declared.bytes.PubKey.{PubKey}
 use Rattle.edge_kit.specs.declared.bytes.Root.{Root}
-use Rattle.serde_json.specs.Data.{Data, Items}
+use Rattle.serde_json.specs.Data.{Data}
 use Rattle.serde_json.specs.Read.{read}
-use Rattle.serde_json.specs.Find.{get, as_bool, as_str, as_array, as_object}
+use Rattle.serde_json.specs.Find.{get, as_bool, as_str, as_object}
 use Rattle.slash_defs.specs.declared.book.File.{File}
 use Rattle.slash_defs.specs.declared.message.Message.TheVariants as message
 use Rattle.interchange_io.specs.Reading.{file_of}
@@ -18,8 +18,13 @@ use Rattle.phase0_types.specs.declared.fault.ReadFault.{ReadFault as ShapeFault}
 use Rattle.sign_roots.specs.declared.domains.Domains.{Domains}
 use Rattle.signer_link.specs.declared.request.SignObject.TheVariants as object
 use Rattle.desk_machine.specs.Machine.{moment_limit}
+use Rattle.custody_format.specs.Lists.{keys_of}
+use Rattle.custody_format.specs.Imports.{import_in}
+use Rattle.custody_format.specs.declared.import.Import.{Import}
+use Rattle.custody_format.specs.declared.import.ImportFault.{ImportFault}
+use Rattle.custody_format.specs.declared.import.ImportFault.TheVariants as fault
 use Rattle.session_format.specs.Members.{inside}
-use Rattle.session_format.specs.Steps.{◌>>=◌, each}
+use Rattle.session_format.specs.Steps.{◌>>=◌}
 use Rattle.session_format.specs.Objects.{root, header_from, details_from, block_message, vote_message}
 use Rattle.session_format.specs.declared.member.Member.{Member}
 use Rattle.session_format.specs.declared.member.Member.TheVariants as member
@@ -37,12 +42,9 @@ text_at name d = option_and_then as_str (get name d)
 abbrev pub pub_key : List ℕ → PubKey
 pub_key bytes = record { 0 = bytes }
 
--- the key that a text is
-abbrev pub key_in : Member → Option (List ℕ) → Result PubKey Member
-key_in m text = ok_or (option_map pub_key (option_and_then (hex_bytes 48) text)) m
-
+-- the key that a line names
 abbrev pub key_at : Data → Result PubKey Member
-key_at d = key_in member.Pubkey (text_at (codes "pubkey") d)
+key_at d = ok_or (option_map pub_key (option_and_then (hex_bytes 48) (text_at (codes "pubkey") d))) member.Pubkey
 
 -- the number in quotes that a member is
 abbrev pub number_at : List ℕ → Member → Data → Result ℕ Member
@@ -132,19 +134,15 @@ vote_at domains d = do
   key ← key_at d
   vote_by domains key d (get (codes "attestation") d)
 
--- a key of the list
-abbrev pub listed_key : Data → Result PubKey Member
-listed_key d = key_in member.Pubkeys (as_str d)
-
-abbrev pub keys_in : Option Items → Result (List PubKey) Member
-keys_in None = Err member.Pubkeys
-keys_in (Some ds) = each listed_key ds
+-- the keys of a list
+abbrev pub keys_in : Option Data → Result (List PubKey) Member
+keys_in d = ok_or (option_and_then keys_of d) member.Pubkeys
 
 -- the keys, where the member is there
 abbrev pub asked_keys : Option Data → Result (Option (List PubKey)) Member
 asked_keys None = Ok None
 asked_keys (Some d) = do
-  keys ← keys_in (as_array d)
+  keys ← keys_in (Some d)
   Ok (Some keys)
 
 abbrev pub export_at : Data → Result Op Member
@@ -165,11 +163,30 @@ live_at d = do
   live ← truth_at (codes "is_live") member.IsLive d
   Ok (op.Live key epoch live)
 
+-- to take keys in, or a text that is no file
+abbrev pub import_of : Result Import ImportFault → Result Op Member
+import_of (Ok given) = Ok (op.Import given.file given.keystores)
+import_of (Err fault.Keystores) = Err member.Keystores
+import_of (Err fault.Passwords) = Err member.Passwords
+import_of (Err fault.SlashingProtection) = Err member.SlashingProtection
+import_of (Err (fault.File f)) = Ok (op.BadFile f)
+
+abbrev pub import_at : Data → Result Op Member
+import_at d = import_of (import_in d)
+
+abbrev pub delete_at : Data → Result Op Member
+delete_at d = do
+  keys ← keys_in (get (codes "pubkeys") d)
+  Ok (op.Delete keys)
+
 -- by the text of the member `op`
 abbrev pub by_op : Domains → Option (List ℕ) → Data → Result Op Member
 by_op domains None d = Err member.Op
 by_op domains (Some name) d = if bytes_eq name (codes "merge") then merge_at d
     else if bytes_eq name (codes "activate") then activate_at d
+    else if bytes_eq name (codes "import") then import_at d
+    else if bytes_eq name (codes "delete") then delete_at d
+    else if bytes_eq name (codes "list") then Ok op.List
     else if bytes_eq name (codes "block") then block_at domains d
     else if bytes_eq name (codes "vote") then vote_at domains d
     else if bytes_eq name (codes "export") then export_at d

@@ -1,6 +1,5 @@
 -- Steps of reading that may find a member without a reading.
-use Rattle.std.specs.Prelude.{◌≡◌, List, [], ◌∷◌, Result, Ok, Err}
-use Rattle.serde_json.specs.Data.{Data, Items, no_items, item}
+use Rattle.std.specs.Prelude.{◌≡◌, Result, Ok, Err}
 use Rattle.session_format.specs.declared.member.Member.{Member}
 use Rattle.session_format.specs.declared.reading.Unread.{Unread}
 use Rattle.session_format.specs.declared.reading.Unread.TheVariants as unread
@@ -10,14 +9,6 @@ infixl 10 ◌>>=◌
 abbrev pub ◌>>=◌ : {A B : Type 0} → Result A Member → (A → Result B Member) → Result B Member
 (Ok x) >>= f = f x
 (Err e) >>= f = Err e
-
--- each element of an array, up to the first without a reading
-abbrev pub each : {A : Type 0} → (Data → Result A Member) → Items → Result (List A) Member
-each f no_items = Ok []
-each f (item d ds) = do
-  x ← f d
-  xs ← each f ds
-  Ok (x ∷ xs)
 
 -- want of memory says nothing, and a member without a reading is the reading's own
 abbrev pub IsUnread : {A : Type 0} → Unread → Result A Member → Type 0

@@ -5,13 +5,17 @@ ghost use Rattle.session_format.specs.Answers.{answer_data, answer_text};
 
 use crate::cause::Cause;
 use crate::member::Member;
+use crate::request::Keys;
 use crate::values::{
     exported, fault_value, full, genesis_differs, live, merged, signed, too_many_keys,
     verdict_value, watching, with_name,
 };
+use custody_format::{busy_value, deleted_value, imported_value, listed_value, not_closing_value};
 use edge_kit::{Root, Sig};
 use interchange_io::ReadFault;
+use key_custody::KeyStatuses;
 use protect_record::Verdict;
+use record_replay::KeyState;
 use serde_json::{Value, json};
 use slash_defs::File;
 use std::alloc::{AllocError, Global};
@@ -23,6 +27,13 @@ pub enum Answer {
     Merged { keys: u64 },
     /// The key is active.
     Active,
+    /// What became of the keys that were to be taken in.
+    Imported { statuses: KeyStatuses },
+    /// What became of the keys that were to be given up, and the interchange file of those that are deleted or were
+    /// not active.
+    Deleted { statuses: KeyStatuses, file: File },
+    /// The active keys, in order.
+    Listed { keys: Keys },
     /// The signature of the message's root.
     Signed { signature: Sig, root: Root },
     /// The proposal was granted, and has no signature.
@@ -51,6 +62,10 @@ pub enum Answer {
     NotActive,
     /// The key is being closed.
     Closing,
+    /// The key is in this state, and not being closed.
+    NotClosing { state: KeyState },
+    /// So many grants of the key are open.
+    Busy { grants: u64 },
     /// The key is watched, and was told live in this epoch of its watch.
     Live { epoch: u64 },
     /// The key is watched, and of these epochs, the lesser first, nothing counted yet.
@@ -76,6 +91,9 @@ impl Answer {
         match self {
             Answer::Merged { keys } => merged(alloc, *keys),
             Answer::Active => json!(in alloc; {"answer": "active"}),
+            Answer::Imported { statuses } => imported_value(alloc, statuses.as_slice()),
+            Answer::Deleted { statuses, file } => deleted_value(alloc, statuses.as_slice(), file),
+            Answer::Listed { keys } => listed_value(alloc, keys.as_slice()),
             Answer::Signed { signature, root } => signed(alloc, signature, root),
             Answer::Unsigned(cause) => cause.value(alloc),
             Answer::Exported(file) => exported(alloc, file),
@@ -90,6 +108,8 @@ impl Answer {
             Answer::Unknown => json!(in alloc; {"answer": "refused", "reason": "unknown"}),
             Answer::NotActive => json!(in alloc; {"answer": "refused", "reason": "not_active"}),
             Answer::Closing => json!(in alloc; {"answer": "refused", "reason": "closing"}),
+            Answer::NotClosing { state } => not_closing_value(alloc, *state),
+            Answer::Busy { grants } => busy_value(alloc, *grants),
             Answer::Live { epoch } => live(alloc, *epoch),
             Answer::Watching { first, second } => watching(alloc, *first, *second),
             Answer::Refused(verdict) => verdict_value(alloc, verdict),

@@ -7,6 +7,7 @@ mod member;
 mod objects;
 mod ops;
 mod reading;
+mod refusal;
 mod request;
 mod texts;
 mod values;

@@ -12,6 +12,12 @@ pub enum Member {
     Op,
     /// The member `file` is no text.
     File,
+    /// The member `keystores` is no list of texts.
+    Keystores,
+    /// The member `passwords` is no list of texts, or has another length than `keystores`.
+    Passwords,
+    /// The member `slashing_protection` is there, and no text.
+    SlashingProtection,
     Pubkey,
     Pubkeys,
     Slot,
@@ -41,6 +47,9 @@ impl Member {
             Member::Line => "line",
             Member::Op => "op",
             Member::File => "file",
+            Member::Keystores => "keystores",
+            Member::Passwords => "passwords",
+            Member::SlashingProtection => "slashing_protection",
             Member::Pubkey => "pubkey",
             Member::Pubkeys => "pubkeys",
             Member::Slot => "slot",

@@ -1,15 +1,15 @@
 //! The ops that name a file or keys, or tell something of a key.
-ghost use Rattle.std.specs.Prelude.{◌≡◌, codes};
+ghost use Rattle.std.specs.Prelude.{codes, Err, Some};
 ghost use Rattle.serde_json.specs.Find.{get};
-ghost use Rattle.serde_json.specs.View.{view, items_view};
-ghost use Rattle.session_format.specs.Requests.{activate_at, asked_keys, export_at, listed_key, live_at, merge_at, prune_at};
-ghost use Rattle.session_format.specs.Steps.{Gives, each};
+ghost use Rattle.serde_json.specs.View.{view};
+ghost use Rattle.session_format.specs.Requests.{activate_at, asked_keys, delete_at, export_at, import_at, import_of, keys_in, live_at, merge_at, prune_at};
+ghost use Rattle.session_format.specs.Steps.{Gives};
 
 use crate::member::Member;
 use crate::reading::Unread;
 use crate::request::{Keys, Op};
-use crate::texts::{key_of, listed_key_of, number_of, text_of, truth_of};
-use edge_kit::Items;
+use crate::texts::{key_of, number_of, text_of, truth_of};
+use custody_format::{Import, ImportFault, read_import};
 use serde_json::Value;
 use std::alloc::Global;
 
@@ -66,23 +66,48 @@ fn keys_of(alloc: Global, value: &Value) -> Result<Option<Keys>, Unread>
     let Some(member) = value.get("pubkeys") else {
         return Ok(None);
     };
-    let Some(list) = member.as_array() else {
-        return Err(Unread::Member(Member::Pubkeys));
-    };
-    let keys = key_list(alloc, list.as_slice())?;
+    let keys = key_list(alloc, member)?;
     Ok(Some(keys))
 }
 
-fn key_list(alloc: Global, elements: &[Value]) -> Result<Keys, Unread>
-    ensures { Gives result (each listed_key (items_view elements.now)) }
+fn key_list(alloc: Global, list: &Value) -> Result<Keys, Unread>
+    ensures { Gives result (keys_in (Some (view list.now))) }
 {
-    let mut keys = Vec::new(alloc);
-    'elements: for element in elements {
-        let key = match listed_key_of(element) {
-            Ok(key) => key,
-            Err(member) => return Err(Unread::Member(member)),
-        };
-        keys.push(key)?;
+    match custody_format::keys_of(alloc, list)? {
+        Some(keys) => Ok(keys),
+        None => Err(Unread::Member(Member::Pubkeys)),
     }
-    Ok(Items::from_vec(keys))
+}
+
+/// To give up the keys of the member `pubkeys`.
+pub(crate) fn delete_of(alloc: Global, value: &Value) -> Result<Op, Unread>
+    ensures { Gives result (delete_at (view value.now)) }
+{
+    let Some(list) = value.get("pubkeys") else {
+        return Err(Unread::Member(Member::Pubkeys));
+    };
+    let keys = key_list(alloc, list)?;
+    Ok(Op::Delete { keys })
+}
+
+/// To take the keys of keystores in, with the interchange file whose text the member `slashing_protection` is, where
+/// it is there.
+pub(crate) fn import_of(alloc: Global, value: &Value) -> Result<Op, Unread>
+    ensures { Gives result (import_at (view value.now)) }
+{
+    match read_import(alloc, value)? {
+        Ok(Import { file, keystores }) => Ok(Op::Import { file, keystores }),
+        Err(fault) => fault_of(fault),
+    }
+}
+
+fn fault_of(fault: ImportFault) -> Result<Op, Unread>
+    ensures { Gives result (import_of (Err fault)) }
+{
+    match fault {
+        ImportFault::Keystores => Err(Unread::Member(Member::Keystores)),
+        ImportFault::Passwords => Err(Unread::Member(Member::Passwords)),
+        ImportFault::SlashingProtection => Err(Unread::Member(Member::SlashingProtection)),
+        ImportFault::File(fault) => Ok(Op::BadFile { fault }),
+    }
 }

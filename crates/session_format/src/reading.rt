@@ -6,7 +6,7 @@ ghost use Rattle.session_format.specs.Steps.{Gives};
 
 use crate::member::Member;
 use crate::objects::{block_of, vote_of};
-use crate::ops::{activate_of, export_of, live_of, merge_of, prune_of};
+use crate::ops::{activate_of, delete_of, export_of, import_of, live_of, merge_of, prune_of};
 use crate::request::{Op, Request};
 use crate::texts::text_of;
 use desk_machine::MOMENT_LIMIT;
@@ -111,6 +111,12 @@ fn op_of(alloc: Global, domains: &Domains, value: &Value) -> Result<Op, Unread>
         merge_of(alloc, value)
     } else if op == "activate" {
         activate_of(value)
+    } else if op == "import" {
+        import_of(alloc, value)
+    } else if op == "delete" {
+        delete_of(alloc, value)
+    } else if op == "list" {
+        Ok(Op::List)
     } else if op == "block" {
         block_of(alloc, domains, value)
     } else if op == "vote" {

@@ -1,4 +1,5 @@
 //! The request of a line.
+use custody_format::Keystores;
 use edge_kit::{Items, PubKey};
 use interchange_io::ReadFault;
 use signer_link::SignObject;
@@ -14,7 +15,8 @@ pub enum Op {
     Merge {
         file: File,
     },
-    /// To merge a text that is no interchange file, for this cause.
+    /// To merge a text that is no interchange file, for this cause. Nothing else is done, also where keys were to be
+    /// taken in.
     BadFile {
         fault: ReadFault,
     },
@@ -22,6 +24,17 @@ pub enum Op {
     Activate {
         key: PubKey,
     },
+    /// To merge the interchange file, if there is one, and to take the keys of keystores in.
+    Import {
+        file: Option<File>,
+        keystores: Keystores,
+    },
+    /// To give keys up, and hand out what is kept of them.
+    Delete {
+        keys: Keys,
+    },
+    /// To list the active keys.
+    List,
     /// To sign a block or a vote. The object is there where the line gave it in place of the signing root.
     Propose {
         key: PubKey,

@@ -1,7 +1,7 @@
 //! Members that are texts, as keys, numbers and roots, and members that are true or false.
 ghost use Rattle.std.specs.Prelude.{◌≡◌, option_map};
 ghost use Rattle.serde_json.specs.View.{view};
-ghost use Rattle.session_format.specs.Requests.{key_at, listed_key, number_at, root_at, text_at, truth_at};
+ghost use Rattle.session_format.specs.Requests.{key_at, number_at, root_at, text_at, truth_at};
 
 use crate::member::Member;
 use edge_kit::{PubKey, Root, read_hex, read_quoted};
@@ -22,17 +22,6 @@ pub(crate) fn key_of(value: &Value) -> Result<PubKey, Member>
         .and_then(|text| read_hex::<48>(text))
         .map(PubKey)
         .ok_or(Member::Pubkey)
-}
-
-/// A key of a list.
-pub(crate) fn listed_key_of(element: &Value) -> Result<PubKey, Member>
-    ensures { result ≡ listed_key (view element.now) }
-{
-    element
-        .as_str()
-        .and_then(|text| read_hex::<48>(text))
-        .map(PubKey)
-        .ok_or(Member::Pubkeys)
 }
 
 /// The number in quotes that a member is.

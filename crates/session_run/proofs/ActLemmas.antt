@@ -1,231 +1,251 @@
--- What a request does, from the desk's call to the settling of its grant.
-use Rattle.std.proofs.Common.{◌≡◌, ℕ, ◌≤◌, List, [], ◌∷◌, ◌++◌, Option, Some, None, Result, Ok, Err, refl, sym, ◌∙◌, ap, subst, arith, append-nil, inl, inr}
-use Rattle.std.specs.Prelude.{IfOk, OnErr}
-use Rattle.std.specs.Map.{keys_of}
-use Rattle.edge_kit.specs.declared.bytes.PubKey.{PubKey}
+-- How a plan ends at a bench.
+use Rattle.std.proofs.Common.{◌≡◌, ℕ, ◌≤◌, List, [], ◌∷◌, ◌++◌, map, Option, Some, None, Result, Ok, Err, refl, sym, ◌∙◌, ap, subst, append-nil}
+use Rattle.std.specs.Prelude.{IfOk, IfSome, OnErr}
 use Rattle.edge_kit.specs.Causes.{Rose}
 use Rattle.edge_kit.specs.Tellings.{Tells}
-use Rattle.edge_kit.proofs.TellingLemmas.{Tells-nil}
-use Rattle.protect_record.specs.Standing.{Stands}
-use Rattle.record_join.specs.Keys.{EachKey}
-use Rattle.sign_roots.specs.declared.domains.Domains.{Domains}
+use Rattle.edge_kit.specs.declared.bytes.PubKey.{PubKey}
+use Rattle.slash_defs.specs.declared.message.Message.{Message}
+use Rattle.signer_link.specs.Outcomes.{CountsDenial, sign_denied}
+use Rattle.signer_link.specs.Signing.{asked, told_sign}
 use Rattle.signer_link.specs.declared.request.SignRequest.{SignRequest}
 use Rattle.signer_link.specs.declared.reply.SignReply.{SignReply}
+use Rattle.signer_link.specs.declared.reply.Told.{Told}
 use Rattle.signer_link.specs.declared.reply.SignReply.TheVariants as signing
-use Rattle.desk_machine.specs.States.{State}
-use Rattle.check_sign.specs.Standing.{DeskStands}
+use Rattle.check_sign.specs.Contents.{Seen}
+use Rattle.check_sign.specs.Calls.{IsCallOf}
+use Rattle.check_sign.specs.Paths.{Path}
+use Rattle.check_sign.specs.PathLaws.{path_more}
+use Rattle.desk_machine.specs.Given.{given}
+use Rattle.desk_machine.specs.Kinds.{IsKind}
+use Rattle.desk_machine.specs.declared.open_grant.OpenGrant.{OpenGrant}
 use Rattle.desk_machine.specs.declared.call.DeskCall.{DeskCall}
 use Rattle.desk_machine.specs.declared.call.DeskCall.TheVariants as call
 use Rattle.desk_machine.specs.declared.call.DeskReply.{DeskReply}
 use Rattle.desk_machine.specs.declared.call.DeskReply.TheVariants as reply
 use Rattle.desk_machine.specs.declared.call.Outcome.{Outcome}
 use Rattle.desk_machine.specs.declared.call.Outcome.TheVariants as outcome
+use Rattle.call_plans.specs.Plans.{Done, bind, Follows}
+use Rattle.call_plans.proofs.PlanLemmas.{cut_now, follows_bind, follows_cut}
+use Rattle.call_plans.specs.Paths.{Carries}
+use Rattle.client_calls.specs.Seats.{SignerSeen, Does, Ran, at_seat}
+use Rattle.client_calls.specs.Steps.{ClientStep, ClientPlan, Calls, Signs, Replies, Signed, Fits, told_under, desk_calls}
+use Rattle.client_calls.proofs.AskLemmas.{AllAsked, steps_asked, cut_after}
+use Rattle.client_calls.proofs.QuietLemmas.{AllQuiet, IsQuiet, IsQuietCall, quiet_given}
+use Rattle.client_calls.proofs.SeatLemmas.{signer_none, sign_fault, makes_step, ran_of}
 use Rattle.session_format.specs.Answers.{answer_text}
-use Rattle.interchange_io.specs.declared.fault.ReadFault.{ReadFault}
-use Rattle.session_format.specs.declared.answer.Answer.TheVariants as answer
-use Rattle.session_format.specs.declared.request.Op.{Op}
-use Rattle.session_format.specs.declared.request.Op.TheVariants as op
-use Rattle.session_format.specs.declared.request.Request.{Request}
-use Rattle.session_format.specs.declared.member.Member.{Member}
-use Rattle.session_run.specs.Turns.{IsAnswered, CanCall, state_by, noted_by, answer_of, moment_by, told_by, unfaulted_under, undenied_under, call_of, op_answer, outcome_of, reply_answer, sign_request, moment_at, without_object}
-use Rattle.check_sign.specs.Images.{Leaves, OpensEither}
-use Rattle.session_run.specs.Acts.{AtBench, Acts, ActsBy, CallsFor, DeskFares, Did, LeftUndone, Turned, Unanswered, CallsAny}
-use Rattle.session_run.proofs.FareLemmas.{fares_none}
-use Rattle.check_sign.proofs.ImageLemmas.{still, weaker}
-
--- ---- a request's call
-
--- an op that calls the desk is answered by the reply
-op_answered : (kept : List PubKey) (o : Op) (now : ℕ) (c : DeskCall) (r : DeskReply) (s : SignReply) → call_of kept o now ≡ Some c → op_answer o r s ≡ reply_answer r s
-op_answered kept (op.Merge file) now c r s e = refl
-op_answered kept (op.BadFile fault) now c r s e = absurd (none_some c e) where
-  none_some : (x : DeskCall) → None ≡ Some x → ⊥
-  none_some x h = cc
-op_answered kept (op.Activate key) now c r s e = refl
-op_answered kept (op.Propose key m object) now c r s e = refl
-op_answered kept (op.Export None) now c r s e = refl
-op_answered kept (op.Export (Some keys)) now c r s e = refl
-op_answered kept (op.Prune key) now c r s e = refl
-op_answered kept (op.Live key epoch live) now c r s e = refl
-
--- its call does not depend on the object that goes to the signer
-pub calls_without : (asked : Result DeskCall ReadFault) (kept : List PubKey) (o p : Op) (at : ℕ) → p ≡ without_object o → CallsFor asked kept p at → CallsFor asked kept o at
-calls_without asked kept o p at is calls =
-    let P : Op → Type 0 = λ x. CallsFor asked kept x at in
-    by_cases asked o (subst P is calls) where
-      by_cases : (result : Result DeskCall ReadFault) (whole : Op) → CallsFor result kept (without_object whole) at → CallsFor result kept whole at
-      by_cases (Ok c) (op.Propose key m object) same = same
-      by_cases (Err fault) (op.Propose key m object) same = absurd (cc)
-      by_cases result (op.Merge file) same = same
-      by_cases result (op.BadFile fault) same = same
-      by_cases result (op.Activate key) same = same
-      by_cases result (op.Export keys) same = same
-      by_cases result (op.Prune key) same = same
-      by_cases result (op.Live key epoch live) same = same
-
--- ---- a line
-
-pub same_keys : {X Y : Type 0} (R : X → Y → Type 0) (xs : List (PubKey × X)) (ys : List (PubKey × Y)) → EachKey R xs ys → keys_of xs ≡ keys_of ys
-same_keys R [] [] h = refl
-same_keys R [] (y ∷ ys) h = absurd h
-same_keys R (x ∷ xs) [] h = absurd h
-same_keys R (x ∷ xs) (y ∷ ys) h = ap (λ k. k ∷ keys_of xs) h.0 ∙ ap (λ ks. y.0 ∷ ks) (same_keys R xs ys h.2)
+use Rattle.session_format.specs.declared.answer.Answer.{Answer}
+use Rattle.session_run.specs.Acts.{AtBench, MakesAt, drop_of, Broken, Answered, PlanEnds, IsLineOf, SignDropped, SignEnds}
+use Rattle.session_run.specs.Plans.{answer_given, answered, calls, outcome_of, signed_answer, settles, signed, signs, proposed_by, proposes}
+use Rattle.session_run.proofs.ReplyLemmas.{IsNoGrant}
+use Rattle.session_run.proofs.RunLemmas.{makes_nothing}
 
 module _ {D : Type 0} (moment : D → ℕ) (leaves : D → ℕ → List ℕ → Type 0) (faults : D → ℕ) where
-  pub did : {T E : Type 0} (bytes : T → List ℕ) (result : Result T E) (domains : Domains) (o : Op) (at : ℕ) (before now : AtBench D) (c : DeskCall) (request : SignRequest) → call_of (keys_of before.desk.contents.keys) o at ≡ Some c → request ≡ sign_request domains o
-      → IfOk result (λ text. (r : DeskReply) × (s : SignReply) × Acts moment leaves faults request before now c r s (outcome_of s) × IsAnswered r s × (bytes text ≡ answer_text (reply_answer r s)))
-      → IfOk result (λ text. Did moment leaves faults domains o at before now (bytes text))
-  did bytes (Ok text) domains o at before now c request is asks h =
-      let P : Option DeskCall → Type 0 = λ x. ActsBy moment leaves faults (sign_request domains o) x before now h.0 h.1 (outcome_of h.1) in
-      let R : SignRequest → Type 0 = λ x. Acts moment leaves faults x before now c h.0 h.1 (outcome_of h.1) in
-      record {
-        reply = h.0;
-        signing = h.1;
-        acts = subst P (sym is) (subst R asks h.2);
-        answered = h.3;
-        text_is = h.4 ∙ ap answer_text (sym (op_answered (keys_of before.desk.contents.keys) o at c h.0 h.1 is));
+  -- ---- steps at a bench
+
+  led_more : (d e f : Seen D) (xs ys : List (DeskCall × DeskReply)) → Path moment leaves faults d xs e → Path moment leaves faults e ys f → Path moment leaves faults d (xs ++ ys) f
+  led_more d e f xs ys p q = path_more moment leaves faults d e f xs ys p q
+
+  abbrev Led : Seen D → List (DeskCall × DeskReply) → Seen D → Type 0
+  Led d xs e = Path moment leaves faults d xs e
+
+  -- a call of the desk before others
+  pub makes_call : (d e : Seen D) (s : SignerSeen) (b : AtBench D) (c : DeskCall) (r : DeskReply) (steps : List ClientStep) → IsCallOf moment leaves faults d e c r → MakesAt moment leaves faults (at_seat e s) steps b
+      → MakesAt moment leaves faults (at_seat d s) ((Calls c, Replies r) ∷ steps) b
+  makes_call d e s b c r steps h rest = makes_step Led led_more (at_seat d s) (at_seat e s) b (Calls c, Replies r) steps (record { desk = (e, h, refl); signer = signer_none s }) rest
+
+  told_by : (g : OpenGrant) (request : SignRequest) (o : Option Message) (m : Message) (r : SignReply) (x y : Option (List Told)) → o ≡ Some m → Tells x y (told_sign (asked g.key m request) r) → Tells x y (told_under g request o r)
+  told_by g request o m r x y e h = let P : Option Message → Type 0 = λ q. Tells x y (told_under g request q r) in subst P (sym e) h
+
+  -- a signing before others
+  pub makes_sign : (d : Seen D) (s t : SignerSeen) (b : AtBench D) (g : OpenGrant) (m : Message) (request : SignRequest) (r : SignReply) (steps : List ClientStep) → g.message ≡ Some m
+      → Tells s.told t.told (told_sign (asked g.key m request) r) → s.faults ≤ t.faults → (r ≡ signing.Fault → Rose s.faults t.faults) → s.denials ≤ t.denials → CountsDenial (sign_denied r) s.denials t.denials
+      → MakesAt moment leaves faults (at_seat d t) steps b → MakesAt moment leaves faults (at_seat d s) ((Signs g request, Signed r) ∷ steps) b
+  makes_sign d s t b g m request r steps is told later fault denials denied rest =
+      makes_step Led led_more (at_seat d s) (at_seat d t) b (Signs g request, Signed r) steps
+      (record { desk = refl; signer = record { told = told_by g request g.message m r s.told t.told is told; later = later; fault = sign_fault r s.faults t.faults fault; denials = denials; denied = denied } }) rest
+
+  -- ---- a plan that asks for no grant
+
+  none_open : (steps : List ClientStep) → AllQuiet steps → steps ≡ steps ++ map drop_of (given [] (desk_calls steps))
+  none_open steps quiet = sym (ap (λ l. steps ++ map drop_of l) (quiet_given [] steps quiet) ∙ append-nil steps)
+
+  module _ {T E : Type 0} (bytes : T → List ℕ) (result : Result T E) (plan : ClientPlan Answer) (a b : AtBench D) (steps : List ClientStep) where
+    pub plan_done : (answer : Answer) → AllQuiet steps → Follows Fits plan steps (Some answer) → MakesAt moment leaves faults a steps b → IfOk result (λ text. bytes text ≡ answer_text answer) → PlanEnds moment leaves faults bytes plan a b result
+    plan_done answer quiet f makes text = at result text where
+      at : (x : Result T E) → IfOk x (λ text. bytes text ≡ answer_text answer) → PlanEnds moment leaves faults bytes plan a b x
+      at (Ok t) is = record { steps = steps; answer = answer; follows = f; makes = makes; text_is = is }
+      at (Err e) is = record { steps = steps; breaks_off = record { front = steps; follows = cut_after Fits plan steps answer f; steps_are = none_open steps quiet }; makes = makes }
+
+  pub plan_cut : (plan : ClientPlan Answer) (a b : AtBench D) (steps : List ClientStep) → AllQuiet steps → Follows Fits plan steps None → MakesAt moment leaves faults a steps b → Broken moment leaves faults plan a b
+  plan_cut plan a b steps quiet f makes = record { steps = steps; breaks_off = record { front = steps; follows = f; steps_are = none_open steps quiet }; makes = makes }
+
+  -- nothing was asked
+  pub nothing_asked : {T E : Type 0} (bytes : T → List ℕ) (result : Result T E) (plan : ClientPlan Answer) (a : AtBench D) (answer : Answer) → Follows Fits plan [] (Some answer) → IfOk result (λ text. bytes text ≡ answer_text answer) → PlanEnds moment leaves faults bytes plan a a result
+  nothing_asked bytes result plan a answer f text = plan_done bytes result plan a a [] answer tt f (makes_nothing moment leaves faults a) text
+
+  -- the same of the text itself
+  pub bad_answered : (plan : ClientPlan Answer) (a : AtBench D) (answer : Answer) (text : List ℕ) → Follows Fits plan [] (Some answer) → text ≡ answer_text answer → Answered moment leaves faults plan a a text
+  bad_answered plan a answer text f is = record { steps = []; answer = answer; follows = f; makes = makes_nothing moment leaves faults a; text_is = is }
+
+  pub none_done : (plan : ClientPlan Answer) (a : AtBench D) → Broken moment leaves faults plan a a
+  none_done plan a = plan_cut plan a a [] tt (cut_now Fits plan) (makes_nothing moment leaves faults a)
+
+  -- ---- custody of keys
+
+  module _ {X T E : Type 0} (bytes : T → List ℕ) (result : Result T E) (plan : ClientPlan X) (answer_by : X → Answer) (a b : AtBench D) where
+    -- the plan gave a value, and this is the line of its answer
+    pub custody_done : (x : X) (given : Answer) → AllAsked IsQuiet plan → Ran Led plan a b (Some x) → given ≡ answer_by x → IsLineOf bytes (Some given) result → PlanEnds moment leaves faults bytes (bind plan (λ x. Done (answer_by x))) a b result
+    custody_done x given quiet ran is line =
+        let L : List ClientStep → Type 0 = λ l. Follows Fits (bind plan (λ x. Done (answer_by x))) l (Some (answer_by x)) in
+        plan_done bytes result (bind plan (λ x. Done (answer_by x))) a b ran.steps (answer_by x) (steps_asked Fits IsQuiet plan ran.steps (Some x) quiet ran.follows)
+        (subst L (append-nil ran.steps) (follows_bind Fits plan (λ x. Done (answer_by x)) ran.steps x ran.follows [] (Some (answer_by x)) refl)) (record { desk = ran.desk; signer = ran.signer }) (text_is result line)
+      where
+        some_same : (u v : Answer) → Some u ≡ Some v → u ≡ v
+        some_same u v e = cc
+
+        text_is : (r : Result T E) → IsLineOf bytes (Some given) r → IfOk r (λ text. bytes text ≡ answer_text (answer_by x))
+        text_is (Ok text) l = l.2 ∙ ap answer_text (sym (some_same given l.0 l.1) ∙ is)
+        text_is (Err e) l = tt
+
+  pub ran_at : {X : Type 0} (plan : ClientPlan X) (a b : AtBench D) (v : Option X) → Carries Fits (Does Led) plan a b v → Ran Led plan a b v
+  ran_at plan a b v h = ran_of Led (λ d. refl) led_more plan a b v h
+
+  -- memory ran out in it
+  pub custody_cut : {X : Type 0} (plan : ClientPlan X) (answer_by : X → Answer) (a b : AtBench D) → AllAsked IsQuiet plan → Ran Led plan a b None → Broken moment leaves faults (bind plan (λ x. Done (answer_by x))) a b
+  custody_cut plan answer_by a b quiet ran =
+      plan_cut (bind plan (λ x. Done (answer_by x))) a b ran.steps (steps_asked Fits IsQuiet plan ran.steps None quiet ran.follows) (follows_cut Fits plan (λ x. Done (answer_by x)) ran.steps ran.follows) (record { desk = ran.desk; signer = ran.signer })
+
+  -- ---- one call
+
+  given_done : (o : Option Answer) (answer : Answer) → o ≡ Some answer → Follows Fits (answered o) [] (Some answer)
+  given_done o answer e = let P : Option Answer → Type 0 = λ x. Follows Fits (answered x) [] (Some answer) in subst P (sym e) refl
+
+  line_by : {T E : Type 0} (bytes : T → List ℕ) (result : Result T E) (o p : Option Answer) → o ≡ p → IsLineOf bytes o result → IsLineOf bytes p result
+  line_by {T} {E} bytes result o p e line = let P : Option Answer → Type 0 = λ x. IsLineOf {T = T} {E = E} bytes x result in subst P e line
+
+  pub call_ends : {T E : Type 0} (bytes : T → List ℕ) (result : Result T E) (d e : Seen D) (s : SignerSeen) (c : DeskCall) (r : DeskReply) (o : Option Answer) → IsQuietCall c → IsCallOf moment leaves faults d e c r → o ≡ answer_given r → IsLineOf bytes o result
+      → PlanEnds moment leaves faults bytes (calls c) (at_seat d s) (at_seat e s) result
+  call_ends {T} {E} bytes result d e s c r o quiet h o_is line = at result (line_by {T = T} {E = E} bytes result o (answer_given r) o_is line) where
+    steps : List ClientStep
+    steps = (Calls c, Replies r) ∷ []
+
+    kind : IsKind c r
+    kind = h.counted.kind
+
+    makes : MakesAt moment leaves faults (at_seat d s) steps (at_seat e s)
+    makes = makes_call d e s (at_seat e s) c r [] h (makes_nothing moment leaves faults (at_seat e s))
+
+    at : (x : Result T E) → IsLineOf bytes (answer_given r) x → PlanEnds moment leaves faults bytes (calls c) (at_seat d s) (at_seat e s) x
+    at (Ok text) is = record { steps = steps; answer = is.0; follows = (refl, kind, given_done (answer_given r) is.0 is.1); makes = makes; text_is = is.2 }
+    at (Err x) is = plan_cut (calls c) (at_seat d s) (at_seat e s) steps ((quiet, kind), tt) (refl, kind, cut_now Fits (answered (answer_given r))) makes
+
+  -- ---- a proposal
+
+  plain_plan : (request : SignRequest) (r : DeskReply) → IsNoGrant r → proposed_by request r ≡ answered (answer_given r)
+  plain_plan request (reply.Granted g) plain = absurd plain
+  plain_plan request r plain = refl
+
+  plain_given : (key : PubKey) (m : Message) (now : ℕ) (r : DeskReply) → IsNoGrant r → given [] ((call.Propose key m now, r) ∷ []) ≡ []
+  plain_given key m now (reply.Granted g) plain = absurd plain
+  plain_given key m now r plain = refl
+
+  module _ {T E : Type 0} (bytes : T → List ℕ) (result : Result T E) (request : SignRequest) (key : PubKey) (m : Message) (now : ℕ) (d e : Seen D) (s : SignerSeen) where
+    abbrev Asked : DeskCall
+    Asked = call.Propose key m now
+
+    pub plain_ends : (r : DeskReply) (o : Option Answer) → IsNoGrant r → IsCallOf moment leaves faults d e Asked r → o ≡ answer_given r → IsLineOf bytes o result → PlanEnds moment leaves faults bytes (proposes request Asked) (at_seat d s) (at_seat e s) result
+    plain_ends r o plain h o_is line = at result (line_by {T = T} {E = E} bytes result o (answer_given r) o_is line) where
+      kind : IsKind (call.Propose key m now) r
+      kind = h.counted.kind
+
+      makes : MakesAt moment leaves faults (at_seat d s) ((Calls (call.Propose key m now), Replies r) ∷ []) (at_seat e s)
+      makes = makes_call d e s (at_seat e s) (call.Propose key m now) r [] h (makes_nothing moment leaves faults (at_seat e s))
+
+      at : (x : Result T E) → IsLineOf bytes (answer_given r) x → PlanEnds moment leaves faults bytes (proposes request (call.Propose key m now)) (at_seat d s) (at_seat e s) x
+      at (Ok text) is =
+          let P : ClientPlan Answer → Type 0 = λ p. Follows Fits p [] (Some is.0) in
+          record {
+            steps = (Calls (call.Propose key m now), Replies r) ∷ [];
+            answer = is.0;
+            follows = (refl, kind, subst P (sym (plain_plan request r plain)) (given_done (answer_given r) is.0 is.1));
+            makes = makes;
+            text_is = is.2;
+          }
+      at (Err x) is = record {
+        steps = (Calls (call.Propose key m now), Replies r) ∷ [];
+        breaks_off = record {
+          front = (Calls (call.Propose key m now), Replies r) ∷ [];
+          follows = (refl, kind, cut_now Fits (proposed_by request r));
+          steps_are = ap (λ l. (Calls (call.Propose key m now), Replies r) ∷ map drop_of l) (sym (plain_given key m now r plain));
+        };
+        makes = makes;
       }
-  did bytes (Err e) domains o at before now c request is asks h = tt
 
-  pub called_only : {T E : Type 0} (result : Result T E) (domains : Domains) (o : Op) (at : ℕ) (before now : AtBench D) (c : DeskCall) (request : SignRequest) → call_of (keys_of before.desk.contents.keys) o at ≡ Some c → request ≡ sign_request domains o
-      → OnErr result ((r : DeskReply) × (s : SignReply) × Acts moment leaves faults request before now c r s outcome.Dropped)
-      → OnErr result (LeftUndone moment leaves faults domains o at before now)
-  called_only (Ok text) domains o at before now c request is asks h = tt
-  called_only (Err e) domains o at before now c request is asks h =
-      let R : SignRequest → Type 0 = λ x. Acts moment leaves faults x before now c h.0 h.1 outcome.Dropped in
-      inr (record { call = c; is_call = is; reply = h.0; signing = h.1; acts = subst R asks h.2 })
+    pub granted_ends : (b : AtBench D) (g : OpenGrant) → IsCallOf moment leaves faults d e Asked (reply.Granted g) → SignEnds moment leaves faults bytes request g (at_seat e s) b result → PlanEnds moment leaves faults bytes (proposes request Asked) (at_seat d s) b result
+    granted_ends b g h ends = at result ends where
+      first : ClientStep
+      first = (Calls (call.Propose key m now), Replies (reply.Granted g))
 
-  -- a text that is no file does nothing
-  did_nothing : (domains : Domains) (o : Op) (at : ℕ) (bench : AtBench D) (fault : ReadFault) (text : List ℕ) → o ≡ op.BadFile fault → text ≡ answer_text (answer.BadFile fault) → Did moment leaves faults domains o at bench bench text
-  did_nothing domains o at bench fault text is text_is =
-      let P : Op → Type 0 = λ x. Did moment leaves faults domains x at bench bench text in
-      subst P (sym is) (record { reply = reply.Active; signing = (signing.NoKey None); acts = refl; answered = tt; text_is = text_is })
+      led : (steps : List ClientStep) → MakesAt moment leaves faults (at_seat e s) steps b → MakesAt moment leaves faults (at_seat d s) (first ∷ steps) b
+      led steps rest = makes_call d e s b (call.Propose key m now) (reply.Granted g) steps h rest
 
-  pub done_nothing : {T E : Type 0} (bytes : T → List ℕ) (result : Result T E) (domains : Domains) (o : Op) (at : ℕ) (bench : AtBench D) (fault : ReadFault) → o ≡ op.BadFile fault
-      → IfOk result (λ text. bytes text ≡ answer_text (answer.BadFile fault)) → IfOk result (λ text. Did moment leaves faults domains o at bench bench (bytes text))
-  done_nothing bytes (Ok text) domains o at bench fault is h = did_nothing domains o at bench fault (bytes text) is h
-  done_nothing bytes (Err e) domains o at bench fault is h = tt
+      at : (x : Result T E) → SignEnds moment leaves faults bytes request g (at_seat e s) b x → PlanEnds moment leaves faults bytes (proposes request (call.Propose key m now)) (at_seat d s) b x
+      at (Ok text) is = record { steps = first ∷ is.steps; answer = is.answer; follows = (refl, tt, is.follows); makes = led is.steps is.makes; text_is = is.text_is }
+      at (Err x) is =
+          let asks : ClientStep = (Signs g request, Signed is.signing) in
+          let S : Option Message → Type 0 = λ o. Follows Fits (signs request g o) (asks ∷ []) None in
+          record {
+            steps = first ∷ asks ∷ drop_of g ∷ [];
+            breaks_off = record {
+              front = first ∷ asks ∷ [];
+              follows = (refl, tt, subst S (sym is.is_message) (refl, tt, cut_now Fits (signed g is.message (Signed is.signing))));
+              steps_are = refl;
+            };
+            makes = led (asks ∷ drop_of g ∷ []) is.makes;
+          }
 
-  -- ---- what a call makes of the desk, if there is one
+  -- ---- under a grant
 
-  abbrev ByMachine : AtBench D → AtBench D → State → Option DeskCall → DeskReply → SignReply → Type 0
-  ByMachine before now state c r s = CanCall state c r s × DeskStands now.desk.contents (state_by state c r (outcome_of s)) × (now.desk.contents.events ≡ before.desk.contents.events ++ noted_by state c r (outcome_of s))
+  given_settles : (g : OpenGrant) (o : Outcome) (given : Option Answer) (answer : Answer) → given ≡ Some answer → Follows Fits (settles g o given) ((Calls (call.Settle g o), Replies reply.Settled) ∷ []) (Some answer)
+  given_settles g o given answer e =
+      let P : Option Answer → Type 0 = λ x. Follows Fits (settles g o x) ((Calls (call.Settle g o), Replies reply.Settled) ∷ []) (Some answer) in
+      subst P (sym e) (refl, tt, refl)
 
-  by_machine : (request : SignRequest) (c : Option DeskCall) (before now : AtBench D) (r : DeskReply) (s : SignReply) → ActsBy moment leaves faults request c before now r s (outcome_of s) → IsAnswered r s
-      → (state : State) → DeskStands before.desk.contents state → ByMachine before now state c r s
-  by_machine request None before now r s same answered state stands =
-      let P : AtBench D → Type 0 = λ p. ByMachine before p state None r s in
-      subst P (sym same) (tt, stands, sym (append-nil before.desk.contents.events))
-  by_machine request (Some c) before now r s acts answered state stands = let m = acts.machine state stands in ((m.0, answered), m.1, m.2)
+  module _ {T E : Type 0} (bytes : T → List ℕ) (result : Result T E) (request : SignRequest) (g : OpenGrant) (m : Message) (r : SignReply) (d e : Seen D) (s t : SignerSeen) (is_message : g.message ≡ Some m)
+      (told : Tells s.told t.told (told_sign (asked g.key m request) r)) (later : s.faults ≤ t.faults) (fault : r ≡ signing.Fault → Rose s.faults t.faults) (denials : s.denials ≤ t.denials) (denied : CountsDenial (sign_denied r) s.denials t.denials) where
+    settled_makes : (o : Outcome) → IsCallOf moment leaves faults d e (call.Settle g o) reply.Settled
+        → MakesAt moment leaves faults (at_seat d s) ((Signs g request, Signed r) ∷ (Calls (call.Settle g o), Replies reply.Settled) ∷ []) (at_seat e t)
+    settled_makes o h =
+        makes_sign d s t (at_seat e t) g m request r ((Calls (call.Settle g o), Replies reply.Settled) ∷ []) is_message told later fault denials denied
+        (makes_call d e t (at_seat e t) (call.Settle g o) reply.Settled [] h (makes_nothing moment leaves faults (at_seat e t)))
 
-  abbrev ByDisk : AtBench D → AtBench D → Option DeskCall → DeskReply → Outcome → Type 0
-  ByDisk before now c r o = DeskFares faults before.desk now.desk × Leaves moment leaves (OpensEither before.desk.contents.genesis (λ state. state_by state c r o)) before.desk now.desk
+    -- memory ran out, and the grant was dropped
+    pub sign_dropped : IsCallOf moment leaves faults d e (call.Settle g outcome.Dropped) reply.Settled → SignDropped moment leaves faults request g (at_seat d s) (at_seat e t)
+    sign_dropped h = record { message = m; is_message = is_message; signing = r; makes = settled_makes outcome.Dropped h }
 
-  by_disk : (request : SignRequest) (c : Option DeskCall) (before now : AtBench D) (r : DeskReply) (s : SignReply) (o : Outcome) → ActsBy moment leaves faults request c before now r s o → ByDisk before now c r o
-  by_disk request None before now r s o same =
-      let P : AtBench D → Type 0 = λ p. ByDisk before p None r o in
-      subst P (sym same) (fares_none faults before.desk, still moment leaves before.desk (OpensEither before.desk.contents.genesis (λ state. state)) (λ state file may. inl may))
-  by_disk request (Some c) before now r s o acts = (acts.fares, acts.files)
-
-  by_desk : (request : SignRequest) (c : Option DeskCall) (before now : AtBench D) (r : DeskReply) (s : SignReply) (o : Outcome) → ActsBy moment leaves faults request c before now r s o → CallsAny moment leaves faults before.desk now.desk c r o
-  by_desk request None before now r s o same = ap (λ b. b.desk) same
-  by_desk request (Some c) before now r s o acts = acts.desk
-
-  abbrev ByTelling : SignRequest → AtBench D → AtBench D → Option DeskCall → DeskReply → SignReply → Type 0
-  ByTelling request before now c r s = Tells before.told now.told (told_by request c r s) × (before.signs_failed ≤ now.signs_failed) × (¬ (Rose before.signs_failed now.signs_failed) → unfaulted_under c r s)
-      × (before.signs_denied ≤ now.signs_denied) × (¬ (Rose before.signs_denied now.signs_denied) → undenied_under c r s)
-
-  called_telling : (request : SignRequest) (before now : AtBench D) (c d : DeskCall) (r : DeskReply) (s : SignReply) (o : Outcome) → Acts moment leaves faults request before now c r s o → ByTelling request before now (Some d) r s
-  called_telling request before now c d r s o acts = (acts.asked, acts.later, acts.unfaulted, acts.denials, acts.undenied)
-
-  by_telling : (request : SignRequest) (kept : List PubKey) (o : Op) (at : ℕ) (before now : AtBench D) (r : DeskReply) (s : SignReply) (out : Outcome) → ActsBy moment leaves faults request (call_of kept o at) before now r s out
-      → ByTelling request before now (call_of [] o 0) r s
-  by_telling request kept (op.BadFile fault) at before now r s out same =
-      let P : AtBench D → Type 0 = λ p. ByTelling request before p None r s in
-      subst P (sym same) (Tells-nil before.told, omega arith, λ n. tt, omega arith, λ n. tt)
-  by_telling request kept (op.Merge file) at before now r s out acts = called_telling request before now (call.Merge file) (call.Merge file) r s out acts
-  by_telling request kept (op.Activate key) at before now r s out acts = called_telling request before now (call.Activate key at) (call.Activate key 0) r s out acts
-  by_telling request kept (op.Propose key m object) at before now r s out acts = called_telling request before now (call.Propose key m at) (call.Propose key m 0) r s out acts
-  by_telling request kept (op.Export None) at before now r s out acts = called_telling request before now (call.Export kept) (call.Export []) r s out acts
-  by_telling request kept (op.Export (Some keys)) at before now r s out acts = called_telling request before now (call.Export keys) (call.Export keys) r s out acts
-  by_telling request kept (op.Prune key) at before now r s out acts = called_telling request before now (call.Prune key) (call.Prune key) r s out acts
-  by_telling request kept (op.Live key epoch live) at before now r s out acts = called_telling request before now (call.Answer key epoch live at) (call.Answer key epoch live 0) r s out acts
-
-  -- ---- a line
-
-  abbrev Answered : Domains → ℕ → Result Request Member → AtBench D → AtBench D → ℕ → List ℕ → Type 0
-  Answered domains latest read before now at text = (r : DeskReply) × (s : SignReply) × Turned moment leaves faults domains latest read r s before now × (text ≡ answer_text (answer_of read r s)) × (at ≡ moment_by latest read)
-
-  -- a request that did what it asks
-  turned_did : (domains : Domains) (latest : ℕ) (q : Request) (before now : AtBench D) (text : List ℕ) → Did moment leaves faults domains q.op (moment_at latest q) before now text → Answered domains latest (Ok q) before now (moment_at latest q) text
-  turned_did domains latest q before now text d =
-      let request = sign_request domains q.op in
-      let m = moment_at latest q in
-      let kept = keys_of before.desk.contents.keys in
-      let telling = by_telling request kept q.op m before now d.reply d.signing (outcome_of d.signing) d.acts in
-      let disk = by_disk request (call_of kept q.op m) before now d.reply d.signing (outcome_of d.signing) d.acts in (
-        d.reply,
-        d.signing,
+    pub sign_done : (text : T) (o : Outcome) (given : Option Answer) → o ≡ outcome_of r → IsCallOf moment leaves faults d e (call.Settle g o) reply.Settled → given ≡ signed_answer m r → IsLineOf bytes given result → result ≡ Ok text
+        → Answered moment leaves faults (signs request g g.message) (at_seat d s) (at_seat e t) (bytes text)
+    sign_done text o given o_is h given_is line ok =
+        let R : Result T E → Type 0 = λ x. IsLineOf bytes given x in
+        let whole = line_of_ok text given given_is (subst R ok line) in
+        let S : Option Message → Type 0 = λ x. Follows Fits (signs request g x) ((Signs g request, Signed r) ∷ (Calls (call.Settle g o), Replies reply.Settled) ∷ []) (Some whole.0) in
+        let O : Outcome → Type 0 = λ x. Follows Fits (settles g (outcome_of r) (signed_answer m r)) ((Calls (call.Settle g x), Replies reply.Settled) ∷ []) (Some whole.0) in
         record {
-          desk = by_desk request (call_of kept q.op m) before now d.reply d.signing (outcome_of d.signing) d.acts;
-          machine = λ state stands.
-              let P : List PubKey → Type 0 = λ ks. ByMachine before now state (call_of ks q.op m) d.reply d.signing in
-              subst P (same_keys Stands before.desk.contents.keys state.keys stands.keys) (by_machine request (call_of kept q.op m) before now d.reply d.signing d.acts d.answered state stands);
-          asked = telling.0;
-          later = telling.1;
-          unfaulted = telling.2;
-          denials = telling.3;
-          undenied = telling.4;
-          fares = disk.0;
-          files = weaker moment leaves before.desk now.desk _ (OpensEither before.desk.contents.genesis (λ state. state_by state (call_of (keys_of state.keys) q.op m) d.reply (outcome_of d.signing)))
-              (λ state stands file may.
-              let K : List PubKey → Type 0 = λ ks. OpensEither before.desk.contents.genesis (λ st. state_by st (call_of ks q.op m) d.reply (outcome_of d.signing)) state file in
-              subst K (same_keys Stands before.desk.contents.keys state.keys stands.keys) may)
-              disk.1;
-        },
-        d.text_is,
-        refl,
-      )
+          steps = (Signs g request, Signed r) ∷ (Calls (call.Settle g o), Replies reply.Settled) ∷ [];
+          answer = whole.0;
+          follows = subst S (sym is_message) (refl, tt, subst O (sym o_is) (given_settles g (outcome_of r) (signed_answer m r) whole.0 whole.1));
+          makes = settled_makes o h;
+          text_is = whole.2;
+        }
+      where
+        line_of_ok : (text : T) (given : Option Answer) → given ≡ signed_answer m r → IsLineOf {T = T} {E = E} bytes given (Ok text) → (a : Answer) × (signed_answer m r ≡ Some a) × (bytes text ≡ answer_text a)
+        line_of_ok text given is line = (line.0, sym is ∙ line.1, line.2)
 
-  -- the same, of what a line reads as
-  pub ok_answered : (domains : Domains) (latest : ℕ) (read : Result Request Member) (q : Request) (before now : AtBench D) (at : ℕ) (text : List ℕ) → read ≡ Ok q → Did moment leaves faults domains q.op at before now text → at ≡ moment_at latest q → Answered domains latest read before now at text
-  ok_answered domains latest read q before now at text is d at_is =
-      let D' : ℕ → Type 0 = λ n. Did moment leaves faults domains q.op n before now text in
-      let A : ℕ → Type 0 = λ n. Answered domains latest (Ok q) before now n text in
-      let P : Result Request Member → Type 0 = λ x. Answered domains latest x before now at text in
-      subst P (sym is) (subst A (sym at_is) (turned_did domains latest q before now text (subst D' at_is d)))
+  -- what the signer was asked under a grant with this message
+  pub told_at : (o : Option Message) (m : Message) (P : Message → Type 0) → o ≡ Some m → IfSome o P → P m
+  told_at None m P e h = absurd (let bad : None ≡ Some m = e in cc)
+  told_at (Some x) m P e h = subst P (let same : Some x ≡ Some m = e in cc) h
 
-  -- a bad request does nothing
-  turned_bad : (domains : Domains) (latest : ℕ) (m : Member) (bench : AtBench D) (r : DeskReply) (s : SignReply) → Turned moment leaves faults domains latest (Err m) r s bench bench
-  turned_bad domains latest m bench r s = record {
-    desk = refl;
-    machine = λ state stands. (tt, stands, sym (append-nil bench.desk.contents.events));
-    asked = Tells-nil bench.told;
-    later = omega arith;
-    unfaulted = λ n. tt;
-    denials = omega arith;
-    undenied = λ n. tt;
-    fares = fares_none faults bench.desk;
-    files = still moment leaves bench.desk (OpensEither bench.desk.contents.genesis (λ state. state)) (λ state file may. inl may);
-  }
-
-  pub bad_answered : (domains : Domains) (latest : ℕ) (read : Result Request Member) (m : Member) (bench : AtBench D) (text : List ℕ) → read ≡ Err m → text ≡ answer_text (answer.BadRequest m) → Answered domains latest read bench bench latest text
-  bad_answered domains latest read m bench text is text_is =
-      let P : Result Request Member → Type 0 = λ x. Answered domains latest x bench bench latest text in
-      subst P (sym is) (reply.Active, (signing.NoKey None), turned_bad domains latest m bench reply.Active (signing.NoKey None), text_is, refl)
-
-  -- a request that was not answered
-  unanswered : (domains : Domains) (latest : ℕ) (q : Request) (before now : AtBench D) → LeftUndone moment leaves faults domains q.op (moment_at latest q) before now → Unanswered moment leaves faults domains latest (Ok q) before now
-  unanswered domains latest q before now (inl same) = inl same
-  unanswered domains latest q before now (inr c) = inr (record { request = q; is_request = refl; call = c.call; is_call = c.is_call; reply = c.reply; signing = c.signing; acts = c.acts })
-
-  pub ok_unanswered : (domains : Domains) (latest : ℕ) (read : Result Request Member) (q : Request) (before now : AtBench D) (at : ℕ) → read ≡ Ok q → LeftUndone moment leaves faults domains q.op at before now → at ≡ moment_at latest q → Unanswered moment leaves faults domains latest read before now
-  ok_unanswered domains latest read q before now at is u at_is =
-      let D' : ℕ → Type 0 = λ n. LeftUndone moment leaves faults domains q.op n before now in
-      let P : Result Request Member → Type 0 = λ x. Unanswered moment leaves faults domains latest x before now in
-      subst P (sym is) (unanswered domains latest q before now (subst D' at_is u))
-
--- the same, where an answer did not come
-pub unanswered_at : {T E A : Type 0} (result : Result T E) → A → OnErr result A
-unanswered_at (Ok text) h = tt
-unanswered_at (Err e) h = h
+pub on_err : {T E A : Type 0} (result : Result T E) → A → OnErr result A
+on_err (Ok text) h = tt
+on_err (Err e) h = h

@@ -18,9 +18,9 @@ use Rattle.desk_machine.specs.declared.call.DeskCall.TheVariants as call
 use Rattle.desk_machine.specs.declared.call.DeskReply.{DeskReply}
 use Rattle.desk_machine.specs.declared.call.DeskReply.TheVariants as reply
 use Rattle.session_run.specs.Durable.{CoversKey, IsDurable}
-use Rattle.session_run.proofs.SafeLemmas.{Kept, KeepsIn, keeps_call, keeps_all, file_keeps, known_keeps, grown_keeps, pruned_keeps, found_changed, some_of}
+use Rattle.session_run.proofs.KeptLemmas.{Kept, KeepsIn, keeps_call, keeps_all, file_keeps, known_keeps, grown_keeps, pruned_keeps, found_changed, some_of}
 
-covers_on : (old new : Kept) (key : PubKey) (m : Message) → KeepsIn old new → CoversKey old key m → CoversKey new key m
+pub covers_on : (old new : Kept) (key : PubKey) (m : Message) → KeepsIn old new → CoversKey old key m → CoversKey new key m
 covers_on old new key m keeps h =
     let past = some_of (λ p. Covers p m) (kept_of old key) h in
     let found = keeps key past.0 past.1 in

@@ -18,22 +18,28 @@ use Rattle.program_end.specs.declared.limit.Limit.TheVariants as limit
 use Rattle.program_end.specs.declared.status.Status.{Status}
 use Rattle.program_end.specs.declared.status.Status.TheVariants as status
 use Rattle.program_end.proofs.ClosingLemmas.{closed_by}
-use Rattle.session_run.specs.Lines.{IsShortLine, BeginsTooLong}
-use Rattle.session_run.specs.Reading.{Pending, ReadsMore, GivesLine}
+use Rattle.input_lines.specs.Lines.{IsShortLine, BeginsTooLong}
+use Rattle.input_lines.specs.Reading.{Pending, ReadsMore, GivesLine}
 use Rattle.session_run.specs.Inputs.{HasRead, ReadsWhole, ReadsFirst, IsNext, StopsReading, StoppedShort, PassesLimit, WithinLimits}
 use Rattle.session_run.specs.Acts.{AtBench, DeskFares, Unanswered}
-use Rattle.session_run.specs.Turns.{Turn, moment_after, moment_by, written, text_of}
+use Rattle.std.specs.Map.{keys_of}
+use Rattle.session_run.specs.Plans.{line_plan, moment_by}
+use Rattle.session_run.specs.Turns.{Turn, made, moment_after, written, text_of}
 use Rattle.session_run.specs.Runs.{Run}
 use Rattle.session_run.specs.Ends.{Wires, Because, Closed, EndsBy, Ends, IsFront, IsWhole}
 use Rattle.session_run.specs.Exits.{IsTurn, ServesLine, UnservedCloses, UnreadCloses}
-use Rattle.session_run.specs.declared.next.LineFault.{LineFault}
-use Rattle.session_run.specs.declared.next.LineFault.TheVariants as fault
-use Rattle.session_run.specs.declared.next.Next.TheVariants as next
+use Rattle.input_lines.specs.declared.next.LineFault.{LineFault}
+use Rattle.input_lines.specs.declared.next.LineFault.TheVariants as fault
+use Rattle.input_lines.specs.declared.next.Next.TheVariants as next
 use Rattle.session_run.specs.declared.session.Unserved.{Unserved}
 use Rattle.session_run.specs.declared.session.Unserved.TheVariants as unserved
 use Rattle.session_run.proofs.ReadLemmas.{read_none, read_on, read_line, read_last, first_of, first_whole, one_line, no_line}
-use Rattle.session_run.proofs.RunLemmas.{run_then, ran_of, laws_of, moment_then}
-use Rattle.session_run.proofs.FareLemmas.{fares_none, fares_on}
+use Rattle.check_sign.specs.PathLaws.{path_more}
+use Rattle.call_plans.proofs.PlanLemmas.{cut_now}
+use Rattle.client_calls.specs.Steps.{Fits, desk_calls}
+use Rattle.session_run.proofs.RunLemmas.{run_then, run_makes, makes_nothing, ran_of, laws_of, moment_then}
+use Rattle.session_run.proofs.FareLemmas.{fares_on}
+use Rattle.session_run.proofs.PathLemmas.{path_fares}
 use Rattle.session_run.proofs.MomentLemmas.{images_of}
 use Rattle.session_run.proofs.LimitLemmas.{passes_none}
 
@@ -65,9 +71,10 @@ some_long line h = grind (arith, common_steps)
 module _ {D : Type 0} (moment : D → ℕ) (leaves : D → ℕ → List ℕ → Type 0) (faults : D → ℕ) (domains : Domains) where
   -- an ending, from what its status says
   ended : (turns : List Turn) (a b c : AtBench D) (line : List ℕ) (before now : Wires) (result : Status) → Run moment leaves faults domains 0 turns a b
-      → Unanswered moment leaves faults domains (moment_after 0 turns) (request_of domains line) b c → EndsBy faults turns line a b c before now result → Ends moment leaves faults domains a c before now result
+      → (u : Unanswered moment leaves faults domains (moment_after 0 turns) (request_of domains line) b c) → EndsBy faults turns line u.steps a b c before now result → Ends moment leaves faults domains a c before now result
   ended turns a b c line before now result run u ends =
       let ran = ran_of moment leaves faults domains 0 turns a b run in
+      let makes = run_makes moment leaves faults domains 0 turns a b run in
       record {
         turns = turns;
         mid = b;
@@ -77,12 +84,21 @@ module _ {D : Type 0} (moment : D → ℕ) (leaves : D → ℕ → List ℕ → 
         ends = ends;
         ran = ran;
         laws = laws_of moment leaves faults domains 0 turns a b ran;
-        images = λ left. images_of moment leaves faults domains 0 (moment_after 0 turns) turns a b c (request_of domains line) u run ran.fares.genesis (λ state stands. (ran.machine state stands).0) left;
+        images = λ left. images_of moment leaves faults a.desk.contents.genesis c.desk (made turns ++ desk_calls u.steps) a.desk
+            (path_more moment leaves faults a.desk b.desk c.desk (made turns) (desk_calls u.steps) makes.desk u.makes.desk) refl left;
       }
 
+  -- no line was begun behind the turns
+  abbrev none_begun : (latest : ℕ) (b : AtBench D) → Unanswered moment leaves faults domains latest (request_of domains []) b b
+  none_begun latest b = record {
+    steps = [];
+    breaks_off = record { front = []; follows = cut_now Fits (line_plan domains (keys_of b.desk.contents.keys) latest (request_of domains [])); steps_are = refl };
+    makes = makes_nothing moment leaves faults b;
+  }
+
   -- one where each line that was begun is answered
-  served : (turns : List Turn) (a b : AtBench D) (before now : Wires) (result : Status) → Run moment leaves faults domains 0 turns a b → EndsBy faults turns [] a b b before now result → Ends moment leaves faults domains a b before now result
-  served turns a b before now result run ends = ended turns a b b [] before now result run (inl refl) ends
+  served : (turns : List Turn) (a b : AtBench D) (before now : Wires) (result : Status) → Run moment leaves faults domains 0 turns a b → EndsBy faults turns [] [] a b b before now result → Ends moment leaves faults domains a b before now result
+  served turns a b before now result run ends = ended turns a b b [] before now result run (none_begun (moment_after 0 turns) b) ends
 
   pub so_far_none : (left : Option (List ℕ)) (bench : AtBench D) (held : Option (List ℕ)) (pending : Pending) → pending.bytes ≡ [] → pending.total ≡ 0 → bench.desk.contents.torn ≡ None → SoFar moment leaves faults domains left left bench bench held held pending 0
   so_far_none left bench held pending none zero up = record {
@@ -144,9 +160,9 @@ module _ {D : Type 0} (moment : D → ℕ) (leaves : D → ℕ → List ℕ → 
           let because : Because faults turns a c First Now closing.DiskFault = (ran.fares.fails up torn, torn, first t is.is_line) in
           let whole = written_then h1 h2 h3 s.turns t s.answered answered in
           closed_by Ended closing.DiskFault result h3 h4 wf3 wf4 closes
-          (λ closed. served turns a c First Now status.DiskFault run (refl, record { because = because; held = h3; answered = whole; closed = closed }))
+          (λ closed. served turns a c First Now status.DiskFault run ((refl, refl), record { because = because; held = h3; answered = whole; closed = closed }))
           (λ part. served turns a c First Now status.WriteFault run
-          (refl, rose_back wf1 wf3 wf4 (omega (arith, earlier, later)) part.rose, inr (closing.DiskFault, record { because = because; held = h3; answered = whole; closed = (part.count, part.within, part.front) })))
+          ((refl, refl), rose_back wf1 wf3 wf4 (omega (arith, earlier, later)) part.rose, inr (closing.DiskFault, record { because = because; held = h3; answered = whole; closed = (part.count, part.within, part.front) })))
           (λ takes same unfailed. absurd takes)
         where
           begun : (ts : List Turn) → Run moment leaves faults domains 0 ts a c → a.desk.contents.torn ≡ None
@@ -165,7 +181,7 @@ module _ {D : Type 0} (moment : D → ℕ) (leaves : D → ℕ → List ℕ → 
           let rose : Rose wf1 wf4 = let R : ℕ → Type 0 = λ n. Rose wf1 n in subst R (sym closes.2) (rose_back wf1 wf2 wf3 earlier front.rose) in
           let P : Status → Type 0 = Ended in
           subst P (sym closes.0) (served (s.turns ++ t ∷ []) a c First Now status.WriteFault (run_on t line v.1)
-          (refl, rose, inl (record { front = s.turns; last = t; turns_are = refl; first = first t v.1.is_line; held = h2; answered = s.answered; cut = cut })))
+          ((refl, refl), rose, inl (record { front = s.turns; last = t; turns_are = refl; first = first t v.1.is_line; held = h2; answered = s.answered; cut = cut })))
       ends_unserved unserved.Memory v closes =
           let P : Status → Type 0 = Ended in
           let U : ℕ → Type 0 = λ n. Unanswered moment leaves faults domains n (request_of domains line) b c in
@@ -200,7 +216,7 @@ module _ {D : Type 0} (moment : D → ℕ) (leaves : D → ℕ → List ℕ → 
         → Ends moment leaves faults domains a c (record { left = l1; held = h1; reads_failed = rf1; writes_failed = wf1 }) (record { left = l3; held = h3; reads_failed = rf2; writes_failed = wf3 }) status.Done
     ends_done line n rf1 rf2 wf1 wf2 wf3 gives end some v =
         let t = v.0 in
-        served (s.turns ++ t ∷ []) a c _ _ status.Done (run_on t line.items v.1) (refl, last_whole line t gives end some v.1.is_line, written_then h1 h2 h3 s.turns t s.answered v.2, v.5)
+        served (s.turns ++ t ∷ []) a c _ _ status.Done (run_on t line.items v.1) ((refl, refl), last_whole line t gives end some v.1.is_line, written_then h1 h2 h3 s.turns t s.answered v.2, v.5)
 
   module _ (l1 l2 l3 : Option (List ℕ)) (a b : AtBench D) (h1 h2 : Option (List ℕ)) (old new : Pending) (latest : ℕ) (s : SoFar moment leaves faults domains l1 l2 a b h1 h2 old latest) where
     -- nothing stood behind the last newline
@@ -209,7 +225,7 @@ module _ {D : Type 0} (moment : D → ℕ) (leaves : D → ℕ → List ℕ → 
     ends_empty line rf1 rf2 wf1 wf2 gives end none =
         let W : List Turn → Type 0 = λ ts. ReadsWhole l1 l3 ts in
         let whole = read_last [] line.items gives.more new.total s.has_read gives.taken gives.line.0 gives.line.1 gives.total gives.within end (no_line line.items none) in
-        served s.turns a b _ _ status.Done s.run (refl, subst W (append-nil s.turns) whole, s.answered, s.up)
+        served s.turns a b _ _ status.Done s.run ((refl, refl), subst W (append-nil s.turns) whole, s.answered, s.up)
 
     -- ---- reading stopped
 
@@ -220,12 +236,12 @@ module _ {D : Type 0} (moment : D → ℕ) (leaves : D → ℕ → List ℕ → 
       abbrev End : Wires
       End = record { left = l3; held = h3; reads_failed = rf3; writes_failed = wf3 }
 
-      closes_read : (line : ClosingLine) → Because faults s.turns a b Start End line → Closes line h2 h3 wf2 wf3 result → (Closed faults s.turns a b Start End line IsWhole → EndsBy faults s.turns [] a b b Start End (closing_status line)) → Ends moment leaves faults domains a b Start End result
+      closes_read : (line : ClosingLine) → Because faults s.turns a b Start End line → Closes line h2 h3 wf2 wf3 result → (Closed faults s.turns a b Start End line IsWhole → EndsBy faults s.turns [] [] a b b Start End (closing_status line)) → Ends moment leaves faults domains a b Start End result
       closes_read line because closes says =
           closed_by (λ st. Ends moment leaves faults domains a b Start End st) line result h2 h3 wf2 wf3 closes
           (λ closed. served s.turns a b Start End (closing_status line) s.run (says (record { because = because; held = h2; answered = s.answered; closed = closed })))
           (λ part. served s.turns a b Start End status.WriteFault s.run
-          (refl, rose_back wf1 wf2 wf3 writes part.rose, inr (line, record { because = because; held = h2; answered = s.answered; closed = (part.count, part.within, part.front) })))
+          ((refl, refl), rose_back wf1 wf2 wf3 writes part.rose, inr (line, record { because = because; held = h2; answered = s.answered; closed = (part.count, part.within, part.front) })))
           (λ takes same unfailed. takes_none line because takes same)
         where
           takes_none : (x : ClosingLine) → Because faults s.turns a b Start End x → TakesMemory x → h3 ≡ h2 → Ends moment leaves faults domains a b Start End status.OutOfMemory
@@ -245,18 +261,18 @@ module _ {D : Type 0} (moment : D → ℕ) (leaves : D → ℕ → List ℕ → 
       ends_unread fault.Memory file keys read line input closes =
           let P : Status → Type 0 = λ st. Ends moment leaves faults domains a b Start End st in
           let H : Option (List ℕ) → Type 0 = λ h. Appends h1 h (written s.turns) in
-          subst P (sym closes.0) (served s.turns a b Start End status.OutOfMemory s.run (record { pending = new.bytes; total = new.total; has_read = read_on s.has_read more; answered = subst H (sym closes.1) s.answered; up = s.up; is_next = inl refl }))
+          subst P (sym closes.0) (served s.turns a b Start End status.OutOfMemory s.run (record { pending = new.bytes; total = new.total; has_read = read_on s.has_read more; answered = subst H (sym closes.1) s.answered; up = s.up; is_next = inl (refl, refl) }))
       ends_unread fault.Read file keys read line input closes =
-          closes_read closing.ReadFault (rose_back rf1 rf2 rf3 reads (read refl).0, stops_at StoppedShort ((read refl).1, (read refl).2), s.up) closes (λ c. (refl, c))
-      ends_unread (fault.TooLong limit.Line) file keys read line input closes = closes_read (closing.TooLong limit.Line) (stops_at (PassesLimit limit.Line) (line refl), s.up) closes (λ c. (refl, c))
-      ends_unread (fault.TooLong limit.Input) file keys read line input closes = closes_read (closing.TooLong limit.Input) (stops_at (PassesLimit limit.Input) (input refl), s.up) closes (λ c. (refl, c))
+          closes_read closing.ReadFault (rose_back rf1 rf2 rf3 reads (read refl).0, stops_at StoppedShort ((read refl).1, (read refl).2), s.up) closes (λ c. ((refl, refl), c))
+      ends_unread (fault.TooLong limit.Line) file keys read line input closes = closes_read (closing.TooLong limit.Line) (stops_at (PassesLimit limit.Line) (line refl), s.up) closes (λ c. ((refl, refl), c))
+      ends_unread (fault.TooLong limit.Input) file keys read line input closes = closes_read (closing.TooLong limit.Input) (stops_at (PassesLimit limit.Input) (input refl), s.up) closes (λ c. ((refl, refl), c))
       ends_unread (fault.TooLong limit.File) file keys read line input closes = absurd (file refl)
       ends_unread (fault.TooLong limit.Keys) file keys read line input closes = absurd (keys refl)
 
   -- memory ran out before anything was read
   pub ends_begin : (left held : Option (List ℕ)) (bench : AtBench D) (rf wf : ℕ) → bench.desk.contents.torn ≡ None
       → Ends moment leaves faults domains bench bench (record { left = left; held = held; reads_failed = rf; writes_failed = wf }) (record { left = left; held = held; reads_failed = rf; writes_failed = wf }) status.OutOfMemory
-  ends_begin left held bench rf wf up = served [] bench bench _ _ status.OutOfMemory refl (record { pending = []; total = 0; has_read = read_none left; answered = Appends-nil held; up = up; is_next = inl refl })
+  ends_begin left held bench rf wf up = served [] bench bench _ _ status.OutOfMemory refl (record { pending = []; total = 0; has_read = read_none left; answered = Appends-nil held; up = up; is_next = inl (refl, refl) })
 
   -- ---- what an ending says of the limits
 
@@ -282,7 +298,4 @@ module _ {D : Type 0} (moment : D → ℕ) (leaves : D → ℕ → List ℕ → 
     ends_disk is = let e = subst As is ends in e.ends.1.because.0
 
     pub ends_fares : DeskFares faults a.desk c.desk
-    ends_fares = fares_on faults a.desk ends.mid.desk c.desk ends.ran.fares (behind (moment_after 0 ends.turns) (request_of domains ends.line) ends.mid ends.unanswered) where
-      behind : (latest : ℕ) (q : _) (mid : AtBench D) → Unanswered moment leaves faults domains latest q mid c → DeskFares faults mid.desk c.desk
-      behind latest q mid (inl same) = let P : AtBench D → Type 0 = λ x. DeskFares faults mid.desk x.desk in subst P (sym same) (fares_none faults mid.desk)
-      behind latest q mid (inr undone) = undone.acts.fares
+    ends_fares = fares_on faults a.desk ends.mid.desk c.desk ends.ran.fares (path_fares moment leaves faults ends.mid.desk c.desk (desk_calls ends.unanswered.steps) ends.unanswered.makes.desk)

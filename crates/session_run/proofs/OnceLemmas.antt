@@ -18,7 +18,11 @@ use Rattle.phase0_types.specs.declared.fault.ReadFault.{ReadFault as ShapeFault}
 use Rattle.sign_roots.specs.declared.domains.Domains.{Domains}
 use Rattle.desk_machine.specs.Machine.{moment_limit}
 use Rattle.session_format.specs.Steps.{◌>>=◌}
-use Rattle.session_format.specs.Requests.{data_of, request_of, of_data, members_of, op_in, by_op, text_at, key_at, merge_at, merge_in, merge_of, activate_at, block_at, block_by, plain_block, header_block, vote_at, vote_by, plain_vote, details_vote, export_at, asked_keys, prune_at, epoch_at, epoch_in, moment_in, number_at, root_at, live_at, truth_at}
+use Rattle.session_format.specs.Requests.{data_of, request_of, of_data, members_of, op_in, by_op, text_at, key_at, merge_at, merge_in, merge_of, activate_at, block_at, block_by, plain_block, header_block, vote_at, vote_by, plain_vote, details_vote, export_at, asked_keys, prune_at, import_at, import_of, delete_at, keys_in, epoch_at, epoch_in, moment_in, number_at, root_at, live_at, truth_at}
+use Rattle.custody_format.specs.Imports.{import_of as with_file, import_with, import_by, import_paired, import_lists}
+use Rattle.custody_format.specs.Keystores.{keystores_of}
+use Rattle.custody_format.specs.Lists.{texts_in}
+use Rattle.session_format.specs.declared.request.Op.TheVariants as op
 use Rattle.session_format.specs.declared.member.Member.{Member}
 use Rattle.session_format.specs.declared.member.Member.TheVariants as member
 use Rattle.session_format.specs.declared.request.Request.{Request}
@@ -73,6 +77,30 @@ votes_by : (domains : Domains) (key : PubKey) (d : Data) (details : Option Data)
 votes_by domains key d None = plain_votes key d
 votes_by domains key d (Some details) = details_votes domains key (read_at attestation_data None details)
 
+import_read : (keystores : List (List ℕ × List ℕ)) (text : List ℕ) (r : Result File ReadFault) → file_of text ≡ r → IfRead ListsOnce (import_of (with_file keystores r))
+import_read keystores text (Ok file) e = lists_once text file e
+import_read keystores text (Err f) e = tt
+
+import_text : (keystores : List (List ℕ × List ℕ)) (text : Option (List ℕ)) → IfRead ListsOnce (import_of (import_with keystores text))
+import_text keystores None = tt
+import_text keystores (Some text) = import_read keystores text (file_of text) refl
+
+import_rest : (keystores : List (List ℕ × List ℕ)) (protection : Option Data) → IfRead ListsOnce (import_of (import_by keystores protection))
+import_rest keystores None = tt
+import_rest keystores (Some d) = import_text keystores (as_str d)
+
+import_pairs : (pairs : Option (List (List ℕ × List ℕ))) (protection : Option Data) → IfRead ListsOnce (import_of (import_paired pairs protection))
+import_pairs None protection = tt
+import_pairs (Some keystores) protection = import_rest keystores protection
+
+import_texts : (keystores passwords : Option (List (List ℕ))) (protection : Option Data) → IfRead ListsOnce (import_of (import_lists keystores passwords protection))
+import_texts None passwords protection = tt
+import_texts (Some keystores) None protection = tt
+import_texts (Some keystores) (Some passwords) protection = import_pairs (keystores_of (λ text. text) keystores passwords) protection
+
+imports : (d : Data) → IfRead ListsOnce (import_at d)
+imports d = import_texts (texts_in (codes "keystores") d) (texts_in (codes "passwords") d) (get (codes "slashing_protection") d)
+
 lives : (d : Data) → IfRead ListsOnce (live_at d)
 lives d = then ListsOnce (key_at d) _ (λ key. then ListsOnce (number_at (codes "of") member.Of d) _ (λ epoch. then ListsOnce (truth_at (codes "is_live") member.IsLive d) _ (λ live. tt)))
 
@@ -81,11 +109,14 @@ ops domains None d = tt
 ops domains (Some name) d =
     by_test ListsOnce (bytes_eq name (codes "merge")) (merge_at d) _ (merges (text_at (codes "file") d))
     (by_test ListsOnce (bytes_eq name (codes "activate")) (activate_at d) _ (then ListsOnce (key_at d) _ (λ key. tt))
+    (by_test ListsOnce (bytes_eq name (codes "import")) (import_at d) _ (imports d)
+    (by_test ListsOnce (bytes_eq name (codes "delete")) (delete_at d) _ (then ListsOnce (keys_in (get (codes "pubkeys") d)) _ (λ keys. tt))
+    (by_test ListsOnce (bytes_eq name (codes "list")) (Ok op.List) _ tt
     (by_test ListsOnce (bytes_eq name (codes "block")) (block_at domains d) _ (then ListsOnce (key_at d) _ (λ key. blocks_by domains key d (get (codes "header") d)))
     (by_test ListsOnce (bytes_eq name (codes "vote")) (vote_at domains d) _ (then ListsOnce (key_at d) _ (λ key. votes_by domains key d (get (codes "attestation") d)))
     (by_test ListsOnce (bytes_eq name (codes "export")) (export_at d) _ (then ListsOnce (asked_keys (get (codes "pubkeys") d)) _ (λ keys. tt))
     (by_test ListsOnce (bytes_eq name (codes "prune")) (prune_at d) _ (then ListsOnce (key_at d) _ (λ key. tt))
-    (by_test ListsOnce (bytes_eq name (codes "live")) (live_at d) _ (lives d) tt))))))
+    (by_test ListsOnce (bytes_eq name (codes "live")) (live_at d) _ (lives d) tt)))))))))
 
 -- ---- the moment
 

@@ -5,8 +5,8 @@ use Rattle.std.proofs.lemmas.List.{append-nil, map-append}
 use Rattle.std.proofs.lemmas.Grind.{common_steps}
 use Rattle.edge_kit.proofs.TellingLemmas.{Consumes-nil, Consumes-trans}
 use Rattle.program_end.specs.Limits.{input_limit}
-use Rattle.session_run.specs.Lines.{lines_of, lines_after, IsOneLine, IsShortLine}
-use Rattle.session_run.specs.Reading.{Pending, ReadsMore}
+use Rattle.input_lines.specs.Lines.{lines_of, lines_after, IsOneLine, IsShortLine}
+use Rattle.input_lines.specs.Reading.{Pending, ReadsMore}
 use Rattle.session_run.specs.Turns.{Turn, line_of}
 use Rattle.session_run.specs.Inputs.{HasRead, ReadsWhole, ReadsFirst, AreShort, last_lines}
 

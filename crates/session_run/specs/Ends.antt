@@ -1,28 +1,23 @@
 -- How a session ends.
-use Rattle.std.specs.Prelude.{◌≡◌, ℕ, ◌<◌, ◌⊎◌, List, [], ◌∷◌, ◌++◌, length, take, Option, None, IsSome, Result}
-use Rattle.std.proofs.Common.{inl, inr}
+use Rattle.std.specs.Prelude.{◌≡◌, ℕ, ◌<◌, ◌⊎◌, List, [], ◌∷◌, ◌++◌, length, take, Option, None, IsSome}
 use Rattle.std.specs.Io.KnownBytes.{Appends}
 use Rattle.edge_kit.specs.Causes.{Rose}
-use Rattle.edge_kit.specs.declared.bytes.Root.{Root}
 use Rattle.sign_roots.specs.declared.domains.Domains.{Domains}
-use Rattle.desk_machine.specs.States.{State}
-use Rattle.check_sign.specs.Standing.{MayOpen}
 use Rattle.check_sign.specs.Calls.{LeavesDesk}
-use Rattle.desk_machine.specs.declared.call.Outcome.TheVariants.{Dropped}
+use Rattle.desk_machine.specs.declared.call.DeskCall.{DeskCall}
+use Rattle.desk_machine.specs.declared.call.DeskReply.{DeskReply}
+use Rattle.client_calls.specs.Steps.{ClientStep, desk_calls}
 use Rattle.session_format.specs.Requests.{request_of}
-use Rattle.session_format.specs.declared.request.Request.{Request}
-use Rattle.session_format.specs.declared.member.Member.{Member}
 use Rattle.program_end.specs.Closing.{closing_text}
 use Rattle.program_end.specs.declared.closing.ClosingLine.{ClosingLine}
 use Rattle.program_end.specs.declared.closing.ClosingLine.TheVariants as closing
 use Rattle.program_end.specs.declared.status.Status.{Status}
 use Rattle.program_end.specs.declared.status.Status.TheVariants as status
-use Rattle.check_sign.specs.Images.{OpensEither}
 use Rattle.session_run.specs.Acts.{AtBench, Unanswered}
 use Rattle.session_run.specs.Inputs.{HasRead, ReadsWhole, ReadsFirst, IsNext, StopsReading, StoppedShort, PassesLimit}
 use Rattle.session_run.specs.Runs.{Run, Ran, Laws}
 use Rattle.session_run.specs.Moments.{Images}
-use Rattle.session_run.specs.Turns.{Turn, moment_after, state_after, text_of, written}
+use Rattle.session_run.specs.Turns.{Turn, made, moment_after, text_of, written}
 
 -- what an input and an output tell, and how often each failed
 pub record Wires : Type 0 where
@@ -69,36 +64,39 @@ pub record CutShort (turns : List Turn) (before now : Wires) : Type 0 where
   pub answered : Appends before.held held (written front)
   pub cut : IsFront held now.held (text_of last)
 
+-- no line was begun behind the turns: there are no steps, and the bench is the same
+abbrev pub NoneBegun : {D : Type 0} → List ClientStep → AtBench D → AtBench D → Type 0
+NoneBegun steps mid bench_now = (steps ≡ []) × (bench_now ≡ mid)
+
 -- each turn was answered, and of the line behind them nothing was written: none was begun, or the next one, at a desk that was up
-pub record LeavesOff {D : Type 0} (turns : List Turn) (line : List ℕ) (mid bench_now : AtBench D) (before now : Wires) : Type 0 where
+pub record LeavesOff {D : Type 0} (turns : List Turn) (line : List ℕ) (steps : List ClientStep) (mid bench_now : AtBench D) (before now : Wires) : Type 0 where
   pub pending : List ℕ
   pub total : ℕ
   pub has_read : HasRead before.left now.left turns pending total
   pub answered : Appends before.held now.held (written turns)
   pub up : mid.desk.contents.torn ≡ None
-  pub is_next : (bench_now ≡ mid) ⊎ IsNext now.left pending line
+  pub is_next : NoneBegun steps mid bench_now ⊎ IsNext now.left pending line
 
--- What each status says of the turns: what was read, what was written, and why. `mid` is the bench behind the last turn.
-abbrev pub EndsBy : {D : Type 0} → (D → ℕ) → List Turn → List ℕ → AtBench D → AtBench D → AtBench D → Wires → Wires → Status → Type 0
-EndsBy faults turns line bench_before mid bench_now before now status.Done =
-    (bench_now ≡ mid) × ReadsWhole before.left now.left turns × Appends before.held now.held (written turns) × (bench_now.desk.contents.torn ≡ None)
-EndsBy faults turns line bench_before mid bench_now before now status.ReadFault = (bench_now ≡ mid) × Closed faults turns bench_before bench_now before now closing.ReadFault IsWhole
-EndsBy faults turns line bench_before mid bench_now before now (status.InputTooLong l) = (bench_now ≡ mid) × Closed faults turns bench_before bench_now before now (closing.TooLong l) IsWhole
-EndsBy faults turns line bench_before mid bench_now before now status.DiskFault = (bench_now ≡ mid) × Closed faults turns bench_before bench_now before now closing.DiskFault IsWhole
-EndsBy faults turns line bench_before mid bench_now before now status.WriteFault =
-    (bench_now ≡ mid) × Rose before.writes_failed now.writes_failed
+-- What each status says of the turns: what was read, what was written, and why. `mid` is the bench behind the last turn, and `steps`
+-- are those of a line that was begun behind it and is not answered.
+abbrev pub EndsBy : {D : Type 0} → (D → ℕ) → List Turn → List ℕ → List ClientStep → AtBench D → AtBench D → AtBench D → Wires → Wires → Status → Type 0
+EndsBy faults turns line steps bench_before mid bench_now before now status.Done =
+    NoneBegun steps mid bench_now × ReadsWhole before.left now.left turns × Appends before.held now.held (written turns) × (bench_now.desk.contents.torn ≡ None)
+EndsBy faults turns line steps bench_before mid bench_now before now status.ReadFault = NoneBegun steps mid bench_now × Closed faults turns bench_before bench_now before now closing.ReadFault IsWhole
+EndsBy faults turns line steps bench_before mid bench_now before now (status.InputTooLong l) = NoneBegun steps mid bench_now × Closed faults turns bench_before bench_now before now (closing.TooLong l) IsWhole
+EndsBy faults turns line steps bench_before mid bench_now before now status.DiskFault = NoneBegun steps mid bench_now × Closed faults turns bench_before bench_now before now closing.DiskFault IsWhole
+EndsBy faults turns line steps bench_before mid bench_now before now status.WriteFault =
+    NoneBegun steps mid bench_now × Rose before.writes_failed now.writes_failed
     × (CutShort turns before now ⊎ ((own : ClosingLine) × Closed faults turns bench_before bench_now before now own IsFront))
-EndsBy faults turns line bench_before mid bench_now before now status.OutOfMemory = LeavesOff turns line mid bench_now before now
-EndsBy faults turns line bench_before mid bench_now before now status.Usage = ⊥
-EndsBy faults turns line bench_before mid bench_now before now status.Damaged = ⊥
-EndsBy faults turns line bench_before mid bench_now before now status.GenesisDiffers = ⊥
-EndsBy faults turns line bench_before mid bench_now before now status.FileRefused = ⊥
+EndsBy faults turns line steps bench_before mid bench_now before now status.OutOfMemory = LeavesOff turns line steps mid bench_now before now
+EndsBy faults turns line steps bench_before mid bench_now before now status.Usage = ⊥
+EndsBy faults turns line steps bench_before mid bench_now before now status.Damaged = ⊥
+EndsBy faults turns line steps bench_before mid bench_now before now status.GenesisDiffers = ⊥
+EndsBy faults turns line steps bench_before mid bench_now before now status.FileRefused = ⊥
 
--- behind the last turn: what lasts of the state after it, or after the call of a line that is not answered
-abbrev pub OpensLast : {D : Type 0} (moment : D → ℕ) (leaves : D → ℕ → List ℕ → Type 0) (faults : D → ℕ) (domains : Domains) (latest : ℕ) (q : Result Request Member) (before now : AtBench D)
-    → Unanswered moment leaves faults domains latest q before now → Root → State → List ℕ → Type 0
-OpensLast moment leaves faults domains latest q before now (inl same) genesis state file = MayOpen genesis state file
-OpensLast moment leaves faults domains latest q before now (inr undone) genesis state file = OpensEither genesis (λ s. state_after s undone.call undone.reply Dropped) state file
+-- all calls of the desk: those of the turns, and those of the line that is not answered
+abbrev pub all_made : List Turn → List ClientStep → List (DeskCall × DeskReply)
+all_made turns steps = made turns ++ desk_calls steps
 
 -- How a session ends, over the bench and the wires before it and now. Some lines were served, a turn each, and behind them one may
 -- have been begun and not answered, where memory ran out. What the status says, the images of the disk at each moment, and the
@@ -109,8 +107,7 @@ pub record Ends {D : Type 0} (moment : D → ℕ) (leaves : D → ℕ → List �
   pub line : List ℕ
   pub run : Run moment leaves faults domains 0 turns bench_before mid
   pub unanswered : Unanswered moment leaves faults domains (moment_after 0 turns) (request_of domains line) mid bench_now
-  pub ends : EndsBy faults turns line bench_before mid bench_now before now result
+  pub ends : EndsBy faults turns line unanswered.steps bench_before mid bench_now before now result
   pub ran : Ran faults domains 0 turns bench_before mid
   pub laws : Laws 0 turns bench_before
-  pub images : LeavesDesk moment leaves bench_before.desk.disk bench_before.desk.contents
-      → Images moment leaves bench_before.desk bench_now.desk (OpensLast moment leaves faults domains (moment_after 0 turns) (request_of domains line) mid bench_now unanswered bench_before.desk.contents.genesis) 0 turns
+  pub images : LeavesDesk moment leaves bench_before.desk.disk bench_before.desk.contents → Images moment leaves bench_before.desk bench_now.desk (all_made turns unanswered.steps)

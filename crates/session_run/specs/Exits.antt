@@ -8,18 +8,19 @@ use Rattle.program_end.specs.Endings.{Closes, WritesFront, IsUnwritten}
 use Rattle.program_end.specs.declared.closing.ClosingLine.TheVariants as closing
 use Rattle.program_end.specs.declared.status.Status.{Status}
 use Rattle.program_end.specs.declared.status.Status.TheVariants as status
-use Rattle.session_run.specs.declared.next.LineFault.{LineFault}
-use Rattle.session_run.specs.declared.next.LineFault.TheVariants as fault
+use Rattle.input_lines.specs.declared.next.LineFault.{LineFault}
+use Rattle.input_lines.specs.declared.next.LineFault.TheVariants as fault
 use Rattle.session_run.specs.declared.session.Unserved.{Unserved}
 use Rattle.session_run.specs.declared.session.Unserved.TheVariants as unserved
 use Rattle.session_run.specs.Acts.{AtBench, Turned, Unanswered}
-use Rattle.session_run.specs.Turns.{Turn, moment_by, text_of}
+use Rattle.session_run.specs.Plans.{moment_by}
+use Rattle.session_run.specs.Turns.{Turn, text_of}
 
 -- a turn of this line
 pub record IsTurn {D : Type 0} (moment : D → ℕ) (leaves : D → ℕ → List ℕ → Type 0) (faults : D → ℕ) (domains : Domains) (latest : ℕ) (line : List ℕ) (before now : AtBench D) (t : Turn) : Type 0 where
   pub is_line : t.line ≡ line
   pub request : t.request ≡ request_of domains t.line
-  pub turned : Turned moment leaves faults domains latest t.request t.reply t.signing before now
+  pub turned : Turned moment leaves faults domains latest t before now
 
 -- A line was served and answered, and this is the latest moment; or it was answered, and the disk failed; or a front of its answer
 -- was written; or memory ran out, and nothing was.

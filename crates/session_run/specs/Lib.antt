@@ -1,11 +1,12 @@
-pub mod Lines
-pub mod Reading
+pub mod Plans
 pub mod Turns
 pub mod Acts
 pub mod Safe
 pub mod Durable
 pub mod Inputs
+pub mod Silent
 pub mod Runs
 pub mod Moments
 pub mod Ends
+pub mod Retries
 pub mod Exits

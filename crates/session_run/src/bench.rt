@@ -1,25 +1,22 @@
 //! A desk and its signer, and one request at them.
-ghost use Rattle.std.specs.Prelude.{◌≡◌, ◌≤◌, IfOk, OnErr, Contains, IsSome, is_some, string_bytes, unwrap_or};
+ghost use Rattle.std.specs.Prelude.{◌≡◌, ◌≤◌, IfOk, IfSome, OnErr, Contains, IsSome, is_some, string_bytes, unwrap_or, Some};
 ghost use Rattle.std.specs.Map.{keys_of};
-ghost use Rattle.desk_machine.specs.Grants.{IsGrantFor, IsOpenIn};
+ghost use Rattle.record_join.specs.BooksPasts.{EachOnce};
 ghost use Rattle.desk_machine.specs.Machine.{MayCall, moment_limit};
-ghost use Rattle.desk_machine.specs.declared.call.DeskReply.{DeskReply};
-ghost use Rattle.desk_machine.specs.declared.call.Outcome.TheVariants.{Dropped};
-ghost use Rattle.slash_defs.specs.Signing.{signing_root_of};
-ghost use Rattle.signer_link.specs.declared.reply.SignReply.{SignReply};
-ghost use Rattle.session_format.specs.Answers.{answer_text};
-ghost use Rattle.session_run.specs.Turns.{IsAnswered, IsOfSession, IsToSession, answer_of, moment_by, object_of, outcome_of, reply_answer, signed_answer, without_object};
-ghost use Rattle.check_sign.specs.Calls.{IsCallOf};
-ghost use Rattle.session_run.specs.Acts.{Acts, CallsFor, Did, IsGiven, LeftUndone, ListsOnce, Signs, Turned, Unanswered};
+ghost use Rattle.call_plans.specs.Plans.{Done, bind};
+ghost use Rattle.key_custody.specs.Plans.{deletion_plan, import_plan, list_plan};
+ghost use Rattle.session_run.specs.Acts.{Answered, IsLineOf, ListsOnce, PlanEnds, SignEnds, Unanswered};
+ghost use Rattle.session_run.specs.Plans.{IsPlainCall, IsPlainReply, answer_given, calls, import_answer, line_plan, moment_by, op_plan, outcome_of, proposes, sign_request, signed_answer};
 
 use check_sign::Desk;
+use custody_format::Keystores;
 use desk_machine::{DeskCall, DeskReply, Grant, Outcome};
-use edge_kit::{Disk, Root};
-use interchange_io::ReadFault;
+use edge_kit::{Disk, PubKey};
+use key_custody::{Deletion, ImportEnd, delete_keys, import_keys, list_keys};
 use session_format::{Answer, Cause, Member, Op, Request};
 use sign_roots::Domains;
 use signer_link::{SignObject, SignReply, SignRequest, Signer};
-use slash_defs::{Granted, Message};
+use slash_defs::{File, Granted, Message};
 use std::alloc::{AllocError, Global};
 use std::marker::Model;
 
@@ -35,16 +32,16 @@ impl<D: Disk, S: Signer> Model for Bench<D, S> {
 
     ghost Value = { AtBench D };
 
-    ghost view = { λ b. record { desk = b.desk; told = S.told b.signer; signs_failed = S.faults b.signer; signs_denied = S.denials b.signer } };
+    ghost view = { λ b. record { desk = b.desk; signer = record { told = S.told b.signer; faults = S.faults b.signer; denials = S.denials b.signer } } };
 }
 
 impl<D: Disk, S: Signer> Bench<D, S> {
     /// A bench of this desk and this signer.
     pub fn new(desk: Desk<D>, signer: S) -> Self
         ensures desk { result.desk ≡ desk }
-        ensures told { result.told ≡ S.told signer }
-        ensures faults { result.signs_failed ≡ S.faults signer }
-        ensures denials { result.signs_denied ≡ S.denials signer }
+        ensures told { result.signer.told ≡ S.told signer }
+        ensures faults { result.signer.faults ≡ S.faults signer }
+        ensures denials { result.signer.denials ≡ S.denials signer }
     {
         Bench { desk, signer }
     }
@@ -52,9 +49,9 @@ impl<D: Disk, S: Signer> Bench<D, S> {
     /// The desk and the signer.
     pub fn into_parts(self) -> (Desk<D>, S)
         ensures desk { result.0 ≡ self.desk }
-        ensures told { S.told result.1 ≡ self.told }
-        ensures faults { S.faults result.1 ≡ self.signs_failed }
-        ensures denials { S.denials result.1 ≡ self.signs_denied }
+        ensures told { S.told result.1 ≡ self.signer.told }
+        ensures faults { S.faults result.1 ≡ self.signer.faults }
+        ensures denials { S.denials result.1 ≡ self.signer.denials }
     {
         (self.desk, self.signer)
     }
@@ -67,7 +64,7 @@ impl<D: Disk, S: Signer> Bench<D, S> {
     }
 
     /// What a line gets as its answer, and the latest moment after it. A bad request does nothing. Where memory
-    /// ran out, what it asks may be done.
+    /// ran out, the first few steps of what it asks are done, each whole.
     pub(crate) fn answer(
         &mut self,
         alloc: Global,
@@ -78,8 +75,8 @@ impl<D: Disk, S: Signer> Bench<D, S> {
         requires latest { latest ≤ moment_limit }
         requires epoch { IfOk read (λ q. unwrap_or q.epoch 0 ≤ moment_limit) }
         requires once { IfOk read (λ q. ListsOnce q.op) }
-        ensures done { IfOk result (λ x. (r : DeskReply) × (s : SignReply) × Turned D.moment D.leaves D.faults domains.now latest read r s self.old self.new
-            × (string_bytes x.0 ≡ answer_text (answer_of read r s)) × (x.1 ≡ moment_by latest read)) }
+        ensures done { IfOk result (λ x. Answered D.moment D.leaves D.faults (line_plan domains.now (keys_of self.old.desk.contents.keys) latest read) self.old self.new (string_bytes x.0)) }
+        ensures latest { IfOk result (λ x. x.1 ≡ moment_by latest read) }
         ensures limit { IfOk result (λ x. x.1 ≤ moment_limit) }
         ensures undone { OnErr result (Unanswered D.moment D.leaves D.faults domains.now latest read self.old self.new) }
     {
@@ -96,87 +93,121 @@ impl<D: Disk, S: Signer> Bench<D, S> {
         }
     }
 
-    /// Does what a line asks, at the moment, and gives its answer's line. A grant is settled on every path:
-    /// `Sent` where its signature goes out, else `Dropped`. Where memory ran out, the desk's call may be done.
+    /// Does what a line asks, at the moment, and gives its answer's line.
     fn act(
         &mut self,
         alloc: Global,
         domains: &Domains,
-        mut op: Op,
+        op: Op,
         now: u64,
     ) -> Result<String, AllocError>
         requires moment { now ≤ moment_limit }
         requires once { ListsOnce op }
-        ensures done { IfOk result (λ text. Did D.moment D.leaves D.faults domains.now op now self.old self.new (string_bytes text)) }
-        ensures undone { OnErr result (LeftUndone D.moment D.leaves D.faults domains.now op now self.old self.new) }
+        ensures ends { PlanEnds D.moment D.leaves D.faults (λ s. string_bytes s) (op_plan domains.now (keys_of self.old.desk.contents.keys) now op) self.old self.new result }
+    {
+        match op {
+            Op::Merge { file } => self.ask(alloc, DeskCall::Merge { file }),
+            Op::BadFile { fault } => Answer::BadFile(fault).line(alloc),
+            Op::Activate { key } => self.ask(alloc, DeskCall::Activate { key, now }),
+            Op::Propose {
+                key,
+                message,
+                object,
+            } => self.propose(alloc, domains, object, key, message, now),
+            Op::Export { keys: Some(keys) } => self.ask(alloc, DeskCall::Export { keys }),
+            Op::Export { keys: None } => {
+                let keys = self.desk.kept_keys()?;
+                self.ask(alloc, DeskCall::Export { keys })
+            }
+            Op::Prune { key } => self.ask(alloc, DeskCall::Prune { key }),
+            Op::Live { key, of, is_live } => {
+                let call = DeskCall::Answer {
+                    key,
+                    epoch: of,
+                    live: is_live,
+                    now,
+                };
+                self.ask(alloc, call)
+            }
+            Op::Import { file, keystores } => self.import(alloc, file, &keystores, now),
+            Op::Delete { keys } => self.delete(alloc, keys.as_slice()),
+            Op::List => self.list(alloc),
+        }
+    }
+
+    /// Takes keys in, behind an interchange file, if there is one.
+    fn import(
+        &mut self,
+        alloc: Global,
+        file: Option<File>,
+        keystores: &Keystores,
+        now: u64,
+    ) -> Result<String, AllocError>
+        requires moment { now ≤ moment_limit }
+        requires once { IfSome file (λ f. EachOnce f.books) }
+        ensures ends { PlanEnds D.moment D.leaves D.faults (λ s. string_bytes s) (bind (import_plan file now keystores.now) (λ end. Done (import_answer end))) self.old self.new result }
+    {
+        let (texts, passwords) = keystores.texts();
+        let (desk, signer) = (&mut self.desk, &mut self.signer);
+        let Ok(end) = import_keys(alloc, file, texts, passwords, now, desk, signer) else {
+            return Err(AllocError);
+        };
+        line_of(alloc, Some(answer_to_import(end)))
+    }
+
+    /// Gives keys up.
+    fn delete(&mut self, alloc: Global, keys: &[PubKey]) -> Result<String, AllocError>
+        ensures ends { PlanEnds D.moment D.leaves D.faults (λ s. string_bytes s) (bind (deletion_plan keys.now) (λ d. Done (Answer.Deleted d.statuses d.file))) self.old self.new result }
+    {
+        let Ok(deletion) = delete_keys(alloc, keys, &mut self.desk, &mut self.signer) else {
+            return Err(AllocError);
+        };
+        line_of(alloc, Some(answer_to_deletion(deletion)))
+    }
+
+    /// Lists the active keys.
+    fn list(&mut self, alloc: Global) -> Result<String, AllocError>
+        ensures ends { PlanEnds D.moment D.leaves D.faults (λ s. string_bytes s) (bind list_plan (λ keys. Done (Answer.Listed keys))) self.old self.new result }
+    {
+        let Ok(keys) = list_keys(alloc, &mut self.desk) else {
+            return Err(AllocError);
+        };
+        line_of(alloc, Some(Answer::Listed { keys }))
+    }
+
+    /// Calls the desk once, without a grant, and gives the line of its reply's answer.
+    fn ask(&mut self, alloc: Global, call: DeskCall) -> Result<String, AllocError>
+        requires may { MayCall self.old.desk.contents.grants call }
+        requires plain { IsPlainCall call }
+        ensures ends { PlanEnds D.moment D.leaves D.faults (λ s. string_bytes s) (calls call) self.old self.new result }
+    {
+        let reply = self.desk.call(call);
+        line_of(alloc, plain_answer(reply))
+    }
+
+    /// Proposes a message, and has it signed under its grant. A grant is settled on every path: `Sent` where its
+    /// signature goes out, else `Dropped`.
+    fn propose(
+        &mut self,
+        alloc: Global,
+        domains: &Domains,
+        object: Option<SignObject>,
+        key: PubKey,
+        message: Message,
+        now: u64,
+    ) -> Result<String, AllocError>
+        requires moment { now ≤ moment_limit }
+        ensures ends { PlanEnds D.moment D.leaves D.faults (λ s. string_bytes s) (proposes (sign_request domains.now object) (DeskCall.Propose key message now)) self.old self.new result }
     {
         let request = SignRequest {
             fork: domains.fork,
             genesis: domains.genesis,
-            object: take_object(&mut op),
+            object,
         };
-        match call_for(&self.desk, op, now)? {
-            Ok(call) => self.call_desk(alloc, &request, call),
-            Err(fault) => bad_file_line(alloc, fault),
+        match self.desk.call(DeskCall::Propose { key, message, now }) {
+            DeskReply::Granted(grant) => self.sign(alloc, &request, grant),
+            reply => line_of(alloc, plain_answer(reply)),
         }
-    }
-
-    /// Calls the desk, and under the grant that it gives, if any, the signer.
-    fn call_desk(
-        &mut self,
-        alloc: Global,
-        request: &SignRequest,
-        call: DeskCall,
-    ) -> Result<String, AllocError>
-        requires may { MayCall self.old.desk.contents.grants call }
-        requires session { IsOfSession call }
-        ensures done { IfOk result (λ text. (r : DeskReply) × (s : SignReply) × Acts D.moment D.leaves D.faults request.now self.old self.new call r s (outcome_of s)
-            × IsAnswered r s × (string_bytes text ≡ answer_text (reply_answer r s))) }
-        ensures undone { OnErr result ((r : DeskReply) × (s : SignReply) × Acts D.moment D.leaves D.faults request.now self.old self.new call r s Dropped) }
-    {
-        match self.ask(call) {
-            DeskReply::Granted(grant) => self.sign(alloc, request, grant),
-            DeskReply::Merged { keys } => Answer::Merged { keys }.line(alloc),
-            DeskReply::Active => Answer::Active.line(alloc),
-            DeskReply::Already => Answer::Active.line(alloc),
-            DeskReply::Settled | DeskReply::CloseBegun | DeskReply::AlreadyClosing =>
-                unreachable!(),
-            DeskReply::Closed(_book) => unreachable!(),
-            DeskReply::Keys(_listed) => unreachable!(),
-            DeskReply::HasFailed(_) | DeskReply::NotClosing(_) => unreachable!(),
-            DeskReply::Busy { grants: _ } => unreachable!(),
-            DeskReply::Exported(file) => Answer::Exported(file).line(alloc),
-            DeskReply::Pruned(_book) => Answer::Pruned.line(alloc),
-            DeskReply::GenesisDiffers { kept, given } => {
-                Answer::GenesisDiffers { kept, given }.line(alloc)
-            }
-            DeskReply::Noted => Answer::Noted.line(alloc),
-            DeskReply::Unknown => Answer::Unknown.line(alloc),
-            DeskReply::NotActive => Answer::NotActive.line(alloc),
-            DeskReply::Live { epoch } => Answer::Live { epoch }.line(alloc),
-            DeskReply::Watching { first, second } => Answer::Watching { first, second }.line(alloc),
-            DeskReply::Refused(verdict) => Answer::Refused(verdict).line(alloc),
-            DeskReply::TooManyKeys { have, new } => Answer::TooManyKeys { have, new }.line(alloc),
-            DeskReply::Closing => Answer::Closing.line(alloc),
-            DeskReply::Full { size, wanted } => Answer::Full { size, wanted }.line(alloc),
-            DeskReply::Disk => Answer::Disk.line(alloc),
-            DeskReply::OutOfMemory => Err(AllocError),
-        }
-    }
-
-    /// Calls the desk.
-    fn ask(&mut self, call: DeskCall) -> DeskReply
-        requires may { MayCall self.old.desk.contents.grants call }
-        requires session { IsOfSession call }
-        ensures called { IsCallOf D.moment D.leaves D.faults self.old.desk self.new.desk call result }
-        ensures told { self.new.told ≡ self.old.told }
-        ensures signs { self.new.signs_failed ≡ self.old.signs_failed }
-        ensures denials { self.new.signs_denied ≡ self.old.signs_denied }
-        ensures is_open { IsOpenIn self.new.desk.contents.grants result }
-        ensures granted { IsGrantFor call result }
-        ensures replies { IsToSession result }
-    {
-        self.desk.call(call)
     }
 
     /// Has a granted message signed, and settles the grant.
@@ -188,14 +219,12 @@ impl<D: Disk, S: Signer> Bench<D, S> {
     ) -> Result<String, AllocError>
         requires is_open { Contains self.old.desk.contents.grants grant }
         requires message { IsSome grant.message }
-        ensures done { IfOk result (λ text. (s : SignReply) × Signs D.moment D.leaves D.faults request.now self.old self.new grant s (outcome_of s)
-            × IsGiven s × (string_bytes text ≡ answer_text (signed_answer grant.message s))) }
-        ensures undone { OnErr result ((s : SignReply) × Signs D.moment D.leaves D.faults request.now self.old self.new grant s Dropped) }
+        ensures ends { SignEnds D.moment D.leaves D.faults (λ s. string_bytes s) request.now grant self.old self.new result }
     {
+        let message = grant.what().copied().unwrap();
         let reply = self.signer.sign(request, &grant);
         let outcome = outcome_for(&reply);
-        let message = grant.what().copied();
-        let Ok(text) = signed_line(alloc, message, reply) else {
+        let Ok(text) = line_of(alloc, answer_for(&message, reply)) else {
             self.desk.settle(grant, Outcome::Dropped);
             return Err(AllocError);
         };
@@ -204,77 +233,81 @@ impl<D: Disk, S: Signer> Bench<D, S> {
     }
 }
 
-/// The answer's line to a text that is no file.
-fn bad_file_line(alloc: Global, fault: ReadFault) -> Result<String, AllocError>
-    ensures { IfOk result (λ text. string_bytes text ≡ answer_text (Answer.BadFile fault)) }
+/// The line of an answer, where there is one.
+fn line_of(alloc: Global, answer: Option<Answer>) -> Result<String, AllocError>
+    ensures { IsLineOf (λ s. string_bytes s) answer result }
 {
-    Answer::BadFile(fault).line(alloc)
-}
-
-/// Takes out what a message was made of, where the line gave it.
-fn take_object(op: &mut Op) -> Option<SignObject>
-    ensures object { result ≡ object_of op.old }
-    ensures rest { op.new ≡ without_object op.old }
-{
-    match op {
-        Op::Propose { object, .. } => object.take(),
-        _ => None,
+    match answer {
+        Some(answer) => answer.line(alloc),
+        None => Err(AllocError),
     }
 }
 
-/// The desk's call of what a line asks; the fault where its text is no file.
-fn call_for<D: Disk>(
-    desk: &Desk<D>,
-    op: Op,
-    now: u64,
-) -> Result<Result<DeskCall, ReadFault>, AllocError>
-    requires moment { now ≤ moment_limit }
-    requires once { ListsOnce op }
-    ensures call { IfOk result (λ asked. CallsFor asked (keys_of desk.now.contents.keys) op now) }
-    ensures may { IfOk result (λ asked. IfOk asked (λ c. MayCall desk.now.contents.grants c × IsOfSession c)) }
+/// The answer to a reply without a grant; none where memory ran out.
+fn plain_answer(reply: DeskReply) -> Option<Answer>
+    requires { IsPlainReply reply }
+    ensures { result ≡ answer_given reply }
 {
-    match op {
-        Op::Merge { file } => Ok(Ok(DeskCall::Merge { file })),
-        Op::BadFile { fault } => Ok(Err(fault)),
-        Op::Activate { key } => Ok(Ok(DeskCall::Activate { key, now })),
-        Op::Propose {
-            key,
-            message,
-            object: _,
-        } => Ok(Ok(DeskCall::Propose { key, message, now })),
-        Op::Export { keys: Some(keys) } => Ok(Ok(DeskCall::Export { keys })),
-        Op::Export { keys: None } => {
-            let keys = desk.kept_keys()?;
-            Ok(Ok(DeskCall::Export { keys }))
-        }
-        Op::Prune { key } => Ok(Ok(DeskCall::Prune { key })),
-        Op::Live { key, of, is_live } => Ok(Ok(DeskCall::Answer {
-            key,
-            epoch: of,
-            live: is_live,
-            now,
-        })),
+    match reply {
+        DeskReply::Merged { keys } => Some(Answer::Merged { keys }),
+        DeskReply::Active | DeskReply::Already => Some(Answer::Active),
+        DeskReply::Exported(file) => Some(Answer::Exported(file)),
+        DeskReply::Pruned(_book) => Some(Answer::Pruned),
+        DeskReply::Noted => Some(Answer::Noted),
+        DeskReply::Unknown => Some(Answer::Unknown),
+        DeskReply::NotActive => Some(Answer::NotActive),
+        DeskReply::Closing => Some(Answer::Closing),
+        DeskReply::Disk => Some(Answer::Disk),
+        DeskReply::Full { size, wanted } => Some(Answer::Full { size, wanted }),
+        DeskReply::GenesisDiffers { kept, given } => Some(Answer::GenesisDiffers { kept, given }),
+        DeskReply::TooManyKeys { have, new } => Some(Answer::TooManyKeys { have, new }),
+        DeskReply::Live { epoch } => Some(Answer::Live { epoch }),
+        DeskReply::Watching { first, second } => Some(Answer::Watching { first, second }),
+        DeskReply::Refused(verdict) => Some(Answer::Refused(verdict)),
+        DeskReply::Granted(_grant) => unreachable!(),
+        DeskReply::Settled => unreachable!(),
+        DeskReply::CloseBegun | DeskReply::AlreadyClosing => unreachable!(),
+        DeskReply::Closed(_book) => unreachable!(),
+        DeskReply::NotClosing(_) => unreachable!(),
+        DeskReply::Busy { grants: _ } => unreachable!(),
+        DeskReply::Keys(_listed) => unreachable!(),
+        DeskReply::HasFailed(_) => unreachable!(),
+        DeskReply::OutOfMemory => None,
     }
 }
 
-/// The answer's line of a signer's reply.
-fn signed_line(
-    alloc: Global,
-    message: Option<Message>,
-    reply: SignReply,
-) -> Result<String, AllocError>
-    ensures { IfOk result (λ text. IsGiven reply × (string_bytes text ≡ answer_text (signed_answer message reply))) }
+/// The answer to an import, by how it ended.
+fn answer_to_import(end: ImportEnd) -> Answer
+    ensures { result ≡ import_answer end }
 {
-    match (message, reply) {
-        (_, SignReply::OutOfMemory) => Err(AllocError),
-        (Some(message), SignReply::Signed(signature)) => {
+    match end {
+        ImportEnd::Treated(statuses) => Answer::Imported { statuses },
+        ImportEnd::MergeRefused(refusal) => Answer::from(refusal),
+    }
+}
+
+/// The answer to a deletion.
+fn answer_to_deletion(deletion: Deletion) -> Answer
+    ensures { result ≡ Answer.Deleted deletion.statuses deletion.file }
+{
+    let Deletion { statuses, file } = deletion;
+    Answer::Deleted { statuses, file }
+}
+
+/// The answer of a line whose message the signer answered so; none where memory ran out.
+fn answer_for(message: &Message, reply: SignReply) -> Option<Answer>
+    ensures { result ≡ signed_answer message.now reply }
+{
+    match reply {
+        SignReply::Signed(signature) => {
             let root = *message.signing_root();
-            Answer::Signed { signature, root }.line(alloc)
+            Some(Answer::Signed { signature, root })
         }
-        (_, SignReply::NoKey(_)) => Answer::Unsigned(Cause::NoKey).line(alloc),
-        (_, SignReply::Denied(status)) => Answer::Unsigned(Cause::Denied { status }).line(alloc),
-        (_, SignReply::BadAnswer(body)) => Answer::Unsigned(Cause::BadAnswer { body }).line(alloc),
-        (_, SignReply::Fault | SignReply::Signed(_)) => Answer::Unsigned(Cause::Fault).line(alloc),
+        SignReply::NoKey(_) => Some(Answer::Unsigned(Cause::NoKey)),
+        SignReply::Denied(status) => Some(Answer::Unsigned(Cause::Denied { status })),
+        SignReply::Fault => Some(Answer::Unsigned(Cause::Fault)),
+        SignReply::BadAnswer(body) => Some(Answer::Unsigned(Cause::BadAnswer { body })),
+        SignReply::OutOfMemory => None,
     }
 }
 

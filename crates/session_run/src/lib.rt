@@ -3,12 +3,8 @@
 
 mod bench;
 mod laws;
-mod lines;
-mod next;
 mod session;
 
 pub use bench::Bench;
-pub use laws::durable_law;
-pub use lines::Lines;
-pub use next::{LineFault, Next};
+pub use laws::{durable_law, retry_law};
 pub use session::serve_lines;

@@ -1,3 +1,4 @@
+pub mod WholeLemmas
 pub mod ListLemmas
 pub mod EventLemmas
 pub mod StopLemmas

@@ -1,5 +1,5 @@
 -- That a run of the program goes on from where a stop left its client.
-use Rattle.std.proofs.Common.{◌≡◌, ◌⊎◌, inl, inr, ⊎_elim, ℕ, ◌≤◌, Bool, false, List, [], ◌∷◌, ◌++◌, Option, refl, sym, ◌∙◌, ap, subst, append_assoc, arith}
+use Rattle.std.proofs.Common.{◌≡◌, ◌⊎◌, inl, inr, ⊎_elim, ℕ, ◌≤◌, Bool, false, List, [], ◌∷◌, ◌++◌, refl, sym, ◌∙◌, ap, subst, append_assoc, arith}
 use Rattle.edge_kit.specs.declared.bytes.Root.{Root}
 use Rattle.edge_kit.specs.declared.disk.Disks.{Disks}
 use Rattle.phase0_types.specs.declared.fork.Fork.{Fork}
@@ -20,7 +20,6 @@ use Rattle.journal_commands.specs.Views.{View}
 use Rattle.journal_commands.specs.Openings.{DeskEnded, HadDesk}
 use Rattle.journal_commands.specs.Merging.{DeskMergeEnds}
 use Rattle.command_line.specs.Plans.{session, merge, show, shown, nothing}
-use Rattle.session_run.specs.Acts.{AtBench}
 use Rattle.session_run.specs.Ends.{Ends}
 use Rattle.validator_cli.specs.Endings.{Outside, RunEnds, bench_at, wires_of}
 use Rattle.session_world.specs.Events.{calls_of, session_events, turn_events}
@@ -30,6 +29,7 @@ use Rattle.session_world.proofs.ListLemmas.{runs_both, over_both}
 use Rattle.session_world.proofs.EventLemmas.{calls_run, session_runs}
 use Rattle.session_world.proofs.StopLemmas.{calls_stop, later, past_stays, session_stops}
 use Rattle.session_world.proofs.StartLemmas.{starts_again, starts_keep}
+use Rattle.session_world.proofs.WholeLemmas.{whole_over}
 
 -- a stop behind more events, where these come first
 further : (genesis : Root) (client : ℕ) (state : State) (front first events : List Event) (c : List ℕ) → RunsFrom state front → StopsBehind genesis client (state_over state front) first events c → StopsBehind genesis client state (front ++ first) (front ++ events) c
@@ -65,7 +65,7 @@ module _ {D : Type 0} (shows : D → List ℕ → Type 0) (moment : D → ℕ) (
       let state = state_over (no_state genesis) front in
       let stands : DeskStands had.opened.contents state =
       starts_again shows moment leaves faults disks_before.first disks_before.second genesis watch 0 had.opened had.opening client (no_state genesis) past file refl visible stop in
-      let events = session_events moment leaves faults domains first last (wires_of before.view) (wires_of now.view) ended had.ends client state in
+      let events = session_events moment leaves faults domains first last (wires_of before.view) (wires_of now.view) ended had.ends client in
       let are = session_runs moment leaves faults domains first last (wires_of before.view) (wires_of now.view) ended had.ends client state stands in
       let runs : RunsFrom (no_state genesis) front = stop.runs 0 watch in
       let images = had.ends.images had.opening.left in
@@ -78,6 +78,7 @@ module _ {D : Type 0} (shows : D → List ℕ → Type 0) (moment : D → ℕ) (
         ends = had.ends;
         state = state;
         state_is = refl;
+        whole = whole_over genesis front runs;
         events = events;
         events_are = refl;
         at_client = are.at_client;
@@ -91,8 +92,8 @@ module _ {D : Type 0} (shows : D → List ℕ → Type 0) (moment : D → ℕ) (
         stops = λ over rest here both run_over run_rest k c low high l.
             let end = subst (L k c) had.desk.first (high, l) in
             let s = session_stops moment leaves faults domains first last (wires_of before.view) (wires_of now.view) ended had.ends over rest here both run_over run_rest client state stands had.opening.left k c low end.0 end.1 in
-            let G : Root → Type 0 = λ g. StopsBehind g client state (turn_events client (record { desk = state; moment = 0 }) over) events c in
-            further genesis client (no_state genesis) front (turn_events client (record { desk = state; moment = 0 }) over) events c runs (subst G had.opening.opened.genesis_is s);
+            let G : Root → Type 0 = λ g. StopsBehind g client state (turn_events client over) events c in
+            further genesis client (no_state genesis) front (turn_events client over) events c runs (subst G had.opening.opened.genesis_is s);
       }
 
 module _ {D : Type 0} (shows : D → List ℕ → Type 0) (moment : D → ℕ) (leaves : D → ℕ → List ℕ → Type 0) (faults : D → ℕ) (genesis : Root) (disks_before disks_now : Disks D) (client : ℕ) (past : List Event) (file : List ℕ) where

@@ -11,6 +11,7 @@ use Rattle.desk_machine.specs.declared.event.DeskEvent.{DeskEvent}
 use Rattle.check_sign.specs.Contents.{Seen}
 use Rattle.check_sign.specs.Paths.{Path}
 use Rattle.check_sign.specs.Standing.{DeskStands}
+use Rattle.key_custody.specs.Once.{IsWhole}
 use Rattle.world_law.specs.Worlds.{Event}
 use Rattle.world_law.specs.Worlds.Event.{Crash}
 use Rattle.world_law.specs.Clients.{RunsFrom, state_over, own, messages_in}
@@ -43,7 +44,7 @@ pub record Idle {D : Type 0} (moment : D → ℕ) (leaves : D → ℕ → List �
   pub none : noted ≡ []
 
 -- A desk was opened, and lines were served: what they did are events of the client that may happen behind its start, in the state
--- that the start left; so much is sent; and in the end the desk stands for the state after them. A crash up to the opening's end
+-- that the start left, in which no key without a past has a state; so much is sent; and in the end the desk stands for the state after them. A crash up to the opening's end
 -- leaves what a stop before the start leaves; and one later, what a stop leaves behind the start and all events of the lines that were
 -- over by then, as the disk stood behind them.
 pub record Served {D : Type 0} (moment : D → ℕ) (leaves : D → ℕ → List ℕ → Type 0) (faults : D → ℕ) (genesis : Root) (fork : Fork) (watch : Bool) (before now : Outside) (noted : List DeskEvent) (ended : Status) (client : ℕ) (past : List Event) (file : List ℕ)
@@ -54,8 +55,9 @@ pub record Served {D : Type 0} (moment : D → ℕ) (leaves : D → ℕ → List
   pub ends : Ends moment leaves faults (record { fork = fork; genesis = genesis }) (bench_at opened before) (bench_at closed now) (wires_of before.view) (wires_of now.view) ended
   pub state : State
   pub state_is : state ≡ state_over (no_state genesis) (started genesis client past file stop watch)
+  pub whole : IsWhole state
   pub events : List Event
-  pub events_are : events ≡ session_events moment leaves faults (record { fork = fork; genesis = genesis }) (bench_at opened before) (bench_at closed now) (wires_of before.view) (wires_of now.view) ended ends client state
+  pub events_are : events ≡ session_events moment leaves faults (record { fork = fork; genesis = genesis }) (bench_at opened before) (bench_at closed now) (wires_of before.view) (wires_of now.view) ended ends client
   pub at_client : own client events ≡ events
   pub runs : RunsFrom (no_state genesis) (started genesis client past file stop watch ++ events)
   pub sends : messages_in events ≡ sent ends.turns
@@ -64,7 +66,7 @@ pub record Served {D : Type 0} (moment : D → ℕ) (leaves : D → ℕ → List
   pub stops : (over rest : List Turn) (here : AtBench D) → ends.turns ≡ over ++ rest → Run moment leaves faults (record { fork = fork; genesis = genesis }) 0 over (bench_at opened before) here
       → Run moment leaves faults (record { fork = fork; genesis = genesis }) (moment_after 0 over) rest here ends.mid
       → (k : ℕ) (c : List ℕ) → moment here.desk.disk ≤ k → k ≤ moment last → leaves last k c
-      → StopsBehind genesis client (no_state genesis) (started genesis client past file stop watch ++ turn_events client (record { desk = state; moment = 0 }) over) (started genesis client past file stop watch ++ events) c
+      → StopsBehind genesis client (no_state genesis) (started genesis client past file stop watch ++ turn_events client over) (started genesis client past file stop watch ++ events) c
 
 -- However a run of the program that is asked for a session ends, over a disk that shows what a stop of the client left, and of which a
 -- crash leaves such files: no desk was opened, or lines were served.

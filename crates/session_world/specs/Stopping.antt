@@ -51,7 +51,7 @@ SessionStops {D} moment leaves faults = (domains : Domains) (first last : AtBenc
     (over rest : List Turn) (here : AtBench D) → ends.turns ≡ over ++ rest → Run moment leaves faults domains 0 over first here → Run moment leaves faults domains (moment_after 0 over) rest here ends.mid
     → (client : ℕ) (state : State) → DeskStands first.desk.contents state → LeavesDesk moment leaves first.desk.disk first.desk.contents
     → (k : ℕ) (file : List ℕ) → moment here.desk.disk ≤ k → k ≤ moment last.desk.disk → leaves last.desk.disk k file
-    → StopsBehind first.desk.contents.genesis client state (turn_events client (record { desk = state; moment = 0 }) over) (session_events moment leaves faults domains first last before now result ends client state) file
+    → StopsBehind first.desk.contents.genesis client state (turn_events client over) (session_events moment leaves faults domains first last before now result ends client) file
 
 -- and so does a crash at any moment of calls of the desk
 abbrev pub CallsStop : {D : Type 0} → (D → ℕ) → (D → ℕ → List ℕ → Type 0) → (D → ℕ) → Type 0

@@ -1,5 +1,5 @@
 -- A session over the desk of a journal.
-use Rattle.std.proofs.Common.{◌≡◌, ℕ, ◌≤◌, Bool, List, Option, refl, sym, subst, inr, arith}
+use Rattle.std.proofs.Common.{◌≡◌, ℕ, ◌≤◌, Bool, List, Option, refl, sym, ◌∙◌, subst, inr, arith}
 use Rattle.edge_kit.specs.Causes.{Rose}
 use Rattle.edge_kit.specs.declared.disk.Disks.{Disks}
 use Rattle.sign_roots.specs.declared.domains.Domains.{Domains}
@@ -33,8 +33,8 @@ watch_of none (plan.Merge genesis journal) = none
 watch_of none (plan.Show genesis journal) = none
 watch_of none (plan.Shown text) = none
 
-pub at_bench : {D : Type 0} (b : AtBench D) (desk : Seen D) (told : Option (List Told)) (failed denied : ℕ) → b.desk ≡ desk → b.told ≡ told → b.signs_failed ≡ failed → b.signs_denied ≡ denied → b ≡ record { desk = desk; told = told; signs_failed = failed; signs_denied = denied }
-at_bench b desk told failed denied d t f n = λ i. record { desk = d i; told = t i; signs_failed = f i; signs_denied = n i }
+pub at_bench : {D : Type 0} (b : AtBench D) (desk : Seen D) (told : Option (List Told)) (failed denied : ℕ) → b.desk ≡ desk → b.signer.told ≡ told → b.signer.faults ≡ failed → b.signer.denials ≡ denied → b ≡ record { desk = desk; signer = record { told = told; faults = failed; denials = denied } }
+at_bench b desk told failed denied d t f n = λ i. record { desk = d i; signer = record { told = t i; faults = f i; denials = n i } }
 
 fares_as : {D : Type 0} (faults : D → ℕ) (old new : Seen D) → DeskFares faults old new → Fares faults old new
 fares_as faults old new f = record { genesis = f.genesis; second = f.second; later = f.later; fails = f.fails }
@@ -57,6 +57,10 @@ module _ {D : Type 0} (shows : D → List ℕ → Type 0) (moment : D → ℕ) (
     session_ended left = inr (had_desk moment leaves faults shows domains.genesis watch first last events
         (λ o e. Ends moment leaves faults domains (bench_at o before) (bench_at e now) (wires_of before.view) (wires_of now.view) result) opened ended opening ends
         (fares_as faults opened ended (ends_fares moment leaves faults domains (bench_at opened before) (bench_at ended now) (wires_of before.view) (wires_of now.view) result ends)) left handed)
+
+    pub session_second : last.second ≡ first.second
+    session_second =
+        handed.second ∙ (ends_fares moment leaves faults domains (bench_at opened before) (bench_at ended now) (wires_of before.view) (wires_of now.view) result ends).second ∙ opening.second_is
 
     pub session_read : result ≡ status.ReadFault → Rose before.view.failed now.view.failed
     session_read = ends_read moment leaves faults domains (bench_at opened before) (bench_at ended now) (wires_of before.view) (wires_of now.view) result ends

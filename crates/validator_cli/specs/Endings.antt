@@ -50,7 +50,7 @@ wires_of view = record { left = view.left; held = view.out.held; reads_failed = 
 
 -- a desk with the signer
 abbrev pub bench_at : {D : Type 0} → Seen D → Outside → AtBench D
-bench_at desk o = record { desk = desk; told = o.told; signs_failed = o.signs_failed; signs_denied = o.signs_denied }
+bench_at desk o = record { desk = desk; signer = record { told = o.told; faults = o.signs_failed; denials = o.signs_denied } }
 
 -- a session over the desk of a disk, its keys watched or not; where none was opened nothing was read or asked
 abbrev pub SessionEnds : {D : Type 0} → (D → List ℕ → Type 0) → (D → ℕ) → (D → ℕ → List ℕ → Type 0) → (D → ℕ) → Domains → Bool → Disks D → Disks D → Outside → Outside → List DeskEvent → Status → Type 0

@@ -24,6 +24,21 @@ returns-clause-ends g c = λ genesis journal fork at watch is.
     (subst E (ap (session.domains_of own) (sym c.in-Session.is ∙ is))
     (session.session_ended g.D.Disk.shows g.D.Disk.moment g.D.Disk.leaves g.D.Disk.faults own before now c.serve_lines-status.result desk ended c.in-Session.watch c.args.disks c.end-disks.result.0 c.end-disks.result.1 c.in-Ok.ensures.opened handed served c.end-disks.ensures.left))
 
+pub returns-clause-second : goal.returns-clause-second
+returns-clause-second g c =
+    let before : Outside = outside_of g.I.Source.left g.I.Source.faults g.O.Sink.held g.O.Sink.faults g.S.Signer.told g.S.Signer.faults g.S.Signer.denials c.args.input.now c.args.out.now c.args.signer in
+    let now : Outside = outside_of g.I.Source.left g.I.Source.faults g.O.Sink.held g.O.Sink.faults g.S.Signer.told g.S.Signer.faults g.S.Signer.denials c.serve_lines-status.new.input c.serve_lines-status.new.out c.into_parts-desk.result.1 in
+    let own : Domains = record { fork = c.in-Session.fork; genesis = c.in-Session.genesis } in
+    let desk = c.in-Ok.desk in
+    let ended = c.into_parts-desk.result.0 in
+    let served = session.served_at g.D.Disk.shows g.D.Disk.moment g.D.Disk.leaves g.D.Disk.faults own before now c.serve_lines-status.result desk ended c.new-domains.result c.new-bench.result c.serve_lines-status.new.bench
+    c.new-domains.ensures
+    (session.at_bench c.new-bench.result desk before.told before.signs_failed before.signs_denied c.new-bench.ensures.desk c.new-bench.ensures.told c.new-bench.ensures.faults c.new-bench.ensures.denials)
+    (session.at_bench c.serve_lines-status.new.bench ended now.told now.signs_failed now.signs_denied (sym c.into_parts-desk.ensures.desk) (sym c.into_parts-desk.ensures.told) (sym c.into_parts-desk.ensures.faults) (sym c.into_parts-desk.ensures.denials))
+    c.serve_lines-status.ensures.ends in
+    let handed : Handed ended c.end-disks.result.0 c.end-disks.result.1 = record { first = c.end-disks.ensures.first; second = c.end-disks.ensures.second; noted = c.end-disks.ensures.events } in
+    session.session_second g.D.Disk.shows g.D.Disk.moment g.D.Disk.leaves g.D.Disk.faults own before now c.serve_lines-status.result desk ended c.in-Session.watch c.args.disks c.end-disks.result.0 c.end-disks.result.1 c.in-Ok.ensures.opened handed served
+
 pub returns-clause-read_fault : goal.returns-clause-read_fault
 returns-clause-read_fault g c =
     let before : Outside = outside_of g.I.Source.left g.I.Source.faults g.O.Sink.held g.O.Sink.faults g.S.Signer.told g.S.Signer.faults g.S.Signer.denials c.args.input.now c.args.out.now c.args.signer in

@@ -1,0 +1,4 @@
+pub mod CharacterLemmas
+pub mod KeystoreLemmas
+pub mod ListLemmas
+pub mod PlainLemmas
