@@ -1,10 +1,11 @@
 //! Texts of tests, with marks in the place of long digits.
 use std::alloc::{AllocError, Global};
 
-/// The text with its marks filled in. A mark is a name between `<` and `>`: K1, K2, K3 and K4 are keys, G0
-/// and G1 genesis validators roots, Ra and Rb signing roots, S(K1,Ra) the signature in memory of a root by a
-/// key, and S7 one of bytes `77`. `<file>` begins an interchange file of the chain G0, as a text in JSON, and `</file>` ends it;
-/// `</file G1>` ends one of the chain G1. `'` is a quote within such a text.
+/// The text with its marks filled in. A mark is a name between `<` and `>`: K1, K2, K3 and K4 are keys, `K1 digits`
+/// and `K2 digits` their digits without `0x`, G0 and G1 genesis validators roots, Ra and Rb signing roots, S(K1,Ra)
+/// the signature in memory of a root by a key, and S7 one of bytes `77`. `<file>` begins an interchange file of the
+/// chain G0, as a text in JSON, and `</file>` ends it; `</file G1>` ends one of the chain G1. `'` is a quote within
+/// such a text.
 pub fn filled(alloc: Global, marked: &str) -> Result<String, AllocError> {
     let mut text = String::new(alloc);
     for piece in marked.split('<') {
@@ -33,6 +34,8 @@ fn push_meaning(text: &mut String, name: &str) -> Result<(), AllocError> {
         "K3" => push_hex(text, &[('c', 96)]),
         "K3 in capitals" => push_hex(text, &[('C', 96)]),
         "K4" => push_hex(text, &[('4', 96)]),
+        "K1 digits" => push_digits(text, '1', 96),
+        "K2 digits" => push_digits(text, '2', 96),
         "G0" => push_hex(text, &[('0', 64)]),
         "G1" => push_hex(text, &[('1', 64)]),
         "Ra" => push_hex(text, &[('a', 64)]),

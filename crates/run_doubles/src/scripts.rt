@@ -15,15 +15,46 @@ impl Session {
     /// event, and `!` with the name of a member a request that is refused as bad in that member. Any other line is
     /// taken as an answer, so that no run comes to it.
     pub fn read(alloc: Global, lines: &str) -> Result<Session, AllocError> {
-        let mut session = Session {
-            input: String::new(alloc),
-            output: String::new(alloc),
-            events: String::new(alloc),
-        };
+        let mut session = Session::new(alloc);
         for line in lines.lines() {
             session.add(line)?;
         }
         Ok(session)
+    }
+
+    /// Reads each request of a script with what comes of it as a session of its own, in order. Lines before the
+    /// first request belong to none.
+    pub fn read_each(alloc: Global, lines: &str) -> Result<Vec<Session>, AllocError> {
+        let mut sessions: Vec<Session> = Vec::new(alloc);
+        for line in lines.lines() {
+            if line.starts_with('>') || line.starts_with('!') {
+                sessions.push(Session::new(alloc))?;
+            }
+            if let Some(session) = sessions.last_mut() {
+                session.add(line)?;
+            }
+        }
+        Ok(sessions)
+    }
+
+    /// The session that these are, one after another.
+    pub fn joined(alloc: Global, sessions: &[Session]) -> Result<Session, AllocError> {
+        let mut joined = Session::new(alloc);
+        for session in sessions {
+            joined.input.push_str(session.input.as_str())?;
+            joined.output.push_str(session.output.as_str())?;
+            joined.events.push_str(session.events.as_str())?;
+        }
+        Ok(joined)
+    }
+
+    /// A session of no line.
+    fn new(alloc: Global) -> Session {
+        Session {
+            input: String::new(alloc),
+            output: String::new(alloc),
+            events: String::new(alloc),
+        }
     }
 
     /// Adds a line of a script.

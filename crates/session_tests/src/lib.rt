@@ -2,6 +2,8 @@
 #![tactic(auto)]
 
 #[cfg(test)]
+mod custody;
+#[cfg(test)]
 mod faults;
 #[cfg(test)]
 mod files;

@@ -7,7 +7,7 @@ use std::test::Fail;
 const WATCHED: &str = "validator session --genesis <G0> --watch";
 
 /// Scripts: what each shows in its first line, and then lines as `Session::read` has them.
-const WATCHES: [&str; 6] = [
+const WATCHES: [&str; 7] = [
     r#"a key signs once it was told not live in the two epochs after it became active
 > {"epoch":"5","op":"activate","pubkey":"<K1>"}
 < {"answer":"active"}
@@ -99,6 +99,35 @@ const WATCHES: [&str; 6] = [
 < {"answer":"refused","missing":["6","7"],"reason":"watching"}
 > {"epoch":"8","op":"block","pubkey":"<K2>","signing_root":"<Rb>","slot":"256"}
 < {"answer":"refused","epoch":"8","reason":"live"}"#,
+    r#"a key that is taken in is watched from then on, and anew once it was given up
+> {"epoch":"5","op":"import","keystores":["{'pubkey':'<K1>'}"],"passwords":["x"]}
+< {"answer":"imported","data":[{"message":"","status":"imported"}]}
+* 5 activated <K1>
+> {"epoch":"5","op":"block","pubkey":"<K1>","signing_root":"<Ra>","slot":"160"}
+< {"answer":"refused","missing":["6","7"],"reason":"watching"}
+> {"epoch":"7","is_live":false,"of":"6","op":"live","pubkey":"<K1>"}
+< {"answer":"noted"}
+* 7 told not live in 6 <K1>
+> {"epoch":"8","is_live":false,"of":"7","op":"live","pubkey":"<K1>"}
+< {"answer":"noted"}
+* 8 told not live in 7 <K1>
+> {"epoch":"8","op":"import","keystores":["{'pubkey':'<K1>'}"],"passwords":["x"]}
+< {"answer":"imported","data":[{"message":"","status":"duplicate"}]}
+> {"epoch":"8","op":"block","pubkey":"<K1>","signing_root":"<Ra>","slot":"256"}
+< {"answer":"signed","signature":"<S(K1,Ra)>","signing_root":"<Ra>"}
+* 8 granted 0 <K1> block 256 <Ra>
+* 8 sent 0
+> {"epoch":"8","op":"delete","pubkeys":["<K1>"]}
+< {"answer":"deleted","data":[{"message":"","status":"deleted"}],"slashing_protection":"<file>{'pubkey':'<K1>','signed_attestations':[],'signed_blocks':[{'signing_root':'<Ra>','slot':'256'}]}</file>"}
+* 8 close begun <K1>
+* 8 closed <K1> 1 0
+> {"epoch":"9","is_live":true,"of":"10","op":"live","pubkey":"<K1>"}
+< {"answer":"refused","reason":"not_active"}
+> {"epoch":"9","op":"import","keystores":["{'pubkey':'<K1>'}"],"passwords":["x"]}
+< {"answer":"imported","data":[{"message":"","status":"imported"}]}
+* 9 activated <K1>
+> {"epoch":"9","op":"block","pubkey":"<K1>","signing_root":"<Rb>","slot":"288"}
+< {"answer":"refused","missing":["10","11"],"reason":"watching"}"#,
     r#"each bad member of what is told is named, and nothing is noted
 > {"epoch":"5","op":"activate","pubkey":"<K1>"}
 < {"answer":"active"}
