@@ -372,9 +372,7 @@ fn deleted(alloc: Global) -> Result<KeyStatuses, AllocError> {
     statuses.push(KeyStatus::NotActive)?;
     statuses.push(KeyStatus::NotFound)?;
     statuses.push(KeyStatus::Error(Reason::SignerBadAnswer(Items::new(alloc))))?;
-    statuses.push(KeyStatus::Error(Reason::Desk(DeskRefusal::Busy {
-        grants: 2,
-    })))?;
+    statuses.push(KeyStatus::Error(Reason::Desk(DeskRefusal::Busy { grants: 2 })))?;
     Ok(Items::from_vec(statuses))
 }
 
@@ -499,7 +497,10 @@ fn each_answer_has_its_line(rt: HostRuntime) -> Result<(), Fail> {
 fn a_text_of_the_service_is_cut_after_200_characters(rt: HostRuntime) -> Result<(), Fail> {
     let alloc = rt.alloc();
     let mut text = String::new(alloc);
-    let mut wanted = String::from_str(alloc, r#"{"answer":"imported","data":[{"message":"signer: "#)?;
+    let mut wanted = String::from_str(
+        alloc,
+        r#"{"answer":"imported","data":[{"message":"signer: "#,
+    )?;
     for _ in 0..200 {
         text.push('é')?;
         wanted.push('é')?;
