@@ -1,0 +1,282 @@
+-- What a duty's plan may call, and what it gives.
+use Rattle.std.proofs.Common.{◌≡◌, ℕ, List, [], ◌∷◌, Option, Some, None, unwrap_or, Result, Ok, Err, refl, sym, ◌∙◌, ap, subst}
+use Rattle.edge_kit.specs.declared.bytes.PubKey.{PubKey}
+use Rattle.edge_kit.specs.declared.bytes.Sig.{Sig}
+use Rattle.slash_defs.specs.declared.message.Message.{Message}
+use Rattle.phase0_types.specs.declared.attestation.AttestationData.{AttestationData}
+use Rattle.phase0_blocks.specs.declared.block.BeaconBlock.{BeaconBlock}
+use Rattle.protect_record.specs.declared.verdict.Verdict.{Verdict}
+use Rattle.protect_record.specs.declared.verdict.Verdict.TheVariants as verdict
+use Rattle.desk_machine.specs.Grants.{IsGrantFor}
+use Rattle.desk_machine.specs.declared.open_grant.OpenGrant.{OpenGrant}
+use Rattle.desk_machine.specs.declared.call.DeskCall.{DeskCall}
+use Rattle.desk_machine.specs.declared.call.DeskCall.TheVariants as call
+use Rattle.desk_machine.specs.declared.call.DeskReply.{DeskReply}
+use Rattle.desk_machine.specs.declared.call.DeskReply.TheVariants as reply
+use Rattle.desk_machine.specs.declared.call.Outcome.{Outcome}
+use Rattle.desk_machine.specs.declared.call.Outcome.TheVariants as outcome
+use Rattle.signer_link.specs.declared.request.SignRequest.{SignRequest}
+use Rattle.node_calls.specs.declared.ask.Ask.{Ask}
+use Rattle.node_calls.specs.declared.ask.Ask.TheVariants as ask
+use Rattle.node_calls.specs.declared.answer.Answer.{Answer}
+use Rattle.node_calls.specs.declared.answer.Answer.TheVariants as answer
+use Rattle.node_calls.specs.declared.answer.AttesterRow.{AttesterRow}
+use Rattle.node_calls.specs.declared.answer.ProposerRow.{ProposerRow}
+use Rattle.node_calls.specs.declared.post.Post.{Post}
+use Rattle.node_fallback.specs.declared.no_node.NoAnswer.{NoAnswer}
+use Rattle.node_fallback.specs.declared.no_node.NoAnswer.TheVariants as none
+use Rattle.duty_schedule.specs.Checking.{block_members, data_members, first_that_differs}
+use Rattle.duty_schedule.specs.declared.checks.DataDiffers.{DataDiffers}
+use Rattle.duty_schedule.specs.declared.rows.Duty.{Duty}
+use Rattle.duty_schedule.specs.declared.rows.Duty.TheVariants as duty
+use Rattle.call_plans.specs.Plans.{Done, Stop, Ask as Step, Follows}
+use Rattle.duty_plans.specs.declared.got.Got.{Got}
+use Rattle.duty_plans.specs.declared.got.Got.TheVariants as got
+use Rattle.duty_plans.specs.declared.result.DutyResult.{DutyResult}
+use Rattle.duty_plans.specs.declared.result.DutyResult.TheVariants as ended
+use Rattle.duty_plans.specs.declared.work.SlotWork.{SlotWork}
+use Rattle.duty_plans.specs.Messages.{block_message, block_post, block_request, reveal_request, vote_message, vote_post, vote_request}
+use Rattle.duty_plans.specs.Reading.{block_of, grant_of, judged, matching, nothing_of, posted_of, signature_of, vote_of}
+use Rattle.duty_plans.specs.Steps.{DutyCall, DutyReply, DutyStep, DutyPlan, Calls, Signs, Reveals, Asks, Posts, Replies, Signed, Answered, Taken, Fits}
+use Rattle.duty_plans.specs.Plans.{answer_reply, desk_reply, post_reply, sign_reply, allowed_plan, block_plan, duty_plan, granted_plan, made_plan, post_plan, publish_plan, revealed_plan, sent, settles, under, vote_plan, voted_plan, with_got}
+use Rattle.duty_plans.specs.Results.{failed_answer, failed_in, failure_of, first_failure, first_of, result_by}
+use Rattle.duty_plans.specs.Owning.{AllOwn, IsGrantOf, IsOwn, IsOwnBlock, IsOwnVote, SignsOwn, PostsOwn, RevealsOwn}
+
+-- ---- what was got
+
+matched : {T : Type 0} (d : Option DataDiffers) (value x : T) → matching d value ≡ got.Given x → (d ≡ None) × (value ≡ x)
+matched None value x e = (refl, cc)
+matched (Some differs) value x e = absurd cc
+
+no_nothing : {P T : Type 0} (why : NoAnswer) (x : T) → nothing_of why ≡ got.Given x → P
+no_nothing (none.NoNode causes) x e = absurd cc
+no_nothing none.OutOfMemory x e = absurd cc
+
+vote_got : (row : AttesterRow) (a : Result Answer NoAnswer) (details : AttestationData) → vote_of row a ≡ got.Given details → first_that_differs (data_members row details) ≡ None
+vote_got row (Ok (answer.Data given)) details e =
+    let m = matched (first_that_differs (data_members row given)) given details e in
+    subst (λ (x : AttestationData). first_that_differs (data_members row x) ≡ None) m.1 m.0
+vote_got row (Ok a) details e = absurd cc
+vote_got row (Err why) details e = no_nothing why details e
+
+block_got : (row : ProposerRow) (a : Result Answer NoAnswer) (block : BeaconBlock) → block_of row a ≡ got.Given block → first_that_differs (block_members row.slot block) ≡ None
+block_got row (Ok (answer.Block given)) block e =
+    let m = matched (first_that_differs (block_members row.slot given)) given block e in
+    subst (λ (x : BeaconBlock). first_that_differs (block_members row.slot x) ≡ None) m.1 m.0
+block_got row (Ok a) block e = absurd cc
+block_got row (Err why) block e = no_nothing why block e
+
+no_judged : {P : Type 0} (v : Verdict) (grant : OpenGrant) → judged v ≡ got.Given grant → P
+no_judged verdict.Pass grant e = absurd cc
+no_judged (verdict.SlotBelow floor) grant e = absurd cc
+no_judged (verdict.DoubleBlock kept) grant e = absurd cc
+no_judged (verdict.SourceBelow floor) grant e = absurd cc
+no_judged (verdict.TargetBelow floor) grant e = absurd cc
+no_judged (verdict.DoubleVote kept) grant e = absurd cc
+no_judged (verdict.Surrounds kept) grant e = absurd cc
+no_judged (verdict.Surrounded kept) grant e = absurd cc
+
+grant_got : (r : DeskReply) (grant : OpenGrant) → grant_of r ≡ got.Given grant → r ≡ reply.Granted grant
+grant_got (reply.Granted g) grant e = (let same : g ≡ grant = cc in ap (λ x. reply.Granted x) same)
+grant_got (reply.Refused v) grant e = no_judged v grant e
+grant_got r grant e = absurd cc
+
+-- leave was given for what was proposed, or allowed
+got_for : (c : DeskCall) (r : DutyReply) (grant : OpenGrant) → Fits (Calls c) r → grant_of (desk_reply r) ≡ got.Given grant → IsGrantFor c (reply.Granted grant)
+got_for c (Replies r) grant f e = subst (λ (x : DeskReply). IsGrantFor c x) (grant_got r grant e) f.1
+got_for c (Signed s) grant f e = absurd f
+got_for c (Answered tried) grant f e = absurd f
+got_for c (Taken tried) grant f e = absurd f
+
+proposed_got : (key : PubKey) (m : Message) (grant : OpenGrant) → (grant.key ≡ key) × (grant.message ≡ Some m) → IsGrantOf grant key m
+proposed_got key m grant g = record { key = g.0; message = g.1 }
+
+-- ---- all that a plan may call is such
+
+abbrev pub Only : {X : Type 0} → (DutyCall → Type 0) → DutyPlan X → Type 0
+Only P (Done x) = Unit {0}
+Only P Stop = Unit {0}
+Only P (Step c k) = P c × ((r : DutyReply) → Fits c r → Only P (k r))
+
+own_follows : {X : Type 0} (work : SlotWork) (d : Duty) (plan : DutyPlan X) (steps : List DutyStep) (v : Option X) → Only (IsOwn work d) plan → Follows Fits plan steps v → AllOwn work d steps
+own_follows work d plan [] v o f = tt
+own_follows work d (Done x) (s ∷ steps) v o f = absurd f
+own_follows work d Stop (s ∷ steps) v o f = absurd f
+own_follows work d (Step c k) (s ∷ steps) v o f = (subst (λ (x : DutyCall). IsOwn work d x) (sym f.0) o.0, own_follows work d (k s.1) steps v (o.1 s.1 f.1) f.2)
+
+only_got : {T : Type 0} (P : DutyCall → Type 0) (g : Got T) (k : T → DutyPlan DutyResult) → ((x : T) → g ≡ got.Given x → Only P (k x)) → Only P (with_got g k)
+only_got P (got.Given x) k h = h x refl
+only_got P (got.Failed r) k h = tt
+only_got P got.Nothing k h = tt
+
+only_settles : (P : DutyCall → Type 0) (grant : OpenGrant) (o : Outcome) (next : DutyPlan DutyResult) → ((c : DeskCall) → P (Calls c)) → Only P next → Only P (settles grant o next)
+only_settles P grant o next calls h = (calls (call.Settle grant o), λ r f. h)
+
+only_under : {T : Type 0} (P : DutyCall → Type 0) (grant : OpenGrant) (g : Got T) (k : T → DutyPlan DutyResult) → ((c : DeskCall) → P (Calls c)) → ((x : T) → Only P (k x)) → Only P (under grant g k)
+only_under P grant (got.Given x) k calls h = h x
+only_under P grant (got.Failed r) k calls h = only_settles P grant outcome.Dropped (Done r) calls tt
+only_under P grant got.Nothing k calls h = only_settles P grant outcome.Dropped Stop calls tt
+
+only_post : (P : DutyCall → Type 0) (grant : OpenGrant) (p : Post) → ((c : DeskCall) → P (Calls c)) → P (Posts grant p) → Only P (post_plan grant p)
+only_post P grant p calls posts = (posts, λ r f. only_settles P grant outcome.Sent (with_got (posted_of (post_reply r)) sent) calls (only_got P (posted_of (post_reply r)) sent (λ x e. tt)))
+
+only_publish : (P : DutyCall → Type 0) (key : PubKey) (m : Message) (now : ℕ) (q : SignRequest) (made : Sig → Post) → ((c : DeskCall) → P (Calls c))
+    → ((grant : OpenGrant) → IsGrantOf grant key m → P (Signs grant q) × ((s : Sig) → P (Posts grant (made s)))) → Only P (publish_plan key m now q made)
+only_publish P key m now q made calls h = (
+  calls (call.Propose key m now),
+  λ r f. only_got P (grant_of (desk_reply r)) (λ grant. granted_plan q made grant) (λ grant e.
+      let of = proposed_got key m grant (got_for (call.Propose key m now) r grant f e) in
+      ((h grant of).0, λ s f2. only_under P grant (signature_of (sign_reply s)) (λ signature. post_plan grant (made signature)) calls (λ signature. only_post P grant (made signature) calls ((h grant of).1 signature)))),
+)
+
+voted_own : (work : SlotWork) (row : AttesterRow) (details : AttestationData) (grant : OpenGrant) → first_that_differs (data_members row details) ≡ None
+    → IsGrantOf grant row.pubkey (vote_message work.domains details) → IsOwnVote work row grant details
+voted_own work row details grant same of = record { same = same; leave = of }
+
+only_vote : (work : SlotWork) (row : AttesterRow) → Only (IsOwn work (duty.Vote row)) (vote_plan work row)
+only_vote work row =
+    let P : DutyCall → Type 0 = IsOwn work (duty.Vote row) in (
+      tt,
+      λ r f. only_got P (vote_of row (answer_reply r)) (λ details. voted_plan work row details) (λ details e.
+          let same = vote_got row (answer_reply r) details e in
+          only_publish P row.pubkey (vote_message work.domains details) work.moment (vote_request work details) (vote_post row details) (λ c. tt)
+          (λ grant of. ((details, refl, voted_own work row details grant same of), λ s. (voted_own work row details grant same of, refl)))),
+    )
+
+made_own : (work : SlotWork) (row : ProposerRow) (block : BeaconBlock) (grant : OpenGrant) → first_that_differs (block_members row.slot block) ≡ None
+    → IsGrantOf grant row.pubkey (block_message work.domains block) → IsOwnBlock work row grant block
+made_own work row block grant same of = record { same = same; leave = of }
+
+only_revealed : (work : SlotWork) (row : ProposerRow) (grant : OpenGrant) (reveal : Sig) → Only (IsOwn work (duty.Block row)) (revealed_plan work row grant reveal)
+only_revealed work row grant reveal =
+    let P : DutyCall → Type 0 = IsOwn work (duty.Block row) in (
+      tt,
+      λ r f. only_settles P grant outcome.Sent (with_got (block_of row (answer_reply r)) (λ block. made_plan work row block)) (λ c. tt)
+          (only_got P (block_of row (answer_reply r)) (λ block. made_plan work row block) (λ block e.
+          let same = block_got row (answer_reply r) block e in
+          only_publish P row.pubkey (block_message work.domains block) work.moment (block_request work block) (block_post block) (λ c. tt)
+          (λ given of. ((block, refl, made_own work row block given same of), λ s. made_own work row block given same of)))),
+    )
+
+only_block : (work : SlotWork) (row : ProposerRow) → Only (IsOwn work (duty.Block row)) (block_plan work row)
+only_block work row =
+    let P : DutyCall → Type 0 = IsOwn work (duty.Block row) in (
+      tt,
+      λ r f. only_got P (grant_of (desk_reply r)) (λ grant. allowed_plan work row grant) (λ grant e.
+          let of = got_for (call.Allow row.pubkey work.moment) r grant f e in
+          ((refl, of.0, of.1), λ s f2. only_under P grant (signature_of (sign_reply s)) (λ reveal. revealed_plan work row grant reveal) (λ c. tt) (λ reveal. only_revealed work row grant reveal))),
+    )
+
+pub duty_own : (work : SlotWork) (d : Duty) (steps : List DutyStep) (v : Option DutyResult) → Follows Fits (duty_plan work d) steps v → AllOwn work d steps
+duty_own work (duty.Vote row) steps v f = own_follows work (duty.Vote row) (vote_plan work row) steps v (only_vote work row) f
+duty_own work (duty.Block row) steps v f = own_follows work (duty.Block row) (block_plan work row) steps v (only_block work row) f
+
+-- ---- what it gives
+
+first_none : {A : Type 0} (a : Option A) → first_of a None ≡ a
+first_none None = refl
+first_none (Some x) = refl
+
+first_on : {A : Type 0} (a b c : Option A) → first_of (first_of a b) c ≡ first_of a (first_of b c)
+first_on None b c = refl
+first_on (Some x) b c = refl
+
+-- behind steps of which the first failure is this, the plan gives what the first failure of all says
+abbrev pub Gives : Duty → Option DutyResult → DutyPlan DutyResult → Type 0
+Gives d so (Done x) = x ≡ unwrap_or so ended.Sent
+Gives d so Stop = Unit {0}
+Gives d so (Step c k) = (r : DutyReply) → Fits c r → Gives d (first_of so (failure_of d (c, r))) (k r)
+
+abbrev GivesBy : Duty → Option DutyResult → List DutyStep → DutyResult → Type 0
+GivesBy d so steps r = r ≡ unwrap_or (first_of so (first_failure d steps)) ended.Sent
+
+gives_follows : (d : Duty) (so : Option DutyResult) (plan : DutyPlan DutyResult) (steps : List DutyStep) (r : DutyResult) → Gives d so plan → Follows Fits plan steps (Some r) → GivesBy d so steps r
+gives_follows d so (Done x) [] r g f = f ∙ g ∙ ap (λ o. unwrap_or o ended.Sent) (sym (first_none so))
+gives_follows d so (Done x) (s ∷ steps) r g f = absurd f
+gives_follows d so Stop [] r g f = absurd f
+gives_follows d so Stop (s ∷ steps) r g f = absurd f
+gives_follows d so (Step c k) [] r g f = absurd f
+gives_follows d so (Step c k) (s ∷ steps) r g f =
+    let rest = gives_follows d (first_of so (failure_of d (c, s.1))) (k s.1) steps r (g s.1 f.1) f.2 in
+    let same : failure_of d (c, s.1) ≡ failure_of d s = ap (λ (x : DutyCall). failure_of d (x, s.1)) (sym f.0) in
+    rest ∙ ap (λ o. unwrap_or o ended.Sent) (first_on so (failure_of d (c, s.1)) (first_failure d steps) ∙ ap (λ o. first_of so (first_of o (first_failure d steps))) same)
+
+gives_got : {T : Type 0} (d : Duty) (so : Option DutyResult) (g : Got T) (k : T → DutyPlan DutyResult) → so ≡ failed_in g → ((x : T) → Gives d None (k x)) → Gives d so (with_got g k)
+gives_got d so (got.Given x) k e h = subst (λ (o : Option DutyResult). Gives d o (k x)) (sym e) (h x)
+gives_got d so (got.Failed r) k e h = ap (λ o. unwrap_or o ended.Sent) (sym e)
+gives_got d so got.Nothing k e h = tt
+
+settled_none : (c : DeskReply) (grant : OpenGrant) (o : Outcome) → Fits (Calls (call.Settle grant o)) (Replies c) → failed_in (grant_of c) ≡ None
+settled_none reply.Settled grant o f = refl
+settled_none c grant o f = absurd f.0
+
+settle_none : (d : Duty) (r : DutyReply) (grant : OpenGrant) (o : Outcome) → Fits (Calls (call.Settle grant o)) r → failure_of d (Calls (call.Settle grant o), r) ≡ None
+settle_none d (Replies c) grant o f = settled_none c grant o f
+settle_none d (Signed s) grant o f = absurd f
+settle_none d (Answered tried) grant o f = absurd f
+settle_none d (Taken tried) grant o f = absurd f
+
+gives_settles : (d : Duty) (so : Option DutyResult) (grant : OpenGrant) (o : Outcome) (next : DutyPlan DutyResult) → Gives d so next → Gives d so (settles grant o next)
+gives_settles d so grant o next g r f =
+    subst (λ (x : Option DutyResult). Gives d x next) (sym (ap (λ x. first_of so x) (settle_none d r grant o f) ∙ first_none so)) g
+
+gives_under : {T : Type 0} (d : Duty) (so : Option DutyResult) (grant : OpenGrant) (g : Got T) (k : T → DutyPlan DutyResult) → so ≡ failed_in g → ((x : T) → Gives d None (k x)) → Gives d so (under grant g k)
+gives_under d so grant (got.Given x) k e h = subst (λ (o : Option DutyResult). Gives d o (k x)) (sym e) (h x)
+gives_under d so grant (got.Failed r) k e h = gives_settles d so grant outcome.Dropped (Done r) (ap (λ o. unwrap_or o ended.Sent) (sym e))
+gives_under d so grant got.Nothing k e h = gives_settles d so grant outcome.Dropped Stop tt
+
+-- the failure of a reply is that of what was read of it
+sign_failure : (d : Duty) (grant : OpenGrant) (q : SignRequest) (r : DutyReply) → Fits (Signs grant q) r → failure_of d (Signs grant q, r) ≡ failed_in (signature_of (sign_reply r))
+sign_failure d grant q (Signed s) f = refl
+sign_failure d grant q (Replies c) f = absurd f
+sign_failure d grant q (Answered tried) f = absurd f
+sign_failure d grant q (Taken tried) f = absurd f
+
+reveal_failure : (d : Duty) (grant : OpenGrant) (work : SlotWork) (r : DutyReply) → Fits (Reveals grant (reveal_request work)) r → failure_of d (Reveals grant (reveal_request work), r) ≡ failed_in (signature_of (sign_reply r))
+reveal_failure d grant work (Signed s) f = refl
+reveal_failure d grant work (Replies c) f = absurd f
+reveal_failure d grant work (Answered tried) f = absurd f
+reveal_failure d grant work (Taken tried) f = absurd f
+
+post_failure : (d : Duty) (grant : OpenGrant) (p : Post) (r : DutyReply) → Fits (Posts grant p) r → failure_of d (Posts grant p, r) ≡ failed_in (posted_of (post_reply r))
+post_failure d grant p (Taken tried) f = refl
+post_failure d grant p (Replies c) f = absurd f
+post_failure d grant p (Signed s) f = absurd f
+post_failure d grant p (Answered tried) f = absurd f
+
+call_failure : (d : Duty) (c : DeskCall) (r : DutyReply) → Fits (Calls c) r → failure_of d (Calls c, r) ≡ failed_in (grant_of (desk_reply r))
+call_failure d c (Replies x) f = refl
+call_failure d c (Signed s) f = absurd f
+call_failure d c (Answered tried) f = absurd f
+call_failure d c (Taken tried) f = absurd f
+
+ask_failure : (d : Duty) (a : Ask) (r : DutyReply) → Fits (Asks a) r → failure_of d (Asks a, r) ≡ failed_answer d (answer_reply r)
+ask_failure d a (Answered tried) f = refl
+ask_failure d a (Replies c) f = absurd f
+ask_failure d a (Signed s) f = absurd f
+ask_failure d a (Taken tried) f = absurd f
+
+gives_post : (d : Duty) (grant : OpenGrant) (p : Post) → Gives d None (post_plan grant p)
+gives_post d grant p r f = gives_settles d (failure_of d (Posts grant p, r)) grant outcome.Sent (with_got (posted_of (post_reply r)) sent)
+    (gives_got d (failure_of d (Posts grant p, r)) (posted_of (post_reply r)) sent (post_failure d grant p r f) (λ x. refl))
+
+gives_publish : (d : Duty) (key : PubKey) (m : Message) (now : ℕ) (q : SignRequest) (made : Sig → Post) → Gives d None (publish_plan key m now q made)
+gives_publish d key m now q made r f = gives_got d (failure_of d (Calls (call.Propose key m now), r)) (grant_of (desk_reply r)) (λ grant. granted_plan q made grant) (call_failure d (call.Propose key m now) r f)
+    (λ grant s f2. gives_under d (failure_of d (Signs grant q, s)) grant (signature_of (sign_reply s)) (λ signature. post_plan grant (made signature)) (sign_failure d grant q s f2) (λ signature. gives_post d grant (made signature)))
+
+gives_vote : (work : SlotWork) (row : AttesterRow) → Gives (duty.Vote row) None (vote_plan work row)
+gives_vote work row r f = gives_got (duty.Vote row) (failure_of (duty.Vote row) (Asks (ask.Data work.slot row.committee_index), r)) (vote_of row (answer_reply r)) (λ details. voted_plan work row details) (ask_failure (duty.Vote row) (ask.Data work.slot row.committee_index) r f)
+    (λ details. gives_publish (duty.Vote row) row.pubkey (vote_message work.domains details) work.moment (vote_request work details) (vote_post row details))
+
+gives_revealed : (work : SlotWork) (row : ProposerRow) (grant : OpenGrant) (reveal : Sig) → Gives (duty.Block row) None (revealed_plan work row grant reveal)
+gives_revealed work row grant reveal r f = gives_settles (duty.Block row) (failure_of (duty.Block row) (Asks (ask.Block work.slot reveal), r)) grant outcome.Sent (with_got (block_of row (answer_reply r)) (λ block. made_plan work row block))
+    (gives_got (duty.Block row) (failure_of (duty.Block row) (Asks (ask.Block work.slot reveal), r)) (block_of row (answer_reply r)) (λ block. made_plan work row block) (ask_failure (duty.Block row) (ask.Block work.slot reveal) r f)
+    (λ block. gives_publish (duty.Block row) row.pubkey (block_message work.domains block) work.moment (block_request work block) (block_post block)))
+
+gives_block : (work : SlotWork) (row : ProposerRow) → Gives (duty.Block row) None (block_plan work row)
+gives_block work row r f = gives_got (duty.Block row) (failure_of (duty.Block row) (Calls (call.Allow row.pubkey work.moment), r)) (grant_of (desk_reply r)) (λ grant. allowed_plan work row grant) (call_failure (duty.Block row) (call.Allow row.pubkey work.moment) r f)
+    (λ grant s f2. gives_under (duty.Block row) (failure_of (duty.Block row) (Reveals grant (reveal_request work), s)) grant (signature_of (sign_reply s)) (λ reveal. revealed_plan work row grant reveal) (reveal_failure (duty.Block row) grant work s f2) (λ reveal. gives_revealed work row grant reveal))
+
+pub duty_result : (work : SlotWork) (d : Duty) (steps : List DutyStep) (r : DutyResult) → Follows Fits (duty_plan work d) steps (Some r) → r ≡ result_by d steps
+duty_result work (duty.Vote row) steps r f = gives_follows (duty.Vote row) None (vote_plan work row) steps r (gives_vote work row) f
+duty_result work (duty.Block row) steps r f = gives_follows (duty.Block row) None (block_plan work row) steps r (gives_block work row) f

@@ -1,0 +1,5 @@
+pub mod NodeLemmas
+pub mod GuardLemmas
+pub mod SeatLemmas
+pub mod DutyLemmas
+pub mod SlotLemmas

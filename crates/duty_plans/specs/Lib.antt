@@ -1,0 +1,11 @@
+pub mod Texts
+pub mod Messages
+pub mod Reading
+pub mod Steps
+pub mod Hands
+pub mod Guards
+pub mod Seats
+pub mod Plans
+pub mod Results
+pub mod Owning
+pub mod Slots

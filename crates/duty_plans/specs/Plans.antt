@@ -1,0 +1,143 @@
+-- What is done for a duty. Each plan goes on by the reply to its call; where memory runs out it stops.
+use Rattle.std.specs.Prelude.{ℕ, List, [], ◌∷◌, Result, Err}
+use Rattle.edge_kit.specs.declared.bytes.PubKey.{PubKey}
+use Rattle.edge_kit.specs.declared.bytes.Root.{Root}
+use Rattle.edge_kit.specs.declared.bytes.Sig.{Sig}
+use Rattle.slash_defs.specs.declared.message.Message.{Message}
+use Rattle.phase0_types.specs.declared.attestation.AttestationData.{AttestationData}
+use Rattle.phase0_blocks.specs.declared.block.BeaconBlock.{BeaconBlock}
+use Rattle.sign_roots.specs.declared.domains.Domains.{Domains}
+use Rattle.desk_machine.specs.declared.open_grant.OpenGrant.{OpenGrant}
+use Rattle.desk_machine.specs.declared.call.DeskCall.{DeskCall}
+use Rattle.desk_machine.specs.declared.call.DeskCall.TheVariants as call
+use Rattle.desk_machine.specs.declared.call.DeskReply.{DeskReply}
+use Rattle.desk_machine.specs.declared.call.DeskReply.TheVariants as reply
+use Rattle.desk_machine.specs.declared.call.Outcome.{Outcome}
+use Rattle.desk_machine.specs.declared.call.Outcome.TheVariants as outcome
+use Rattle.signer_link.specs.declared.request.SignRequest.{SignRequest}
+use Rattle.signer_link.specs.declared.request.PlainRequest.{PlainRequest}
+use Rattle.signer_link.specs.declared.reply.SignReply.{SignReply}
+use Rattle.signer_link.specs.declared.reply.SignReply.TheVariants as signing
+use Rattle.node_calls.specs.declared.ask.Ask.{Ask}
+use Rattle.node_calls.specs.declared.ask.Ask.TheVariants as ask
+use Rattle.node_calls.specs.declared.answer.Answer.{Answer}
+use Rattle.node_calls.specs.declared.answer.AttesterRow.{AttesterRow}
+use Rattle.node_calls.specs.declared.answer.ProposerRow.{ProposerRow}
+use Rattle.node_calls.specs.declared.post.Post.{Post}
+use Rattle.node_fallback.specs.declared.no_node.NoAnswer.{NoAnswer}
+use Rattle.node_fallback.specs.declared.no_node.NoAnswer.TheVariants as none
+use Rattle.duty_schedule.specs.declared.rows.Duty.{Duty}
+use Rattle.duty_schedule.specs.declared.rows.Duty.TheVariants as duty
+use Rattle.call_plans.specs.Plans.{Done, Stop, Ask as Step, each_plan}
+use Rattle.duty_plans.specs.declared.got.Got.{Got}
+use Rattle.duty_plans.specs.declared.got.Got.TheVariants as got
+use Rattle.duty_plans.specs.declared.result.DutyResult.{DutyResult}
+use Rattle.duty_plans.specs.declared.result.DutyResult.TheVariants as ended
+use Rattle.duty_plans.specs.declared.work.SlotWork.{SlotWork}
+use Rattle.duty_plans.specs.Messages.{block_message, block_post, block_request, reveal_request, vote_message, vote_post, vote_request}
+use Rattle.duty_plans.specs.Reading.{block_of, grant_of, posted_of, signature_of, vote_of}
+use Rattle.duty_plans.specs.Steps.{DutyPlan, DutyReply, Calls, Signs, Reveals, Asks, Posts, Replies, Signed, Answered, Taken, came_of}
+
+-- ---- one call, and then by its reply; a reply that does not fit comes never
+
+abbrev pub desk_reply : DutyReply → DeskReply
+desk_reply (Replies r) = r
+desk_reply r = reply.OutOfMemory
+
+abbrev pub sign_reply : DutyReply → SignReply
+sign_reply (Signed s) = s
+sign_reply r = signing.OutOfMemory
+
+abbrev pub answer_reply : DutyReply → Result Answer NoAnswer
+answer_reply (Answered tried) = came_of tried
+answer_reply r = Err none.OutOfMemory
+
+abbrev pub post_reply : DutyReply → Result (Unit {0}) NoAnswer
+post_reply (Taken tried) = came_of tried
+post_reply r = Err none.OutOfMemory
+
+abbrev pub calls : {X : Type 0} → DeskCall → (DeskReply → DutyPlan X) → DutyPlan X
+calls c next_by = Step (Calls c) (λ r. next_by (desk_reply r))
+
+abbrev pub signs : {X : Type 0} → OpenGrant → SignRequest → (SignReply → DutyPlan X) → DutyPlan X
+signs grant q next_by = Step (Signs grant q) (λ r. next_by (sign_reply r))
+
+abbrev pub reveals : {X : Type 0} → OpenGrant → PlainRequest → (SignReply → DutyPlan X) → DutyPlan X
+reveals grant q next_by = Step (Reveals grant q) (λ r. next_by (sign_reply r))
+
+abbrev pub asks : {X : Type 0} → Ask → (Result Answer NoAnswer → DutyPlan X) → DutyPlan X
+asks a next_by = Step (Asks a) (λ r. next_by (answer_reply r))
+
+abbrev pub posts : {X : Type 0} → OpenGrant → Post → (Result (Unit {0}) NoAnswer → DutyPlan X) → DutyPlan X
+posts grant p next_by = Step (Posts grant p) (λ r. next_by (post_reply r))
+
+abbrev pub settles : {X : Type 0} → OpenGrant → Outcome → DutyPlan X → DutyPlan X
+settles grant o next = calls (call.Settle grant o) (λ r. next)
+
+-- what was got is gone on with; a call that failed ends the duty
+abbrev pub with_got : {T : Type 0} → Got T → (T → DutyPlan DutyResult) → DutyPlan DutyResult
+with_got (got.Given x) next_by = next_by x
+with_got (got.Failed r) next_by = Done r
+with_got got.Nothing next_by = Stop
+
+-- the same with a grant in hand: where nothing was got, nothing is sent under it
+abbrev pub under : {T : Type 0} → OpenGrant → Got T → (T → DutyPlan DutyResult) → DutyPlan DutyResult
+under grant (got.Given x) next_by = next_by x
+under grant (got.Failed r) next_by = settles grant outcome.Dropped (Done r)
+under grant got.Nothing next_by = settles grant outcome.Dropped Stop
+
+-- ---- what is to be sent
+
+abbrev pub sent : Unit {0} → DutyPlan DutyResult
+sent done = Done ended.Sent
+
+-- what was signed is posted, and its grant is settled as sent, whether or not a node took it
+abbrev pub post_plan : OpenGrant → Post → DutyPlan DutyResult
+post_plan grant p = posts grant p (λ taken. settles grant outcome.Sent (with_got (posted_of taken) sent))
+
+-- the grant's message is signed, and what is made with the signature is posted
+abbrev pub granted_plan : SignRequest → (Sig → Post) → OpenGrant → DutyPlan DutyResult
+granted_plan q made grant = signs grant q (λ s. under grant (signature_of s) (λ signature. post_plan grant (made signature)))
+
+-- leave is asked for a message first
+abbrev pub publish_plan : PubKey → Message → ℕ → SignRequest → (Sig → Post) → DutyPlan DutyResult
+publish_plan key m now q made = calls (call.Propose key m now) (λ r. with_got (grant_of r) (λ grant. granted_plan q made grant))
+
+-- ---- a vote
+
+abbrev pub voted_plan : SlotWork → AttesterRow → AttestationData → DutyPlan DutyResult
+voted_plan work row details = publish_plan row.pubkey (vote_message work.domains details) work.moment (vote_request work details) (vote_post row details)
+
+-- what its committee is to vote is asked for
+abbrev pub vote_plan : SlotWork → AttesterRow → DutyPlan DutyResult
+vote_plan work row = asks (ask.Data work.slot row.committee_index) (λ a. with_got (vote_of row a) (λ details. voted_plan work row details))
+
+-- ---- a block
+
+abbrev pub made_plan : SlotWork → ProposerRow → BeaconBlock → DutyPlan DutyResult
+made_plan work row block = publish_plan row.pubkey (block_message work.domains block) work.moment (block_request work block) (block_post block)
+
+-- a block is asked for with the reveal, whose grant is then settled as sent
+abbrev pub revealed_plan : SlotWork → ProposerRow → OpenGrant → Sig → DutyPlan DutyResult
+revealed_plan work row grant reveal = asks (ask.Block work.slot reveal) (λ a. settles grant outcome.Sent (with_got (block_of row a) (λ block. made_plan work row block)))
+
+-- the randomness is revealed
+abbrev pub allowed_plan : SlotWork → ProposerRow → OpenGrant → DutyPlan DutyResult
+allowed_plan work row grant = reveals grant (reveal_request work) (λ s. under grant (signature_of s) (λ reveal. revealed_plan work row grant reveal))
+
+-- leave is asked for the reveal first
+abbrev pub block_plan : SlotWork → ProposerRow → DutyPlan DutyResult
+block_plan work row = calls (call.Allow row.pubkey work.moment) (λ r. with_got (grant_of r) (λ grant. allowed_plan work row grant))
+
+-- ---- the duties of a slot
+
+abbrev pub duty_plan : SlotWork → Duty → DutyPlan DutyResult
+duty_plan work (duty.Block row) = block_plan work row
+duty_plan work (duty.Vote row) = vote_plan work row
+
+-- one after another, with a result each
+abbrev pub slot_plan : SlotWork → List Duty → DutyPlan (List DutyResult)
+slot_plan work duties = each_plan (λ d. duty_plan work d) [] duties
+
+abbrev pub slot_work : Root → Domains → ℕ → ℕ → SlotWork
+slot_work genesis domains slot now = record { genesis = genesis; domains = domains; slot = slot; moment = now }

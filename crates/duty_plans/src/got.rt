@@ -1,0 +1,149 @@
+//! What is read of the replies to a duty's calls.
+ghost use Rattle.std.specs.Prelude.{◌≡◌};
+ghost use Rattle.duty_plans.specs.Reading.{block_of, grant_of, judged, matching, posted_of, signature_of, vote_of};
+ghost use Rattle.duty_schedule.specs.Checking.{block_members, data_members, first_that_differs};
+
+use crate::result::{DutyResult, Refusal, Unsigned};
+use desk_machine::{DeskReply, Grant};
+use duty_schedule::{check_block, check_data};
+use edge_kit::Sig;
+use node_calls::{Answer, AttesterRow, ProposerRow};
+use node_fallback::NoAnswer;
+use phase0_blocks::BeaconBlock;
+use phase0_types::AttestationData;
+use protect_record::Verdict;
+use signer_link::SignReply;
+
+/// What came of a call.
+#[derive(Drop)]
+pub enum Got<T> {
+    /// What it was made for.
+    Given(T),
+    /// It failed, and the duty ends so.
+    Failed(DutyResult),
+    /// Memory ran out.
+    Nothing,
+}
+
+/// Leave, or why the desk gave none.
+pub fn grant_in(reply: DeskReply) -> Got<Grant>
+    ensures { result ≡ grant_of reply }
+{
+    match reply {
+        DeskReply::Granted(grant) => Got::Given(grant),
+        DeskReply::Disk => refused(Refusal::Disk),
+        DeskReply::Unknown => refused(Refusal::Unknown),
+        DeskReply::NotActive => refused(Refusal::NotActive),
+        DeskReply::Closing => refused(Refusal::Closing),
+        DeskReply::Live { epoch: _ } => refused(Refusal::Live),
+        DeskReply::Watching {
+            first: _,
+            second: _,
+        } => refused(Refusal::Watching),
+        DeskReply::Refused(verdict) => judged(&verdict),
+        DeskReply::Full { size: _, wanted: _ } => refused(Refusal::Full),
+        DeskReply::OutOfMemory => Got::Nothing,
+        DeskReply::Merged { keys: _ } | DeskReply::Active | DeskReply::Already => Got::Nothing,
+        DeskReply::Noted | DeskReply::Settled | DeskReply::CloseBegun => Got::Nothing,
+        DeskReply::AlreadyClosing | DeskReply::HasFailed(_) => Got::Nothing,
+        DeskReply::Closed(_book) => Got::Nothing,
+        DeskReply::Exported(_file) => Got::Nothing,
+        DeskReply::Pruned(_book) => Got::Nothing,
+        DeskReply::Keys(_listed) => Got::Nothing,
+        DeskReply::GenesisDiffers { kept: _, given: _ } => Got::Nothing,
+        DeskReply::TooManyKeys { have: _, new: _ } => Got::Nothing,
+        DeskReply::NotClosing(_) | DeskReply::Busy { grants: _ } => Got::Nothing,
+    }
+}
+
+/// No leave, since the key's past forbids the message.
+fn judged(verdict: &Verdict) -> Got<Grant>
+    ensures { result ≡ judged verdict.now }
+{
+    match verdict {
+        Verdict::Pass => Got::Nothing,
+        Verdict::SlotBelow(_) => refused(Refusal::SlotBelow),
+        Verdict::DoubleBlock(_) => refused(Refusal::DoubleBlock),
+        Verdict::SourceBelow(_) => refused(Refusal::SourceBelow),
+        Verdict::TargetBelow(_) => refused(Refusal::TargetBelow),
+        Verdict::DoubleVote(_) => refused(Refusal::DoubleVote),
+        Verdict::Surrounds(_) => refused(Refusal::Surrounds),
+        Verdict::Surrounded(_) => refused(Refusal::Surrounded),
+    }
+}
+
+/// No leave.
+fn refused(refusal: Refusal) -> Got<Grant>
+    ensures { result ≡ Got.Failed (DutyResult.Refused refusal) }
+{
+    Got::Failed(DutyResult::Refused(refusal))
+}
+
+/// The signature, or why the service gave none.
+pub fn signature_in(reply: SignReply) -> Got<Sig>
+    ensures { result ≡ signature_of reply }
+{
+    match reply {
+        SignReply::Signed(signature) => Got::Given(signature),
+        SignReply::NoKey(_) => Got::Failed(DutyResult::Unsigned(Unsigned::NoKey)),
+        SignReply::Denied(_) => Got::Failed(DutyResult::Unsigned(Unsigned::Denied)),
+        SignReply::Fault => Got::Failed(DutyResult::Unsigned(Unsigned::Fault)),
+        SignReply::BadAnswer(_) => Got::Failed(DutyResult::Unsigned(Unsigned::BadAnswer)),
+        SignReply::OutOfMemory => Got::Nothing,
+    }
+}
+
+/// What the committee of this duty is to vote, or why there is nothing to vote for.
+pub fn vote_in(row: &AttesterRow, answer: Result<Answer, NoAnswer>) -> Got<AttestationData>
+    ensures { result ≡ vote_of row.now answer }
+{
+    match answer {
+        Ok(Answer::Data(details)) => matching_vote(row, details),
+        Ok(_) => Got::Nothing,
+        Err(NoAnswer::NoNode(_)) => Got::Failed(DutyResult::NoData),
+        Err(NoAnswer::OutOfMemory) => Got::Nothing,
+    }
+}
+
+/// The block of this duty, or why there is none.
+pub fn block_in(row: &ProposerRow, answer: Result<Answer, NoAnswer>) -> Got<BeaconBlock>
+    ensures { result ≡ block_of row.now answer }
+{
+    match answer {
+        Ok(Answer::Block(block)) => matching_block(row, block),
+        Ok(_) => Got::Nothing,
+        Err(NoAnswer::NoNode(_)) => Got::Failed(DutyResult::NoData),
+        Err(NoAnswer::OutOfMemory) => Got::Nothing,
+    }
+}
+
+/// What is to be voted, where it is the duty's.
+fn matching_vote(row: &AttesterRow, details: AttestationData) -> Got<AttestationData>
+    ensures { result ≡ matching (first_that_differs (data_members row.now details)) details }
+{
+    match check_data(row, &details) {
+        Ok(()) => Got::Given(details),
+        Err(_) => Got::Failed(DutyResult::DataDiffers),
+    }
+}
+
+/// The block, where it is the duty's.
+fn matching_block(row: &ProposerRow, block: BeaconBlock) -> Got<BeaconBlock>
+    ensures { result ≡ matching (first_that_differs (block_members row.now.slot block)) block }
+{
+    match check_block(row.slot, &block) {
+        Ok(()) => Got::Given(block),
+        Err(_) => Got::Failed(DutyResult::DataDiffers),
+    }
+}
+
+/// Whether a node took what was posted.
+pub fn posted_in(taken: Result<(), NoAnswer>) -> Got<()>
+    ensures { result ≡ posted_of taken }
+{
+    match taken {
+        Ok(()) => Got::Given(()),
+        Err(NoAnswer::NoNode(_)) => Got::Failed(DutyResult::Unposted),
+        Err(NoAnswer::OutOfMemory) => Got::Nothing,
+    }
+}

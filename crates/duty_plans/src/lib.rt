@@ -1,0 +1,14 @@
+//! What a duty calls, step by step: the plans of votes and blocks, and what holds of whatever carries them out.
+#![tactic(auto)]
+
+mod got;
+mod laws;
+mod result;
+mod setup;
+mod work;
+
+pub use got::{Got, block_in, grant_in, posted_in, signature_in, vote_in};
+pub use laws::{duty_law, lane_law};
+pub use result::{DutyResult, Refusal, Unsigned};
+pub use setup::DutySetup;
+pub use work::SlotWork;

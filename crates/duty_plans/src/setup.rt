@@ -1,0 +1,18 @@
+//! What the duties of a run share.
+use edge_kit::Root;
+use phase0_types::Fork;
+
+/// What the duties of a run share.
+#[derive(Clone, Copy, PartialEq, Eq, Debug)]
+pub struct DutySetup {
+    /// The root of the chain's genesis validators.
+    pub genesis: Root,
+    /// When the chain began, in seconds since 1970.
+    pub genesis_time: u64,
+    /// The chain's fork at the start. It stands until a node gives another.
+    pub fork: Fork,
+    /// Whether keys are watched before they sign.
+    pub watch: bool,
+    /// How many turns are taken, one for each slot that is reached.
+    pub slots: u64,
+}

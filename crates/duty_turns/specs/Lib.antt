@@ -1,0 +1,5 @@
+pub mod Times
+pub mod Lines
+pub mod Standing
+pub mod TurnSteps
+pub mod Turns

@@ -1,0 +1,314 @@
+-- The turns of the loop. Each plan goes on by the reply to its call; where memory runs out it stops. What it gives is what stands
+-- then, or that the output failed.
+use Rattle.std.specs.Prelude.{ℕ, zero, suc, ◌+◌, ◌==◌, ◌||◌, ◌&&◌, not, nat_lt, nat_eq, if◌then◌else◌, Bool, true, false, List, [], ◌∷◌, ◌++◌, filter, flat_map, map, length, take, drop, Option, Some, None, Result, Ok, Err}
+use Rattle.std.specs.List.{list_any}
+use Rattle.std.specs.Cmp.Lexicographic.{pointwise}
+use Rattle.std.specs.Str.{bytes_eq}
+use Rattle.edge_kit.specs.declared.bytes.PubKey.{PubKey}
+use Rattle.sign_roots.specs.declared.domains.Domains.{Domains}
+use Rattle.doppel_watch.specs.declared.watch.WatchState.{WatchState}
+use Rattle.doppel_watch.specs.declared.watch.WatchState.TheVariants as watch
+use Rattle.desk_machine.specs.States.{is_active, state_in}
+use Rattle.desk_machine.specs.declared.call.KeyStanding.{KeyStanding}
+use Rattle.desk_machine.specs.declared.call.KeyStanding.TheVariants as standing
+use Rattle.desk_machine.specs.declared.call.DeskCall.{DeskCall}
+use Rattle.desk_machine.specs.declared.call.DeskCall.TheVariants as call
+use Rattle.desk_machine.specs.declared.call.DeskReply.{DeskReply}
+use Rattle.desk_machine.specs.declared.call.DeskReply.TheVariants as reply
+use Rattle.node_calls.specs.declared.ask.Ask.{Ask}
+use Rattle.node_calls.specs.declared.ask.Ask.TheVariants as ask
+use Rattle.node_calls.specs.declared.answer.Answer.{Answer}
+use Rattle.node_calls.specs.declared.answer.Answer.TheVariants as answer
+use Rattle.node_calls.specs.declared.answer.LivenessRow.{LivenessRow}
+use Rattle.node_fallback.specs.declared.no_node.NoAnswer.{NoAnswer}
+use Rattle.node_fallback.specs.declared.no_node.NoAnswer.TheVariants as none
+use Rattle.duty_schedule.specs.Answers.{TakenAnswer}
+use Rattle.duty_schedule.specs.declared.rows.Duty.{Duty}
+use Rattle.duty_schedule.specs.declared.rows.Duty.TheVariants as duty
+use Rattle.call_plans.specs.Plans.{Done, Stop, Ask as Step, bind}
+use Rattle.duty_plans.specs.declared.result.DutyResult.{DutyResult}
+use Rattle.duty_plans.specs.declared.setup.DutySetup.{DutySetup}
+use Rattle.duty_plans.specs.declared.work.SlotWork.{SlotWork}
+use Rattle.duty_plans.specs.Plans.{answer_reply, desk_reply, slot_work}
+use Rattle.duty_plans.specs.Steps.{DutyReply, Calls, Asks}
+use Rattle.duty_turns.specs.declared.held.DutyEnd.{DutyEnd}
+use Rattle.duty_turns.specs.declared.held.DutyEnd.TheVariants as end
+use Rattle.record_join.specs.Keys.{kept_of}
+use Rattle.duty_turns.specs.Lines.{duty_lines, none_line}
+use Rattle.duty_turns.specs.Standing.{Standing, indices_of, with_attesters, with_fork, with_indices, with_proposers}
+use Rattle.duty_turns.specs.Times.{epoch_of, is_first_slot, next_slot, slot_of, slot_start, votes_start}
+use Rattle.duty_turns.specs.TurnSteps.{TurnPlan, TurnReply, Waits, Refreshes, Own, LooksUp, Works, Writes, Woke, Refreshed, Owned, Due, Worked, Wrote}
+
+-- what stands behind a part of a turn; None: the output failed
+abbrev pub PartPlan : Type 0
+PartPlan = TurnPlan (Option Standing)
+
+-- ---- one call, and then by its reply; a reply that does not fit comes never
+
+abbrev pub woken : {X : Type 0} → TurnReply → (ℕ → TurnPlan X) → TurnPlan X
+woken (Woke reached) next_by = next_by reached
+woken r next_by = Stop
+
+abbrev pub waits : {X : Type 0} → ℕ → (ℕ → TurnPlan X) → TurnPlan X
+waits moment next_by = Step (Waits moment) (λ r. woken r next_by)
+
+abbrev pub refreshed : {X : Type 0} → TurnReply → TurnPlan X → TurnPlan X
+refreshed (Refreshed true replies) next = next
+refreshed r next = Stop
+
+abbrev pub refreshes : {X : Type 0} → TurnPlan X → TurnPlan X
+refreshes next = Step Refreshes (λ r. refreshed r next)
+
+abbrev pub own_answer : TurnReply → Result Answer NoAnswer
+own_answer (Owned r) = answer_reply r
+own_answer r = Err none.OutOfMemory
+
+abbrev pub own_reply : TurnReply → DeskReply
+own_reply (Owned r) = desk_reply r
+own_reply r = reply.OutOfMemory
+
+abbrev pub asks : {X : Type 0} → Ask → (Result Answer NoAnswer → TurnPlan X) → TurnPlan X
+asks a next_by = Step (Own (Asks a)) (λ r. next_by (own_answer r))
+
+abbrev pub calls : {X : Type 0} → DeskCall → (DeskReply → TurnPlan X) → TurnPlan X
+calls c next_by = Step (Own (Calls c)) (λ r. next_by (own_reply r))
+
+abbrev pub found : {X : Type 0} → TurnReply → (List Duty → TurnPlan X) → TurnPlan X
+found (Due ds) next_by = next_by ds
+found r next_by = Stop
+
+abbrev pub looks_up : {X : Type 0} → List TakenAnswer → ℕ → List PubKey → (List Duty → TurnPlan X) → TurnPlan X
+looks_up answers slot active next_by = Step (LooksUp answers slot active) (λ r. found r next_by)
+
+abbrev pub worked : {X : Type 0} → TurnReply → (List DutyResult → TurnPlan X) → TurnPlan X
+worked (Worked steps (Some results)) next_by = next_by results
+worked r next_by = Stop
+
+abbrev pub works : {X : Type 0} → SlotWork → List Duty → (List DutyResult → TurnPlan X) → TurnPlan X
+works work ds next_by = Step (Works work ds) (λ r. worked r next_by)
+
+abbrev pub written : {X : Type 0} → TurnReply → TurnPlan (Option X) → TurnPlan (Option X)
+written (Wrote true piece) next = next
+written r next = Done None
+
+-- a text that can't be written ends the loop
+abbrev pub writes : {X : Type 0} → List ℕ → TurnPlan (Option X) → TurnPlan (Option X)
+writes text next = Step (Writes text) (λ r. written r next)
+
+-- one part, and then another on what stands
+abbrev pub on_standing : {X : Type 0} → (Standing → TurnPlan (Option X)) → Option Standing → TurnPlan (Option X)
+on_standing next (Some s) = next s
+on_standing next None = Done None
+
+abbrev pub then_on : {X : Type 0} → PartPlan → (Standing → TurnPlan (Option X)) → TurnPlan (Option X)
+then_on part next = bind part (on_standing next)
+
+-- ---- what is asked of the nodes, outside the duties
+
+-- the answer is taken in; where no node gave one, a line says so and what stands stays
+abbrev pub answered_plan : (Answer → Standing → Standing) → Standing → Result Answer NoAnswer → PartPlan
+answered_plan take_in s (Ok a) = Done (Some (take_in a s))
+answered_plan take_in s (Err (none.NoNode causes)) = writes (none_line s.slot) (Done (Some s))
+answered_plan take_in s (Err none.OutOfMemory) = Stop
+
+abbrev pub ask_plan : Ask → (Answer → Standing → Standing) → Standing → PartPlan
+ask_plan a take_in s = asks a (answered_plan take_in s)
+
+-- keys by 32, the rest in the last; the number is as many as there may be
+abbrev pub by_32 : ℕ → List PubKey → List (List PubKey)
+by_32 zero keys = []
+by_32 (suc n) [] = []
+by_32 (suc n) (k ∷ keys) = take 32 (k ∷ keys) ∷ by_32 n (drop 32 (k ∷ keys))
+
+abbrev pub index_plan : List (List PubKey) → Standing → PartPlan
+index_plan [] s = Done (Some s)
+index_plan (keys ∷ more) s = then_on (ask_plan (ask.Validators keys) with_indices s) (index_plan more)
+
+-- the fork, then the indices of the active keys
+abbrev pub renew_plan : List PubKey → Standing → PartPlan
+renew_plan active s = then_on (ask_plan ask.Fork with_fork s) (index_plan (by_32 (length active) active))
+
+abbrev pub same_keys : List PubKey → Option (List PubKey) → Bool
+same_keys active None = false
+same_keys active (Some before) = pointwise (λ a b. bytes_eq a.0 b.0) active before
+
+-- at the first turn, at the first slot of an epoch, and where other keys are active than before
+abbrev pub renews : List PubKey → Standing → Bool
+renews active s = is_first_slot s.slot || not (same_keys active s.active)
+
+abbrev pub renewed_plan : List PubKey → Standing → PartPlan
+renewed_plan active s = if renews active s then renew_plan active s else Done (Some s)
+
+-- where no index is held, attesters are not asked for
+abbrev pub attesters_plan : ℕ → List ℕ → Standing → PartPlan
+attesters_plan epoch [] s = Done (Some s)
+attesters_plan epoch (i ∷ indices) s = ask_plan (ask.Attester epoch (i ∷ indices)) (with_attesters epoch (i ∷ indices)) s
+
+abbrev pub voters_plan : List PubKey → Standing → PartPlan
+voters_plan active s = attesters_plan (epoch_of s.slot) (indices_of s.indices active) s
+
+abbrev pub duties_plan : List PubKey → Standing → PartPlan
+duties_plan active s = then_on (ask_plan (ask.Proposer (epoch_of s.slot)) (with_proposers (epoch_of s.slot)) s) (voters_plan active)
+
+-- ---- the watch
+
+-- the epochs of which an active key misses an answer
+abbrev pub missed : KeyStanding → List ℕ
+missed (standing.Active (watch.Missing first None)) = first ∷ []
+missed (standing.Active (watch.Missing first (Some second))) = first ∷ second ∷ []
+missed s = []
+
+abbrev pub misses : ℕ → PubKey × KeyStanding → Bool
+misses epoch l = list_any (λ e. e == epoch) (missed l.1)
+
+-- the numbers from one on, so many
+abbrev pub counted : ℕ → ℕ → List ℕ
+counted from zero = []
+counted from (suc n) = from ∷ counted (from + 1) n
+
+-- the epochs below this one that some key misses, the lesser first
+abbrev pub missing_epochs : ℕ → List (PubKey × KeyStanding) → List ℕ
+missing_epochs now listed = filter (λ epoch. list_any (misses epoch) listed) (counted 0 now)
+
+-- the keys that miss an epoch, in key order
+abbrev pub missing_keys : ℕ → List (PubKey × KeyStanding) → List PubKey
+missing_keys epoch listed = map (λ l. l.0) (filter (misses epoch) listed)
+
+abbrev pub is_index : Option ℕ → ℕ → Bool
+is_index None index = false
+is_index (Some held) index = held == index
+
+-- the key was asked for by this index
+abbrev pub is_asked_by : List (PubKey × ℕ) → ℕ → PubKey → Bool
+is_asked_by indices index key = is_index (kept_of indices key) index
+
+-- what a row says of the keys that were asked for by its index, in key order
+abbrev pub row_notes : List (PubKey × ℕ) → List PubKey → LivenessRow → List (PubKey × Bool)
+row_notes indices keys row = map (λ key. (key, row.is_live)) (filter (is_asked_by indices row.index) keys)
+
+abbrev pub notes_of : List (PubKey × ℕ) → List PubKey → List LivenessRow → List (PubKey × Bool)
+notes_of indices keys rows = flat_map (row_notes indices keys) rows
+
+abbrev pub noted : DeskReply → PartPlan → PartPlan
+noted reply.OutOfMemory next = Stop
+noted r next = next
+
+-- the desk is told of each key
+abbrev pub notes_plan : ℕ → ℕ → List (PubKey × Bool) → Standing → PartPlan
+notes_plan epoch now [] s = Done (Some s)
+notes_plan epoch now (n ∷ notes) s = calls (call.Answer n.0 epoch n.1 now) (λ r. noted r (notes_plan epoch now notes s))
+
+abbrev pub lived_plan : ℕ → ℕ → List PubKey → Standing → Result Answer NoAnswer → PartPlan
+lived_plan epoch now keys s (Ok (answer.Liveness rows)) = notes_plan epoch now (notes_of s.indices keys rows) s
+lived_plan epoch now keys s (Ok a) = Stop
+lived_plan epoch now keys s (Err (none.NoNode causes)) = writes (none_line s.slot) (Done (Some s))
+lived_plan epoch now keys s (Err none.OutOfMemory) = Stop
+
+-- where no index is held of the keys that miss an epoch, nothing is asked
+abbrev pub liveness_plan : ℕ → ℕ → List PubKey → List ℕ → Standing → PartPlan
+liveness_plan epoch now keys [] s = Done (Some s)
+liveness_plan epoch now keys (i ∷ indices) s = asks (ask.Liveness epoch (i ∷ indices)) (lived_plan epoch now keys s)
+
+abbrev pub epoch_plan : ℕ → List (PubKey × KeyStanding) → ℕ → Standing → PartPlan
+epoch_plan now listed epoch s = liveness_plan epoch now (missing_keys epoch listed) (indices_of s.indices (missing_keys epoch listed)) s
+
+abbrev pub epochs_plan : ℕ → List (PubKey × KeyStanding) → List ℕ → Standing → PartPlan
+epochs_plan now listed [] s = Done (Some s)
+epochs_plan now listed (epoch ∷ epochs) s = then_on (epoch_plan now listed epoch s) (epochs_plan now listed epochs)
+
+abbrev pub watch_plan : Bool → List (PubKey × KeyStanding) → Standing → PartPlan
+watch_plan watches listed s = if watches then epochs_plan (epoch_of s.slot) listed (missing_epochs (epoch_of s.slot) listed) s else Done (Some s)
+
+-- ---- a turn, from its end
+
+-- what comes behind a turn: the next, or the end of the loop
+abbrev pub Next : Type 0
+Next = Result Standing DutyEnd
+
+abbrev pub NextPlan : Type 0
+NextPlan = TurnPlan Next
+
+-- the disk failed: the loop ends
+abbrev pub failed_plan : Standing → DeskReply → NextPlan
+failed_plan s (reply.HasFailed true) = Done (Err end.Disk)
+failed_plan s r = Done (Ok s)
+
+abbrev pub closed_plan : Standing → TurnReply → NextPlan
+closed_plan s (Wrote true piece) = calls call.HasFailed (failed_plan s)
+closed_plan s r = Done (Err end.Write)
+
+-- the lines are written, and the desk is asked whether its disk failed
+abbrev pub close_plan : ℕ → List Duty → List DutyResult → Standing → NextPlan
+close_plan slot ds results s = Step (Writes (duty_lines slot ds results)) (closed_plan s)
+
+abbrev pub is_block : Duty → Bool
+is_block (duty.Block row) = true
+is_block (duty.Vote row) = false
+
+abbrev pub blocks_in : List Duty → List Duty
+blocks_in ds = filter is_block ds
+
+abbrev pub votes_in : List Duty → List Duty
+votes_in ds = filter (λ d. not (is_block d)) ds
+
+-- the next turn is of this slot
+abbrev pub at_slot : ℕ → Standing → Standing
+at_slot slot s = record s { slot = slot }
+
+abbrev pub work_of : DutySetup → Standing → SlotWork
+work_of setup s = slot_work setup.genesis (record { fork = s.fork; genesis = setup.genesis }) s.slot (epoch_of s.slot)
+
+-- a third into the slot the votes are cast; later than the slot they are dropped, and the next turn is that later slot
+abbrev pub votes_plan : DutySetup → Standing → List Duty → List DutyResult → ℕ → NextPlan
+votes_plan setup s ds proposed reached =
+    if nat_lt s.slot (slot_of setup.genesis_time reached)
+    then close_plan s.slot (blocks_in ds) proposed (at_slot (slot_of setup.genesis_time reached) s)
+    else works (work_of setup s) (votes_in ds) (λ cast. close_plan s.slot (blocks_in ds ++ votes_in ds) (proposed ++ cast) (at_slot (next_slot s.slot) s))
+
+-- what is due is done: blocks at once, votes a third into the slot
+abbrev pub due_plan : DutySetup → Standing → List Duty → NextPlan
+due_plan setup s ds = works (work_of setup s) (blocks_in ds) (λ proposed. waits (votes_start setup.genesis_time s.slot) (votes_plan setup s ds proposed))
+
+abbrev pub with_active : List PubKey → Standing → Standing
+with_active active s = record s { active = Some active }
+
+abbrev pub ready_plan : DutySetup → List PubKey → Option Standing → NextPlan
+ready_plan setup active None = Done (Err end.Write)
+ready_plan setup active (Some s) = looks_up s.answers s.slot active (due_plan setup (with_active active s))
+
+-- the nodes are asked for the fork and the indices, for the duties, and for what is missing of the watch
+abbrev pub asked_plan : DutySetup → List (PubKey × KeyStanding) → List PubKey → Standing → PartPlan
+asked_plan setup listed active s = then_on (then_on (renewed_plan active s) (duties_plan active)) (watch_plan setup.watch listed)
+
+abbrev pub active_of : List (PubKey × KeyStanding) → List PubKey
+active_of listed = map (λ l. l.0) (filter (λ l. is_active (state_in l.1)) listed)
+
+abbrev pub listed_plan : DutySetup → Standing → DeskReply → NextPlan
+listed_plan setup s (reply.Keys listed) = bind (asked_plan setup listed (active_of listed) s) (ready_plan setup (active_of listed))
+listed_plan setup s r = Stop
+
+-- at its slot's start the nodes are refreshed and the desk is asked for its keys; later than the slot its duties are dropped, and the
+-- next turn is that later slot
+abbrev pub woken_plan : DutySetup → Standing → ℕ → NextPlan
+woken_plan setup s reached =
+    if nat_lt s.slot (slot_of setup.genesis_time reached)
+    then close_plan s.slot [] [] (at_slot (slot_of setup.genesis_time reached) s)
+    else refreshes (calls call.Keys (listed_plan setup s))
+
+abbrev pub turn_plan : DutySetup → Standing → NextPlan
+turn_plan setup s = waits (slot_start setup.genesis_time s.slot) (woken_plan setup s)
+
+-- ---- turn behind turn
+
+abbrev pub next_turn : (Standing → TurnPlan (Result (Unit {0}) DutyEnd)) → Next → TurnPlan (Result (Unit {0}) DutyEnd)
+next_turn turns (Ok s) = turns s
+next_turn turns (Err ended) = Done (Err ended)
+
+-- so many turns
+abbrev pub turns_plan : DutySetup → ℕ → Standing → TurnPlan (Result (Unit {0}) DutyEnd)
+turns_plan setup zero s = Done (Ok tt)
+turns_plan setup (suc n) s = bind (turn_plan setup s) (next_turn (turns_plan setup n))
+
+-- what stands at the start: nothing was asked yet, and the first slot is that of the clock's moment
+abbrev pub first_standing : DutySetup → ℕ → Standing
+first_standing setup now = record { slot = slot_of setup.genesis_time now; fork = setup.fork; indices = []; answers = []; active = None }

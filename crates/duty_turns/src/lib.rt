@@ -1,0 +1,10 @@
+//! The turns of a validator's duty loop: when they are, what they call step by step, and what they print.
+#![tactic(auto)]
+
+mod held;
+mod lines;
+mod times;
+
+pub use held::{DutyEnd, Held};
+pub use lines::{duty_lines, none_line};
+pub use times::{epoch_of, is_first_slot, next_slot, slot_of, slot_start, votes_start};

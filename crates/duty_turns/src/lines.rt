@@ -1,0 +1,69 @@
+//! What is printed of a turn.
+ghost use Rattle.std.specs.Prelude.{◌≡◌, ◌++◌, IfOk, OnOk, string_bytes};
+ghost use Rattle.duty_turns.specs.Lines.{duty_line, duty_lines, key_of, kind_word, none_line};
+
+use duty_plans::DutyResult;
+use duty_schedule::Duty;
+use edge_kit::{PubKey, hex_text};
+use std::alloc::{AllocError, Global};
+
+/// A line for each of these duties of a slot that has a result: the slot, `block` or `vote`, the key, and how the
+/// duty ended. The error is want of memory.
+pub fn duty_lines(
+    alloc: Global,
+    slot: u64,
+    duties: &[Duty],
+    results: &[DutyResult],
+) -> Result<String, AllocError>
+    ensures { IfOk result (λ text. string_bytes text ≡ duty_lines slot duties.now results.now) }
+{
+    let mut text = String::new(alloc);
+    'duties: for (i, duty) in duties.iter().enumerate() {
+        let Some(ended) = results.get(i).copied() else {
+            return Ok(text);
+        };
+        let line = duty_line(alloc, slot, duty, &ended)?;
+        text.push_str(line.as_str())?;
+    }
+    Ok(text)
+}
+
+/// The line of a duty.
+fn duty_line(
+    alloc: Global,
+    slot: u64,
+    duty: &Duty,
+    ended: &DutyResult,
+) -> Result<String, AllocError>
+    ensures { IfOk result (λ text. string_bytes text ≡ duty_line slot duty.now ended.now) }
+{
+    let kind = kind_word(duty);
+    let key = hex_text(alloc, &key_of(duty).0)?;
+    let key = key.as_str();
+    format!(in alloc; "{slot} {kind} {key} {ended}\n")
+}
+
+fn kind_word(duty: &Duty) -> &'static str
+    ensures { result.now ≡ kind_word duty.now }
+{
+    match duty {
+        Duty::Block(_) => "block",
+        Duty::Vote(_) => "vote",
+    }
+}
+
+fn key_of(duty: &Duty) -> PubKey
+    ensures { result ≡ key_of duty.now }
+{
+    match duty {
+        Duty::Block(row) => row.pubkey,
+        Duty::Vote(row) => row.pubkey,
+    }
+}
+
+/// The line that says that no node gave what was asked for in a slot. The error is want of memory.
+pub fn none_line(alloc: Global, slot: u64) -> Result<String, AllocError>
+    ensures { IfOk result (λ text. string_bytes text ≡ none_line slot) }
+{
+    format!(in alloc; "{slot} nodes none\n")
+}

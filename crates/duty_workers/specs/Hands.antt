@@ -1,0 +1,41 @@
+-- The grant in hand behind a call for leave, and what may be done with it.
+use Rattle.std.specs.Prelude.{◌&&◌, nat_lt, nat_le, Bool, true, IsSome, List}
+use Rattle.std.specs.List.{list_all}
+use Rattle.node_calls.specs.declared.answer.AttesterRow.{AttesterRow}
+use Rattle.duty_schedule.specs.declared.rows.Duty.{Duty}
+use Rattle.duty_schedule.specs.declared.rows.Duty.TheVariants as duty
+use Rattle.desk_machine.specs.declared.open_grant.OpenGrant.{OpenGrant}
+use Rattle.desk_machine.specs.declared.call.DeskCall.{DeskCall}
+use Rattle.desk_machine.specs.declared.call.DeskCall.TheVariants as call
+use Rattle.desk_machine.specs.declared.call.Outcome.{Outcome}
+use Rattle.duty_plans.specs.declared.got.Got.{Got}
+use Rattle.duty_plans.specs.declared.got.Got.TheVariants as got
+use Rattle.duty_plans.specs.Hands.{Hand, Free, Holds}
+
+abbrev pub given_hand : Got OpenGrant → Hand
+given_hand (got.Given grant) = Holds grant
+given_hand (got.Failed r) = Free
+given_hand got.Nothing = Free
+
+-- leave that was given may be settled
+abbrev pub MayEnd : (DeskCall → Type 0) → Got OpenGrant → Type 0
+MayEnd allows (got.Given grant) = (o : Outcome) → allows (call.Settle grant o)
+MayEnd allows (got.Failed r) = Unit {0}
+MayEnd allows got.Nothing = Unit {0}
+
+-- leave is for a message
+abbrev pub HasMessage : Got OpenGrant → Type 0
+HasMessage (got.Given grant) = IsSome grant.message
+HasMessage (got.Failed r) = Unit {0}
+HasMessage got.Nothing = Unit {0}
+
+-- the validator has one of the places of its committee, which has at most 2048 (consensus-specs, `MAX_VALIDATORS_PER_COMMITTEE`)
+abbrev pub has_place : AttesterRow → Bool
+has_place row = nat_lt row.validator_committee_index row.committee_length && nat_le row.committee_length 2048
+
+abbrev pub is_placed : Duty → Bool
+is_placed (duty.Vote row) = has_place row
+is_placed (duty.Block row) = true
+
+abbrev pub are_placed : List Duty → Bool
+are_placed duties = list_all is_placed duties
