@@ -1,0 +1,5 @@
+pub mod Draws
+pub mod Plays
+pub mod Clients
+pub mod Stages
+pub mod Rehearsals
