@@ -4,6 +4,7 @@
 mod events;
 mod marks;
 mod outside;
+mod plays;
 mod scripts;
 
 pub use events::words_of;
@@ -12,4 +13,5 @@ pub use outside::{
     Ended, Faults, KeepingSigner, Unused, disks_after, disks_of, fresh_disks, no_faults, play,
     ready_signer, run,
 };
+pub use plays::{SESSION, came_to};
 pub use scripts::{Session, in_two, titled};

@@ -1,7 +1,6 @@
 //! Sessions over an input, an output and a signer that fail.
-use crate::sessions::SESSION;
 use edge_kit::PubKey;
-use run_doubles::{Ended, Faults, filled, fresh_disks, no_faults, ready_signer, run};
+use run_doubles::{Ended, Faults, SESSION, filled, fresh_disks, no_faults, ready_signer, run};
 use signer_link::MemSigner;
 use std::alloc::{AllocError, Global};
 use std::sync::Wait;

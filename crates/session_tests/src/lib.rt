@@ -2,8 +2,6 @@
 #![tactic(auto)]
 
 #[cfg(test)]
-mod custody;
-#[cfg(test)]
 mod faults;
 #[cfg(test)]
 mod files;

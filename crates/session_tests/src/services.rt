@@ -1,7 +1,6 @@
 //! Sessions whose signatures a service makes, over a link in memory.
-use crate::sessions::SESSION;
 use edge_kit::{MemLink, PubKey, Root, Sig};
-use run_doubles::{Ended, filled, fresh_disks, no_faults, run};
+use run_doubles::{Ended, SESSION, filled, fresh_disks, no_faults, run};
 use service_url::ServiceUrl;
 use signer_link::{SignReply, Told};
 use slash_defs::Message;

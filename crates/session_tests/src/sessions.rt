@@ -2,8 +2,8 @@
 use crate::files::FILES;
 use crate::signing::SIGNING;
 use run_doubles::{
-    Ended, Session, disks_after, filled, fresh_disks, in_two, no_faults, play, ready_signer, run,
-    titled,
+    Ended, SESSION, Session, came_to, disks_after, filled, fresh_disks, in_two, no_faults, play,
+    ready_signer, run, titled,
 };
 use signer_link::MemSigner;
 use std::alloc::{AllocError, Global};
@@ -12,9 +12,6 @@ use std::sync::Wait;
 use std::test::Fail;
 use std::thread::Threads;
 use validator_cli::Status;
-
-/// The words of a session for the chain G0.
-pub const SESSION: &str = "validator session --genesis <G0>";
 
 /// A line that makes K1 active.
 pub const ACTIVATE: &str = r#"{"op":"activate","pubkey":"<K1>"}
@@ -28,9 +25,7 @@ pub fn compare<T: Abort>(
     ended: &Ended<MemSigner>,
     session: &Session,
 ) -> Result<(), AllocError> {
-    assert_eq!(rt; ended.status, Status::Done, "{shows}");
-    assert!(rt; ended.wrote(alloc, session.output.as_str())?, "{shows}");
-    assert!(rt; ended.did(alloc, session.events.as_str())?, "{shows}");
+    assert!(rt; came_to(alloc, ended, session)?, "{shows}");
     Ok(())
 }
 

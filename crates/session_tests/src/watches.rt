@@ -1,6 +1,6 @@
 //! Sessions whose keys are watched before they sign.
-use crate::sessions::{SESSION, compare, play_each};
-use run_doubles::{Session, disks_after, fresh_disks, play};
+use crate::sessions::{compare, play_each};
+use run_doubles::{SESSION, Session, disks_after, fresh_disks, play};
 use std::test::Fail;
 
 /// The words of a session with a watch for the chain G0.

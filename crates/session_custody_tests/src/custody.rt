@@ -1,8 +1,8 @@
 //! Sessions that take keys in, list them and give them up.
-use crate::sessions::{SESSION, compare, play_each};
 use edge_kit::PubKey;
 use run_doubles::{
-    Ended, Session, disks_after, disks_of, filled, fresh_disks, no_faults, play, run, titled,
+    Ended, SESSION, Session, came_to, disks_after, disks_of, filled, fresh_disks, no_faults, play,
+    run, titled,
 };
 use signer_link::MemSigner;
 use std::alloc::{AllocError, Global};
@@ -228,9 +228,26 @@ const CUSTODY: [&str; 9] = [
 < {"answer":"refused","reason":"unknown"}"#,
 ];
 
+/// Compares what a run came to with a session.
+fn compare<T: Abort>(
+    rt: &T,
+    alloc: Global,
+    shows: &str,
+    ended: &Ended<MemSigner>,
+    session: &Session,
+) -> Result<(), AllocError> {
+    assert!(rt; came_to(alloc, ended, session)?, "{shows}");
+    Ok(())
+}
+
 #[test]
 fn sessions_with_custody_of_keys_answer_line_by_line(rt: HostRuntime) -> Result<(), Fail> {
-    play_each(&rt, rt.alloc(), SESSION, &CUSTODY)?;
+    let alloc = rt.alloc();
+    for script in CUSTODY {
+        let (shows, lines) = titled(script);
+        let session = Session::read(alloc, lines)?;
+        play_in_turn(&rt, alloc, shows, &[session])?;
+    }
     Ok(())
 }
 
