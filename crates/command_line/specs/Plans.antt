@@ -1,8 +1,8 @@
 -- What the words ask the program to do, as `clap` reads them by the table.
-use Rattle.std.specs.Prelude.{ℕ, ◌==◌, Bool, true, false, List, [], ◌∷◌, ◌||◌, length, Option, Some, None, Result, Ok, Err, option_map, option_and_then, if◌then◌else◌, codes}
+use Rattle.std.specs.Prelude.{ℕ, ◌==◌, nat_le, Bool, true, false, List, [], ◌∷◌, ◌&&◌, ◌||◌, length, Option, Some, None, Result, Ok, Err, option_map, option_and_then, if◌then◌else◌, codes}
 use Rattle.std.specs.Str.{bytes_eq}
 use Rattle.std.specs.Option.{option_map_or}
-use Rattle.edge_kit.specs.Texts.{hex_bytes}
+use Rattle.edge_kit.specs.Texts.{hex_bytes, quoted_number}
 use Rattle.edge_kit.specs.declared.bytes.Root.{Root}
 use Rattle.phase0_types.specs.declared.fork.Fork.{Fork}
 use Rattle.service_url.specs.Services.{Service, service_at}
@@ -12,14 +12,15 @@ use Rattle.clap.specs.declared.error.kind.ErrorKind.TheVariants.{DisplayHelp, Di
 use Rattle.command_line.specs.Forks.{fork_at}
 use Rattle.command_line.specs.Table.{table}
 use Rattle.command_line.specs.declared.planned.Plan.{Plan}
-use Rattle.command_line.specs.declared.planned.Plan.TheVariants.{Session, Merge, Show, Shown}
+use Rattle.command_line.specs.declared.planned.Plan.TheVariants.{Session, Merge, Show, Rehearse, Shown}
 use Rattle.command_line.specs.declared.planned.Usage.{Usage}
 
--- what words ask for: a session, with its journal's path and its signing service if any and whether keys are watched, a merge or a showing of a journal, the text of help or the version, or nothing that there is
+-- what words ask for: a session, with its journal's path and its signing service if any and whether keys are watched, a merge or a showing of a journal, a rehearsal by its number, its clients and its steps, the text of help or the version, or nothing that there is
 pub data Asked : Type 0 where
   session : Root → Option (List ℕ) → Fork → Option Service → Bool → Asked
   merge : Root → List ℕ → Asked
   show : Root → List ℕ → Asked
+  rehearse : ℕ → ℕ → ℕ → Asked
   shown : Asked
   nothing : Asked
 
@@ -28,6 +29,7 @@ abbrev pub taken_as : Result Plan Usage → Asked
 taken_as (Ok (Session genesis journal fork signer watch)) = session genesis journal fork signer watch
 taken_as (Ok (Merge genesis journal)) = merge genesis journal
 taken_as (Ok (Show genesis journal)) = show genesis journal
+taken_as (Ok (Rehearse number size)) = rehearse number size.clients size.steps
 taken_as (Ok (Shown text)) = shown
 taken_as (Err usage) = nothing
 
@@ -82,11 +84,35 @@ merge_in options = or_nothing (option_and_then (λ genesis. option_map (merge ge
 abbrev pub show_in : List Row → Asked
 show_in options = or_nothing (option_and_then (λ genesis. option_map (show genesis) (journal_in options)) (genesis_in options))
 
+-- the number that a value writes in decimal
+abbrev pub number_in : Text → List Row → Option ℕ
+number_in id options = option_and_then quoted_number (first_of id options)
+
+-- the number, where it is between these two
+abbrev pub between : ℕ → ℕ → ℕ → Option ℕ
+between least most n = if nat_le least n && nat_le n most then Some n else None
+
+-- the number, where it is at most this
+abbrev pub at_most : ℕ → ℕ → Option ℕ
+at_most most n = if nat_le n most then Some n else None
+
+-- 1 to 16 clients, and up to 20,000 steps
+abbrev pub clients_in : List Row → Option ℕ
+clients_in options = option_and_then (between 1 16) (number_in (codes "clients") options)
+
+abbrev pub steps_in : List Row → Option ℕ
+steps_in options = option_and_then (at_most 20000) (number_in (codes "steps") options)
+
+-- the rehearsal of these values
+abbrev pub rehearse_in : List Row → Asked
+rehearse_in options =
+    or_nothing (option_and_then (λ number. option_and_then (λ clients. option_map (λ steps. rehearse number clients steps) (steps_in options)) (clients_in options)) (number_in (codes "number") options))
+
 -- help on the program, or on the command that is named
 abbrev pub help_on : Option Text → Asked
 help_on None = shown
 help_on (Some name) =
-    if bytes_eq name (codes "session") || bytes_eq name (codes "merge") || bytes_eq name (codes "show") || bytes_eq name (codes "help") then shown else nothing
+    if bytes_eq name (codes "session") || bytes_eq name (codes "merge") || bytes_eq name (codes "show") || bytes_eq name (codes "rehearse") || bytes_eq name (codes "help") then shown else nothing
 
 -- the help that is asked for with the value of `COMMAND`
 abbrev pub help_in : List Row → Asked
@@ -98,7 +124,8 @@ asked_in name options =
     if bytes_eq name (codes "session") then session_in options
     else (if bytes_eq name (codes "merge") then merge_in options
     else (if bytes_eq name (codes "show") then show_in options
-    else (if bytes_eq name (codes "help") then help_in options else nothing)))
+    else (if bytes_eq name (codes "rehearse") then rehearse_in options
+    else (if bytes_eq name (codes "help") then help_in options else nothing))))
 
 -- what the subcommand that the words name asks for
 abbrev pub asked_at : Option (Text × List Row) → Asked

@@ -1,6 +1,6 @@
 -- The program's command line: its subcommands, their options, and what stands where an option is absent.
 use Rattle.std.specs.Prelude.{Bool, [], ◌∷◌, Some, true, false, codes}
-use Rattle.clap.specs.Words.{App, Rule, Shape, new_app, new_rule, with_rule, with_subcommand}
+use Rattle.clap.specs.Words.{App, Rule, Shape, Text, new_app, new_rule, with_rule, with_subcommand}
 use Rattle.clap.specs.declared.builder.action.ArgAction.TheVariants.{Set, SetTrue}
 
 -- `--genesis HEX32`, which must be given
@@ -57,6 +57,18 @@ merge_shape = (with_rule (with_rule (new_app (codes "merge")) genesis_rule) (jou
 abbrev pub show_shape : Shape
 show_shape = (with_rule (with_rule (new_app (codes "show")) genesis_rule) (journal_rule true)).top
 
+-- a value that must be given, in its place
+abbrev pub value_rule : Text → Rule
+value_rule id = record (new_rule id) {
+  action = Some Set;
+  value_names = 1;
+  required = true;
+}
+
+-- `rehearse NUMBER CLIENTS STEPS`
+abbrev pub rehearse_shape : Shape
+rehearse_shape = (with_rule (with_rule (with_rule (new_app (codes "rehearse")) (value_rule (codes "number"))) (value_rule (codes "clients"))) (value_rule (codes "steps"))).top
+
 -- `help [COMMAND]`: a command's name, or none
 abbrev pub help_shape : Shape
 help_shape = (with_rule (new_app (codes "help")) (record (new_rule (codes "command")) {
@@ -74,4 +86,4 @@ program_shape = record (new_app (codes "validator")).top {
 
 -- the whole command line
 abbrev pub table : App
-table = with_subcommand (with_subcommand (with_subcommand (with_subcommand (record { top = program_shape; subs = [] }) session_shape) merge_shape) show_shape) help_shape
+table = with_subcommand (with_subcommand (with_subcommand (with_subcommand (with_subcommand (record { top = program_shape; subs = [] }) session_shape) merge_shape) show_shape) rehearse_shape) help_shape

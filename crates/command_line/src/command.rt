@@ -1,7 +1,7 @@
 //! The table of commands and options, as `clap` takes it.
 ghost use Rattle.std.specs.Prelude.{◌≡◌, IfOk, false};
 ghost use Rattle.clap.specs.Words.{app_of, rule_of, shape_of};
-ghost use Rattle.command_line.specs.Table.{table, session_shape, merge_shape, show_shape, help_shape, genesis_rule, journal_rule, fork_rule, signer_rule, watch_rule};
+ghost use Rattle.command_line.specs.Table.{table, session_shape, merge_shape, show_shape, help_shape, genesis_rule, journal_rule, fork_rule, rehearse_shape, signer_rule, value_rule, watch_rule};
 
 use clap::{Arg, ArgAction, Command};
 use std::alloc::{AllocError, Global};
@@ -40,6 +40,7 @@ pub(crate) fn program<'a>(alloc: Global) -> Result<Command<'a>, AllocError>
     let session = session(alloc)?;
     let merge = merge(alloc)?;
     let show = show(alloc)?;
+    let rehearse = rehearse(alloc)?;
     let help = help(alloc)?;
     Command::new(alloc, "validator")
         .version("0.1.0")
@@ -50,6 +51,7 @@ pub(crate) fn program<'a>(alloc: Global) -> Result<Command<'a>, AllocError>
         .subcommand(session)?
         .subcommand(merge)?
         .subcommand(show)?
+        .subcommand(rehearse)?
         .subcommand(help)
 }
 
@@ -97,6 +99,49 @@ pub(crate) fn show<'a>(alloc: Global) -> Result<Command<'a>, AllocError>
         .about("Prints what each key of a journal has")
         .arg(genesis)?
         .arg(journal)
+}
+
+/// The command `rehearse`.
+pub(crate) fn rehearse<'a>(alloc: Global) -> Result<Command<'a>, AllocError>
+    ensures { IfOk result (λ c. shape_of c ≡ rehearse_shape) }
+{
+    let number = value(
+        alloc,
+        "number",
+        "NUMBER",
+        "Number that everything is drawn from, below 2^64",
+    );
+    let clients = value(
+        alloc,
+        "clients",
+        "CLIENTS",
+        "How many clients there are, 1 to 16",
+    );
+    let steps = value(
+        alloc,
+        "steps",
+        "STEPS",
+        "How many steps there are, up to 20000",
+    );
+    Command::new(alloc, "rehearse")
+        .about(
+            "Plays clients that vote, hand keys over, stop and prune, and counts slashable pairs",
+        )
+        .arg(number)?
+        .arg(clients)?
+        .arg(steps)
+}
+
+/// A value that must be given, in its place.
+fn value<'a>(alloc: Global, id: &'a str, name: &'a str, about: &'a str) -> Arg<'a>
+    ensures local { result.global ≡ false }
+    ensures rule { rule_of result ≡ value_rule id.now }
+{
+    Arg::new(alloc, id)
+        .value_name(name)
+        .help(about)
+        .required(true)
+        .action(ArgAction::Set)
 }
 
 /// The option `--genesis`.

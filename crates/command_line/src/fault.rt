@@ -27,6 +27,15 @@ pub(crate) enum Fault<'a> {
     /// The value of `--fork` is out of form.
     #[error("error: invalid value '{0}' for '--fork <PREVIOUS:CURRENT:EPOCH>': two versions, each 0x and 8 hex digits, and an epoch in decimal below 2^64 are wanted, joined by :")]
     Fork(&'a str),
+    /// The number of a rehearsal is out of form.
+    #[error("error: invalid value '{0}' for '<NUMBER>': a number in decimal below 2^64 is wanted")]
+    Number(&'a str),
+    /// The clients of a rehearsal are out of form, none, or too many.
+    #[error("error: invalid value '{0}' for '<CLIENTS>': 1 to 16 in decimal is wanted")]
+    Clients(&'a str),
+    /// The steps of a rehearsal are out of form or too many.
+    #[error("error: invalid value '{0}' for '<STEPS>': 0 to 20000 in decimal is wanted")]
+    Steps(&'a str),
 }
 
 /// The answer to words with a fault.

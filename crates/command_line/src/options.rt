@@ -1,12 +1,12 @@
 //! The values of options, as `clap` found them.
-ghost use Rattle.std.specs.Prelude.{◌≡◌, IfOk, option_map};
+ghost use Rattle.std.specs.Prelude.{◌≡◌, ◌<◌, ◌≤◌, IfOk, IfSome, option_map};
 ghost use Rattle.clap.specs.Words.{first_of, found_of, rows_of};
-ghost use Rattle.command_line.specs.Plans.{fork_in, genesis_in, journal_in, watch_in};
+ghost use Rattle.command_line.specs.Plans.{clients_in, fork_in, genesis_in, journal_in, number_in, steps_in, watch_in};
 
 use crate::fork_text::read_fork;
 use crate::path_text::{PathText, read_path};
 use clap::ArgMatches;
-use edge_kit::{Root, read_hex};
+use edge_kit::{Root, read_hex, read_quoted};
 use phase0_types::Fork;
 use std::alloc::{AllocError, Global};
 
@@ -51,4 +51,35 @@ pub(crate) fn fork_of(options: &ArgMatches<'_>) -> Option<Fork>
 {
     let text = text_of(options, "fork")?;
     read_fork(text)
+}
+
+/// The number that a value writes in decimal, if it has its form.
+pub(crate) fn number_of(options: &ArgMatches<'_>, id: &str) -> Option<u64>
+    ensures { result ≡ number_in id.now (rows_of (found_of options.now)) }
+{
+    let text = text_of(options, id)?;
+    read_quoted(text)
+}
+
+/// How many clients a rehearsal is to have, if so many may be.
+pub(crate) fn clients_of(options: &ArgMatches<'_>) -> Option<u64>
+    ensures clients { result ≡ clients_in (rows_of (found_of options.now)) }
+    ensures some { IfSome result (λ n. 0 < n) }
+    ensures few { IfSome result (λ n. n ≤ 16) }
+{
+    let clients = number_of(options, "clients")?;
+    if 1 <= clients && clients <= 16 {
+        Some(clients)
+    } else {
+        None
+    }
+}
+
+/// How many steps a rehearsal is to have, if so many may be.
+pub(crate) fn steps_of(options: &ArgMatches<'_>) -> Option<u64>
+    ensures steps { result ≡ steps_in (rows_of (found_of options.now)) }
+    ensures short { IfSome result (λ n. n ≤ 20000) }
+{
+    let steps = number_of(options, "steps")?;
+    if steps <= 20_000 { Some(steps) } else { None }
 }

@@ -2,6 +2,7 @@
 ghost use Rattle.std.specs.Prelude.{◌≡◌, string_bytes};
 
 use crate::path_text::PathText;
+use crate::rehearsal_size::RehearsalSize;
 use edge_kit::Root;
 use phase0_types::Fork;
 use service_url::ServiceUrl;
@@ -35,6 +36,11 @@ pub enum Plan {
     Show {
         genesis: Root,
         journal: PathText,
+    },
+    /// A rehearsal of this size, drawn from this number.
+    Rehearse {
+        number: u64,
+        size: RehearsalSize,
     },
     /// Nothing but a text, for standard output: the words ask for help or for the version.
     Shown(ShownText),

@@ -2,13 +2,16 @@
 ghost use Rattle.std.specs.Prelude.{◌≡◌, ◌≢◌, IfOk, map, option_map, string_bytes, if◌then◌else◌};
 ghost use Rattle.clap.specs.Words.{found_of, kind_of, rows_of, subcommand_rows_of};
 ghost use Rattle.clap.specs.declared.error.kind.ErrorKind.TheVariants.{OutOfMemory};
-ghost use Rattle.command_line.specs.Plans.{asked_at, asked_in, asked_of, help_on, is_display, merge_in, nothing, session_by, session_in, session_with, show_in, shown, taken_as};
+ghost use Rattle.command_line.specs.Plans.{asked_at, asked_in, asked_of, help_on, is_display, merge_in, nothing, rehearse_in, session_by, session_in, session_with, show_in, shown, taken_as};
 
-use crate::command::{help, merge, program, session, show};
+use crate::command::{help, merge, program, rehearse, session, show};
 use crate::fault::{Fault, refused};
-use crate::options::{fork_of, genesis_of, journal_of, text_of, watch_of};
+use crate::options::{
+    clients_of, fork_of, genesis_of, journal_of, number_of, steps_of, text_of, watch_of,
+};
 use crate::path_text::{PathText, read_path};
 use crate::planned::{Plan, ShownText, Usage};
+use crate::rehearsal_size::RehearsalSize;
 use clap::error::ErrorKind;
 use clap::{ArgMatches, Command, Error};
 use edge_kit::Root;
@@ -24,6 +27,8 @@ use std::alloc::{AllocError, Global};
 ///   epoch 1 to 20 decimal digits below 2^64; `0x00000000:0x00000000:0` where it is absent. Hex digits
 ///   are of either case. Maybe also `--watch`, which has no value.
 /// - `merge` and `show`, each with `--genesis` and `--journal`.
+/// - `rehearse` with a number, how many clients, 1 to 16, and how many steps, 0 to 20,000, each 1 to 20 decimal digits
+///   below 2^64.
 /// - `--help` anywhere before a fault, `help`, `help` with a command's name, and `--version`: a text.
 ///
 /// The words are read as `clap` reads them. The inner error comes exactly where they are none of these;
@@ -82,6 +87,9 @@ fn command_plan(
     }
     if name == "show" {
         return show_plan(alloc, options);
+    }
+    if name == "rehearse" {
+        return rehearse_plan(alloc, options);
     }
     if name == "help" {
         return help_plan(alloc, text_of(options, "command"));
@@ -185,6 +193,31 @@ fn show_plan(alloc: Global, options: &ArgMatches<'_>) -> Result<Result<Plan, Usa
     Ok(Ok(Plan::Show { genesis, journal }))
 }
 
+/// The answer to `rehearse`.
+fn rehearse_plan(alloc: Global, options: &ArgMatches<'_>) -> Result<Result<Plan, Usage>, AllocError>
+    ensures { IfOk result (λ answer. taken_as answer ≡ rehearse_in (rows_of (found_of options.now))) }
+{
+    let Some(number) = number_of(options, "number") else {
+        return refused(
+            alloc,
+            Fault::Number(text_of(options, "number").unwrap_or("")),
+        );
+    };
+    let Some(clients) = clients_of(options) else {
+        return refused(
+            alloc,
+            Fault::Clients(text_of(options, "clients").unwrap_or("")),
+        );
+    };
+    let Some(steps) = steps_of(options) else {
+        return refused(alloc, Fault::Steps(text_of(options, "steps").unwrap_or("")));
+    };
+    Ok(Ok(Plan::Rehearse {
+        number,
+        size: RehearsalSize::new(clients, steps),
+    }))
+}
+
 /// The answer to a command whose value of `--genesis` is out of form.
 fn no_genesis(alloc: Global, options: &ArgMatches<'_>) -> Result<Result<Plan, Usage>, AllocError>
     ensures { IfOk result (λ answer. taken_as answer ≡ nothing) }
@@ -202,6 +235,7 @@ fn help_plan(alloc: Global, command: Option<&str>) -> Result<Result<Plan, Usage>
         Some("session") => shown_help(session(alloc)?.bin_name("validator session")?),
         Some("merge") => shown_help(merge(alloc)?.bin_name("validator merge")?),
         Some("show") => shown_help(show(alloc)?.bin_name("validator show")?),
+        Some("rehearse") => shown_help(rehearse(alloc)?.bin_name("validator rehearse")?),
         Some("help") => shown_help(help(alloc)?.bin_name("validator help")?),
         Some(other) => refused(alloc, Fault::Command(other)),
     }

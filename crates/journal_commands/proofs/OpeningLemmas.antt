@@ -23,6 +23,7 @@ abbrev pub root_of : Root → Plan → Root
 root_of none (plan.Session genesis journal fork signer watch) = genesis
 root_of none (plan.Merge genesis journal) = genesis
 root_of none (plan.Show genesis journal) = genesis
+root_of none (plan.Rehearse number size) = none
 root_of none (plan.Shown text) = none
 
 -- what a command made of a desk: its chain and its second disk are the same, and it has failed only where the disk's count of faults rose

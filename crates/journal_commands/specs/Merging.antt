@@ -34,6 +34,7 @@ abbrev pub IsMerge : Plan → Type 0
 IsMerge (plan.Merge genesis journal) = Unit {0}
 IsMerge (plan.Session genesis journal fork signer watch) = ⊥
 IsMerge (plan.Show genesis journal) = ⊥
+IsMerge (plan.Rehearse number size) = ⊥
 IsMerge (plan.Shown text) = ⊥
 
 -- the line of a file of so many keys that is merged

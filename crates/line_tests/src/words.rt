@@ -131,7 +131,7 @@ fn journals_have_their_paths(rt: HostRuntime) -> Result<(), Fail> {
 }
 
 /// Words behind the program's name that are no command, each with a piece of what is told.
-const FAULTY: [(&[&str], &str); 24] = [
+const FAULTY: [(&[&str], &str); 29] = [
     (&[], "requires a subcommand"),
     (&["serve"], "unrecognized subcommand 'serve'"),
     (&["session"], "not provided:\n  --genesis <HEX32>"),
@@ -241,6 +241,23 @@ const FAULTY: [(&[&str], &str); 24] = [
         "unexpected argument '--fork'",
     ),
     (&["help", "serve"], "unrecognized subcommand 'serve'"),
+    (&["rehearse", "1", "1"], "not provided:\n  <STEPS>"),
+    (
+        &["rehearse", "1", "17", "0"],
+        "value '17' for '<CLIENTS>': 1 to 16",
+    ),
+    (
+        &["rehearse", "1", "0", "0"],
+        "value '0' for '<CLIENTS>': 1 to 16",
+    ),
+    (
+        &["rehearse", "1", "1", "20001"],
+        "value '20001' for '<STEPS>': 0 to 20000",
+    ),
+    (
+        &["rehearse", "0x1", "1", "1"],
+        "value '0x1' for '<NUMBER>': a number",
+    ),
 ];
 
 #[test]
@@ -269,10 +286,11 @@ const SCREEN: &str = "Ethereum validator client that never signs two messages th
 Usage: validator <COMMAND>
 
 Commands:
-  session  Answers signing requests, one JSON object a line, from standard input
-  merge    Merges the interchange file (EIP-3076) on the input into a journal
-  show     Prints what each key of a journal has
-  help     Shows this help, or that of a command
+  session   Answers signing requests, one JSON object a line, from standard input
+  merge     Merges the interchange file (EIP-3076) on the input into a journal
+  show      Prints what each key of a journal has
+  rehearse  Plays clients that vote, hand keys over, stop and prune, and counts slashable pairs
+  help      Shows this help, or that of a command
 
 Options:
   -h, --help     Print help

@@ -85,7 +85,7 @@ fn plan_files(alloc: Global, plan: &Plan) -> Result<Option<(String, String)>, Al
             None => return Ok(None),
         },
         Plan::Merge { journal, .. } | Plan::Show { journal, .. } => journal.as_str(),
-        Plan::Shown(_) => return Ok(None),
+        Plan::Rehearse { .. } | Plan::Shown(_) => return Ok(None),
     };
     let files = path_files(alloc, path)?;
     Ok(Some(files))

@@ -7,8 +7,9 @@ use Rattle.program_end.specs.declared.closing.ClosingLine.TheVariants as closing
 use Rattle.program_end.specs.declared.status.Status.{Status}
 use Rattle.program_end.specs.declared.status.Status.TheVariants as status
 use Rattle.program_end.proofs.ClosingLemmas.{closed_by, ended_by}
-use Rattle.command_line.specs.Plans.{Asked, session, merge, show, shown, nothing}
+use Rattle.command_line.specs.Plans.{Asked, session, merge, show, rehearse, shown, nothing}
 use Rattle.journal_commands.specs.Views.{Output, EndsBy, Unwritten}
+use Rattle.validator_cli.specs.Rehearsing.{IsRehearsalComplete, RehearsalEnds}
 use Rattle.validator_cli.specs.Endings.{Outside, Causes, DoesNothing, EndsAs, IsComplete, IsWithin, NoCommand, RunEnds}
 
 module _ {D : Type 0} (shows : D → List ℕ → Type 0) (moment : D → ℕ) (leaves : D → ℕ → List ℕ → Type 0) (faults : D → ℕ) (first last : Disks D) (before now : Outside) (events : List DeskEvent) (s : Status) where
@@ -60,6 +61,7 @@ want_complete : (asked : Asked) (left : Option (List ℕ)) → IsWithin asked le
 want_complete (session genesis journal fork signer watch) left within = tt
 want_complete (merge genesis journal) left within = tt
 want_complete (show genesis journal) left within = tt
+want_complete (rehearse number clients steps) left within = tt
 want_complete shown left within = inr refl
 want_complete nothing left within = absurd within
 
@@ -92,3 +94,19 @@ shown_causes before now text left Reads Disk s asked is ends =
       disk_fault = λ e. absurd (subst P e h);
       complete = λ within reads writes disk. inl (text_done (Rose before.failed now.failed) s h writes);
     })
+
+-- a rehearsal was asked for
+pub rehearsal_causes : (number clients steps : ℕ) (before now : Output) (left : Option (List ℕ)) (Reads Disk : Type 0) (s : Status) → RehearsalEnds number clients steps before now s → Causes (rehearse number clients steps) left Reads (Rose before.failed now.failed) Disk s
+rehearsal_causes number clients steps before now left Reads Disk s (inl done) =
+    let P : Status → Type 0 = λ st. OfText (Rose before.failed now.failed) st in
+    let C : Status → Type 0 = λ st. IsRehearsalComplete st in
+    let h : P s = ended_by P status.Done s _ before.held now.held before.failed now.failed done.writes (λ _. tt) (λ w. w.rose) in
+    record {
+      read_fault = λ e. absurd (subst P e h);
+      write_fault = λ e. subst P e h;
+      disk_fault = λ e. absurd (subst P e h);
+      complete = λ within reads writes disk. subst C (sym (text_done (Rose before.failed now.failed) s h writes)) tt;
+    }
+rehearsal_causes number clients steps before now left Reads Disk s (inr want) =
+    let P : Status → Type 0 = λ st. Causes (rehearse number clients steps) left Reads (Rose before.failed now.failed) Disk st in
+    subst P (sym want.0) (want_causes (rehearse number clients steps) left Reads (Rose before.failed now.failed) Disk)

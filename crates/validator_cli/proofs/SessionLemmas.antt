@@ -24,6 +24,7 @@ abbrev pub domains_of : Domains → Plan → Domains
 domains_of none (plan.Session genesis journal fork signer watch) = record { fork = fork; genesis = genesis }
 domains_of none (plan.Merge genesis journal) = none
 domains_of none (plan.Show genesis journal) = none
+domains_of none (plan.Rehearse number size) = none
 domains_of none (plan.Shown text) = none
 
 -- whether keys are watched by a plan, if it says
@@ -31,6 +32,7 @@ abbrev pub watch_of : Bool → Plan → Bool
 watch_of none (plan.Session genesis journal fork signer watch) = watch
 watch_of none (plan.Merge genesis journal) = none
 watch_of none (plan.Show genesis journal) = none
+watch_of none (plan.Rehearse number size) = none
 watch_of none (plan.Shown text) = none
 
 pub at_bench : {D : Type 0} (b : AtBench D) (desk : Seen D) (told : Option (List Told)) (failed denied : ℕ) → b.desk ≡ desk → b.signer.told ≡ told → b.signer.faults ≡ failed → b.signer.denials ≡ denied → b ≡ record { desk = desk; signer = record { told = told; faults = failed; denials = denied } }

@@ -14,7 +14,7 @@ use Rattle.program_end.specs.declared.status.Status.TheVariants as status
 use Rattle.session_run.specs.Acts.{AtBench}
 use Rattle.session_run.specs.Ends.{Ends, Wires}
 use Rattle.session_run.specs.Inputs.{WithinLimits}
-use Rattle.command_line.specs.Plans.{Asked, session, merge, show, shown, nothing}
+use Rattle.command_line.specs.Plans.{Asked, session, merge, show, rehearse, shown, nothing}
 use Rattle.command_line.specs.declared.planned.Plan.{Plan}
 use Rattle.command_line.specs.declared.planned.Plan.TheVariants as plan
 use Rattle.journal_commands.specs.Views.{Output, View, ClosedBy, EndsBy, view_of}
@@ -22,6 +22,7 @@ use Rattle.journal_commands.specs.Whole.{WithinLimit}
 use Rattle.journal_commands.specs.Openings.{HadDesk, NotOpened}
 use Rattle.journal_commands.specs.Merging.{IsMergeComplete, MergeEnds, Unread}
 use Rattle.journal_commands.specs.Showing.{IsShowComplete, ShowEnds}
+use Rattle.validator_cli.specs.Rehearsing.{IsRehearsalComplete, RehearsalEnds}
 
 -- what the objects of a program tell beside its disks, and how often each failed: the input and the output, and the signer
 pub record Outside : Type 0 where
@@ -86,6 +87,7 @@ abbrev pub EndsAs : {D : Type 0} → (D → List ℕ → Type 0) → (D → ℕ)
 EndsAs shows moment leaves faults (session genesis journal fork signer watch) disks_before disks_now before now events s = SessionEnds shows moment leaves faults (record { fork = fork; genesis = genesis }) watch disks_before disks_now before now events s
 EndsAs shows moment leaves faults (merge genesis journal) disks_before disks_now before now events s = MergeEnds shows moment leaves faults genesis disks_before disks_now before.view now.view events s × Unasked before now
 EndsAs shows moment leaves faults (show genesis journal) disks_before disks_now before now events s = ShowEnds shows moment leaves faults genesis disks_before disks_now before.view.out now.view.out events s × IsUntouched before now
+EndsAs shows moment leaves faults (rehearse number clients steps) disks_before disks_now before now events s = RehearsalEnds number clients steps before.view.out now.view.out s × DoesNothing disks_before disks_now before now events
 EndsAs shows moment leaves faults shown disks_before disks_now before now events s = TextShown before.view.out now.view.out s × DoesNothing disks_before disks_now before now events
 EndsAs shows moment leaves faults nothing disks_before disks_now before now events s = NoCommand before.view.out now.view.out s × DoesNothing disks_before disks_now before now events
 
@@ -95,12 +97,13 @@ RunEnds shows moment leaves faults asked disks_before disks_now before now event
     EndsAs shows moment leaves faults asked disks_before disks_now before now events s
     ⊎ (NotBegun before now s × DoesNothing disks_before disks_now before now events)
 
--- the input is within the limits of what was asked for: of a session its lines and its length, of a merge its length; a showing and
--- a text read nothing
+-- the input is within the limits of what was asked for: of a session its lines and its length, of a merge its length; a showing, a
+-- rehearsal and a text read nothing
 abbrev pub IsWithin : Asked → Option (List ℕ) → Type 0
 IsWithin (session genesis journal fork signer watch) left = WithinLimits left
 IsWithin (merge genesis journal) left = WithinLimit file_limit left
 IsWithin (show genesis journal) left = Unit {0}
+IsWithin (rehearse number clients steps) left = Unit {0}
 IsWithin shown left = Unit {0}
 IsWithin nothing left = ⊥
 
@@ -118,6 +121,7 @@ abbrev pub IsComplete : Asked → Status → Type 0
 IsComplete (session genesis journal fork signer watch) s = IsSessionComplete s
 IsComplete (merge genesis journal) s = IsMergeComplete s
 IsComplete (show genesis journal) s = IsShowComplete s
+IsComplete (rehearse number clients steps) s = IsRehearsalComplete s
 IsComplete shown s = (s ≡ status.Done) ⊎ (s ≡ status.OutOfMemory)
 IsComplete nothing s = ⊥
 
@@ -134,4 +138,5 @@ abbrev pub IsSession : Plan → Type 0
 IsSession (plan.Session genesis journal fork signer watch) = Unit {0}
 IsSession (plan.Merge genesis journal) = ⊥
 IsSession (plan.Show genesis journal) = ⊥
+IsSession (plan.Rehearse number size) = ⊥
 IsSession (plan.Shown text) = ⊥

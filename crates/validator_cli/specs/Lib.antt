@@ -1,1 +1,2 @@
+pub mod Rehearsing
 pub mod Endings

@@ -3,6 +3,7 @@
 
 mod ending;
 mod node;
+mod rehearse;
 mod run;
 mod session;
 mod usage;
@@ -12,5 +13,6 @@ pub use ending::{Ending, LaneEnd};
 pub use journal_commands::{run_merge, run_show};
 pub use node::Node;
 pub use program_end::{Limit, Status};
+pub use rehearse::run_rehearse;
 pub use run::run_validator;
 pub use session::run_session;

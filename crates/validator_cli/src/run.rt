@@ -7,6 +7,7 @@ ghost use Rattle.validator_cli.specs.Endings.{Causes, IsComplete, IsWithin, NoCo
 
 use crate::ending::Ending;
 use crate::node::Node;
+use crate::rehearse::run_rehearse;
 use crate::session::run_session;
 use crate::usage::usage_line;
 use check_sign::Events;
@@ -103,6 +104,10 @@ fn run_words<D: Disk, S: Signer, I: Source, O: Sink>(
         Plan::Show { .. } => {
             let (status, disks, events) = run_show(alloc, &planned, disks, out);
             (status, disks, signer, events)
+        }
+        Plan::Rehearse { .. } => {
+            let status = run_rehearse(alloc, &planned, out);
+            (status, disks, signer, Events::new(alloc))
         }
         Plan::Shown(text) => {
             let status = finish(out, text.as_str());

@@ -6,4 +6,6 @@ mod adapters;
 #[cfg(test)]
 mod journals;
 #[cfg(test)]
+mod rehearsals;
+#[cfg(test)]
 mod words;

@@ -1,9 +1,9 @@
 use Rattle.std.proofs.Common.{◌≡◌, ◌∙◌, Ok, Err, ap, map, refl, rules, string_bytes, sym}
-use Rattle.command_line.specs.Plans.{asked_of, merge, session, show, taken_as}
+use Rattle.command_line.specs.Plans.{asked_of, merge, rehearse, session, show, taken_as}
 use Rattle.command_line.specs.declared.planned.Plan.{Plan}
 use Rattle.journal_commands.specs.Views.{output_of}
 use Rattle.validator_cli.specs.Endings.{Outside, outside_of}
-use Rattle.validator_cli.proofs.EndingLemmas.{asked_for, caused_for, refused, refused_causes}
+use Rattle.validator_cli.proofs.EndingLemmas.{asked_for, caused_for, refused, refused_causes, rehearsal_causes}
 use Rattle.validator_cli.proofs.run.run_words.Goals as goal
 
 pub returns-in-Ok-Err-clause-ending : goal.returns-in-Ok-Err-clause-ending
@@ -76,3 +76,22 @@ returns-in-Show-clause-causes g c =
       disk_fault = c.run_show-status.ensures.disk_fault;
       complete = λ within reads writes disk. c.run_show-status.ensures.complete writes disk;
     })
+
+pub returns-in-Rehearse-clause-ending : goal.returns-in-Rehearse-clause-ending
+returns-in-Rehearse-clause-ending g c =
+    let before : Outside = outside_of g.I.Source.left g.I.Source.faults g.O.Sink.held g.O.Sink.faults g.S.Signer.told g.S.Signer.faults g.S.Signer.denials c.args.input.now c.args.out.now c.args.signer in
+    let now : Outside = outside_of g.I.Source.left g.I.Source.faults g.O.Sink.held g.O.Sink.faults g.S.Signer.told g.S.Signer.faults g.S.Signer.denials c.args.input.now c.run_rehearse-status.new.out c.args.signer in
+    let taken : taken_as (Ok c.in-Ok-Ok.planned) ≡ asked_of (map string_bytes c.args.words.now) = search rules in
+    let is : rehearse c.in-Rehearse.number c.in-Rehearse.size.clients c.in-Rehearse.size.steps ≡ asked_of (map string_bytes c.args.words.now) = ap (λ (p : Plan). taken_as (Ok p)) (sym c.in-Rehearse.is) ∙ taken in
+    asked_for g.D.Disk.shows g.D.Disk.moment g.D.Disk.leaves g.D.Disk.faults c.args.disks c.args.disks before now c.new-in-Rehearse.result c.run_rehearse-status.result (rehearse c.in-Rehearse.number c.in-Rehearse.size.clients c.in-Rehearse.size.steps) (asked_of (map string_bytes c.args.words.now)) is (
+      c.run_rehearse-status.ensures.ends c.in-Rehearse.number c.in-Rehearse.size c.in-Rehearse.is,
+      record { same = refl; untouched = record { unread = record { left = refl; failed = refl }; unasked = record { told = refl; failed = refl; denied = refl } }; none = c.new-in-Rehearse.ensures },
+    )
+
+pub returns-in-Rehearse-clause-causes : goal.returns-in-Rehearse-clause-causes
+returns-in-Rehearse-clause-causes g c =
+    let taken : taken_as (Ok c.in-Ok-Ok.planned) ≡ asked_of (map string_bytes c.args.words.now) = search rules in
+    let is : rehearse c.in-Rehearse.number c.in-Rehearse.size.clients c.in-Rehearse.size.steps ≡ asked_of (map string_bytes c.args.words.now) = ap (λ (p : Plan). taken_as (Ok p)) (sym c.in-Rehearse.is) ∙ taken in
+    caused_for (rehearse c.in-Rehearse.number c.in-Rehearse.size.clients c.in-Rehearse.size.steps) (asked_of (map string_bytes c.args.words.now)) _ _ _ _ _ is
+    (rehearsal_causes c.in-Rehearse.number c.in-Rehearse.size.clients c.in-Rehearse.size.steps (output_of g.O.Sink.held g.O.Sink.faults c.args.out.now) (output_of g.O.Sink.held g.O.Sink.faults c.run_rehearse-status.new.out) _ _ _ c.run_rehearse-status.result
+    (c.run_rehearse-status.ensures.ends c.in-Rehearse.number c.in-Rehearse.size c.in-Rehearse.is))
