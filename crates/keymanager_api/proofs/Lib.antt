@@ -1,0 +1,4 @@
+mod RunLemmas
+mod ServeLemmas
+mod KeystoreLemmas
+mod ReplyLemmas

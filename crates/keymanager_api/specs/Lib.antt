@@ -1,0 +1,5 @@
+pub mod Members
+pub mod Asking
+pub mod Bodies
+pub mod Plans
+pub mod Serving

@@ -1,0 +1,2 @@
+mod RouteLemmas
+mod TokenLemmas
