@@ -1,0 +1,5 @@
+pub mod Steps
+pub mod FairLaws
+pub mod Seats
+pub mod SeatLaws
+pub mod Turns
