@@ -1,0 +1,4 @@
+pub mod QuietLemmas
+pub mod TakeLemmas
+pub mod PlaceLemmas
+pub mod IndexLemmas
