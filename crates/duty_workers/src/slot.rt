@@ -20,8 +20,8 @@ use sign_roots::Domains;
 use signer_link::Signer;
 use std::alloc::{AllocError, Global};
 
-/// Does the duties of a slot, which are of one kind, one after another, and gives one result each: at this moment
-/// of the desk, an epoch, under the domains of the chain. A vote is cast on what a node says that its committee
+/// Does these duties of a slot, one after another, and gives one result each: at this moment of the desk, an epoch,
+/// under the domains of the chain. A vote is cast on what a node says that its committee
 /// is to vote, a block is what a node gives for a reveal of the proposer's randomness; nothing is signed on data
 /// that is not the duty's, and nothing is signed or posted but under a grant of the desk.
 ///
