@@ -1,5 +1,6 @@
 pub mod DeskLemmas
 pub mod ExportLemmas
+pub mod FaultLemmas
 pub mod ImageLemmas
 pub mod LeaveLemmas
 pub mod MachineLemmas

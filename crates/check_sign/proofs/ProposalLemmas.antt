@@ -24,7 +24,11 @@ use Rattle.record_join.specs.BooksPasts.{BooksStand, own_grown, own_grown_from}
 use Rattle.record_join.specs.Repeats.{IsRepeat, block_entry, repeats, vote_entry}
 use Rattle.record_join.specs.KeyLaws.{changed, same_key}
 use Rattle.record_join.specs.RepeatLaws.{repeats_decides}
-use Rattle.record_journal.specs.Journals.{Journaled, journal_size}
+use Rattle.edge_kit.specs.declared.disk.Disks.{Disks}
+use Rattle.record_journal.specs.declared.place.Place.{Place}
+use Rattle.record_journal.specs.declared.place.Place.TheVariants.{First, Second}
+use Rattle.record_journal.specs.TwoDisks.{by_place, EitherRose}
+use Rattle.record_journal.specs.Journals.{Journaled, disks_of, journal_size}
 use Rattle.record_journal.specs.declared.log.AppendFault.{AppendFault}
 use Rattle.record_journal.specs.declared.log.AppendFault.TheVariants as fault
 use Rattle.record_replay.specs.Batches.{message_item}
@@ -52,15 +56,15 @@ use Rattle.check_sign.proofs.StepLemmas.{Rest, by_fault, grown, up_state}
 
 -- ---- a desk that is up, and the state of a key
 
-none_torn : (t : Option (List ℕ)) → is_some t ≡ false → t ≡ None
+none_torn : (t : Option (List (List ℕ))) → is_some t ≡ false → t ≡ None
 none_torn None h = refl
 none_torn (Some p) h = absurd (let bad : true ≡ false = h in cc)
 
-pub is_whole : (b : Bool) (t : Option (List ℕ)) → b ≡ is_some t → b ≡ false → t ≡ None
+pub is_whole : (b : Bool) (t : Option (List (List ℕ))) → b ≡ is_some t → b ≡ false → t ≡ None
 is_whole b t is off = none_torn t (sym is ∙ off)
 
 pub is_up : (desk : Contents) (state : State) (b : Bool) → DeskStands desk state → b ≡ is_some desk.torn → b ≡ false → IsUp state
-is_up desk state b s is off = up_state desk.payloads desk.torn state.torn s.torn (is_whole b desk.torn is off)
+is_up desk state b s is off = up_state desk.torn state.torn s.torn (is_whole b desk.torn is off)
 
 -- what is noted of a key, from its state
 pub noted_state : (o : Option KeyState) (k : KeyState) → unwrap_or o Known ≡ k → Known ≢ k → o ≡ Some k
@@ -218,8 +222,15 @@ proposal_granted faults old new desk state key m now past grant at active passes
 
 -- ---- the disk of a call that failed
 
-pub rose_from : {D : Type 0} (faults : D → ℕ) (old new : Journaled D) (items : List JournalItem) (before : D) (f : AppendFault) → Wrote faults old items new (Err f) → refusal_of f ≡ reply.Disk → old.disk ≡ before → Rose (faults before) (faults new.disk)
-rose_from {D} faults old new items before fault.Disk wrote is same = let P : D → Type 0 = λ d. Rose (faults d) (faults new.disk) in subst P same wrote.2
+rose_at : {D : Type 0} (faults : D → ℕ) (place : Place) (current other now since : D) → Rose (faults current) (faults now) → EitherRose faults (by_place place current other) (by_place place now since)
+rose_at faults First current other now since rose = inl rose
+rose_at faults Second current other now since rose = inr rose
+
+pub rose_from : {D : Type 0} (faults : D → ℕ) (old new : Journaled D) (items : List JournalItem) (before : Disks D) (f : AppendFault) → Wrote faults old items new (Err f) → refusal_of f ≡ reply.Disk → disks_of old ≡ before → EitherRose faults before (disks_of new)
+rose_from {D} faults old new items before fault.Disk wrote is same =
+    let P : Disks D → Type 0 = λ d. EitherRose faults d (disks_of new) in
+    let Q : Place → Type 0 = λ p. EitherRose faults (disks_of old) (by_place p new.current new.other) in
+    subst P same (subst Q (sym (ap (λ j. j.place) wrote.3)) (rose_at faults old.place old.current old.other new.current new.other wrote.2))
 rose_from faults old new items before fault.OutOfMemory wrote is same = absurd (let bad : reply.OutOfMemory ≡ reply.Disk = is in cc)
 rose_from faults old new items before (fault.Full s w) wrote is same = absurd (let bad : reply.Full s w ≡ reply.Disk = is in cc)
 
@@ -284,7 +295,7 @@ closing_done faults old new desk state key parts past book proceeds wrote size j
 -- ---- the journal of a desk is its own, whose root is the desk's
 
 abbrev with_root : {D : Type 0} → Journaled D → List ℕ → Journaled D
-with_root journal root = record { disk = journal.disk; root = root; payloads = journal.payloads; size = journal.size; torn = journal.torn }
+with_root journal root = record { current = journal.current; other = journal.other; place = journal.place; root = root; payloads = journal.payloads; size = journal.size; torn = journal.torn }
 
 rooted : {D : Type 0} (journal : Journaled D) (root : List ℕ) → journal.root ≡ root → journal ≡ with_root journal root
 rooted journal root is = ap (λ r. with_root journal r) is

@@ -18,7 +18,8 @@ use Rattle.record_replay.specs.Items.{items_in, named_keys, states_in}
 use Rattle.record_replay.specs.Replaying.{IsReplayed, ItemsStand, lasting_state, lasting_states}
 use Rattle.record_replay.specs.declared.state.KeyState.{KeyState}
 use Rattle.record_replay.specs.declared.state.KeyState.TheVariants.{Known, Active, Closing, Closed}
-use Rattle.record_journal.specs.Journals.{Journaled, MayRead, journal_size}
+use Rattle.record_journal.specs.Journals.{Journaled, MayRead, disks_of, journal_size}
+use Rattle.record_journal.specs.TwoDisks.{LeftPair}
 use Rattle.record_join.specs.Keys.{kept_of}
 use Rattle.record_join.specs.BooksPasts.{BooksStand, key_limit}
 use Rattle.record_join.specs.EachKeyLaws.{each_keys}
@@ -70,8 +71,8 @@ file_batch items books is = subst Batch (sym is) (as_batch (file_items books) (f
 pub still_seen : {D : Type 0} (moment : D → ℕ) (leaves : D → ℕ → List ℕ → Type 0) (faults : D → ℕ) (j : Journaled D) (seen now : Seen D) → seen ≡ now → journal_of seen ≡ record j { root = seen.contents.genesis.0 }
     → HoldsJournal moment leaves seen.contents.genesis j → Moved moment leaves faults (journal_of now) (journal_of now)
 still_seen {D} moment leaves faults j seen now same is holds =
-    let at_root : List ℕ → Type 0 = λ r. (c : List ℕ) → leaves j.disk (moment j.disk) c → MayRead (record j { root = r }) c in
-    let left : (c : List ℕ) → leaves j.disk (moment j.disk) c → MayRead (record j { root = seen.contents.genesis.0 }) c = subst at_root holds.root holds.left in
+    let at_root : List ℕ → Type 0 = λ r. LeftPair moment leaves (disks_of j) (MayRead (record j { root = r })) in
+    let left : LeftPair moment leaves (disks_of j) (MayRead (record j { root = seen.contents.genesis.0 })) = subst at_root holds.root holds.left in
     let at_journal : Journaled D → Type 0 = λ k. Moved moment leaves faults k k in
     let at_now : Seen D → Type 0 = λ s. Moved moment leaves faults (journal_of s) (journal_of s) in
     subst at_now same (subst at_journal (sym is) (still moment leaves faults (record j { root = seen.contents.genesis.0 }) left))
@@ -138,7 +139,7 @@ pub record IsFresh (desk : Contents) (root : Root) (watched : Bool) (now : ℕ) 
 
 reopens : (desk : Contents) (genesis : Root) (watch : Bool) (now : ℕ) (l : Lasting) → IsFresh desk genesis watch now → BooksStand desk.keys l.keys → desk.states ≡ lasting_states l.states → PayloadsStand desk.payloads l
     → DeskStands desk (reopened genesis l watch now)
-reopens desk genesis watch now l fresh keys states s = let at_torn : Option (List ℕ) → Type 0 = λ t. TornStands desk.payloads t None in record {
+reopens desk genesis watch now l fresh keys states s = let at_torn : Option (List (List ℕ)) → Type 0 = λ t. TornStands t None in record {
   genesis = fresh.genesis;
   keys = keys;
   states = states;

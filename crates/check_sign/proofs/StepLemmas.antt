@@ -63,7 +63,7 @@ pub record Rest (desk : Contents) (state : State) : Type 0 where
   pub latest : desk.latest ≡ state.latest
   pub watches : WatchesStand desk.watches state.watching
 
-pub whole : (desk : Contents) (state : State) → Rest desk state → desk.size ≡ state.size → PayloadsStand desk.payloads (lasting state) → TornStands desk.payloads desk.torn state.torn → DeskStands desk state
+pub whole : (desk : Contents) (state : State) → Rest desk state → desk.size ≡ state.size → PayloadsStand desk.payloads (lasting state) → TornStands desk.torn state.torn → DeskStands desk state
 whole desk state rest size payloads torn = record {
   genesis = rest.genesis;
   keys = rest.keys;
@@ -78,26 +78,26 @@ whole desk state rest size payloads torn = record {
 }
 
 -- a desk that is up stands for states that are up, and the other way
-pub up_state : (ps : List (List ℕ)) (t : Option (List ℕ)) (l : Option Lasting) → TornStands ps t l → t ≡ None → l ≡ None
-up_state ps t None s e = refl
-up_state ps None (Some l) s e = absurd s
-up_state ps (Some p) (Some l) s e = let bad : Some p ≡ None = e in absurd cc
+pub up_state : (t : Option (List (List ℕ))) (l : Option Lasting) → TornStands t l → t ≡ None → l ≡ None
+up_state t None s e = refl
+up_state None (Some l) s e = absurd s
+up_state (Some p) (Some l) s e = let bad : Some p ≡ None = e in absurd cc
 
-pub down_state : (ps : List (List ℕ)) (t : Option (List ℕ)) (l : Option Lasting) (p : List ℕ) → TornStands ps t l → t ≡ Some p → (x : Lasting) × (l ≡ Some x)
-down_state ps t (Some l) p s e = (l, refl)
-down_state ps None None p s e = let bad : None ≡ Some p = e in absurd cc
-down_state ps (Some q) None p s e = absurd s
+pub down_state : (t : Option (List (List ℕ))) (l : Option Lasting) (p : List (List ℕ)) → TornStands t l → t ≡ Some p → (x : Lasting) × (l ≡ Some x)
+down_state t (Some l) p s e = (l, refl)
+down_state None None p s e = let bad : None ≡ Some p = e in absurd cc
+down_state (Some q) None p s e = absurd s
 
-none_torn : (ps : List (List ℕ)) (t : Option (List ℕ)) (l : Option Lasting) → t ≡ None → l ≡ None → TornStands ps t l
-none_torn ps t l e f =
-    let T : Option (List ℕ) → Type 0 = λ x. TornStands ps x l in
-    let L : Option Lasting → Type 0 = λ x. TornStands ps None x in
+none_torn : (t : Option (List (List ℕ))) (l : Option Lasting) → t ≡ None → l ≡ None → TornStands t l
+none_torn t l e f =
+    let T : Option (List (List ℕ)) → Type 0 = λ x. TornStands x l in
+    let L : Option Lasting → Type 0 = λ x. TornStands None x in
     subst T (sym e) (subst L (sym f) tt)
 
-some_torn : (ps : List (List ℕ)) (t : Option (List ℕ)) (l : Option Lasting) (p : List ℕ) (x : Lasting) → t ≡ Some p → l ≡ Some x → PayloadsStand (ps ++ p ∷ []) x → TornStands ps t l
-some_torn ps t l p x e f s =
-    let T : Option (List ℕ) → Type 0 = λ y. TornStands ps y l in
-    let L : Option Lasting → Type 0 = λ y. TornStands ps (Some p) y in
+some_torn : (t : Option (List (List ℕ))) (l : Option Lasting) (p : List (List ℕ)) (x : Lasting) → t ≡ Some p → l ≡ Some x → PayloadsStand p x → TornStands t l
+some_torn t l p x e f s =
+    let T : Option (List (List ℕ)) → Type 0 = λ y. TornStands y l in
+    let L : Option Lasting → Type 0 = λ y. TornStands (Some p) y in
     subst T (sym e) (subst L (sym f) s)
 
 -- ---- a batch was written
@@ -115,7 +115,7 @@ grown faults old new items desk state after wrote size journal payloads_are size
     let P : List (List ℕ) → Type 0 = λ l. PayloadsStand l (lasting after) in
     whole desk after rest (sized ∙ ap (λ n. n + frame_size items) size ∙ sym grows)
     (subst P (sym lists) (batch_stands old.payloads items old.size (lasting after) wrote.1 stand journal (grows ∙ ap (λ n. n + frame_size items) (sym size))))
-    (none_torn desk.payloads desk.torn after.torn whole_torn up)
+    (none_torn desk.torn after.torn whole_torn up)
 
 -- ---- nothing was written, and the reply says why
 
@@ -141,8 +141,7 @@ module _ {D : Type 0} (faults : D → ℕ) (old new : Journaled D) (items : List
       let whats : List JournalItem → Type 0 = λ i. IsWritten state.size i in
       let P : State → Type 0 = λ s. DeskStands desk s in
       let lists : desk.payloads ≡ old.payloads = payloads_are ∙ ap (λ j. j.payloads) made in
-      let L : List (List ℕ) → Type 0 = λ ps. PayloadsStand ps (lasting state) in
-      let N : List (List ℕ) → Type 0 = λ ps. PayloadsStand (ps ++ spelling items ∷ []) l in (
+      let L : List (List ℕ) → Type 0 = λ ps. PayloadsStand ps (lasting state) in (
         disk (inr (up, proceeds, subst whats (sym writes) (subst sizes size wrote.0))),
         subst P (sym on_disk) (whole desk (moved_on (torn_first state.torn l)) (record {
           genesis = rest.genesis;
@@ -153,15 +152,15 @@ module _ {D : Type 0} (faults : D → ℕ) (old new : Journaled D) (items : List
           latest = rest.latest;
           watches = rest.watches;
         }) (size_is ∙ ap (λ j. j.size) made ∙ size) (subst L (sym lists) stand)
-            (some_torn desk.payloads desk.torn (torn_first state.torn l) (spelling items) l (torn_is ∙ ap (λ j. j.torn) made) torn
-            (subst N (sym lists) (written_stands old.payloads items old.size l wrote.0 wrote.1 more journal (grows ∙ ap (λ n. n + frame_size items) (sym size)))))),
+            (some_torn desk.torn (torn_first state.torn l) (old.payloads ++ spelling items ∷ []) l (torn_is ∙ ap (λ j. j.torn) made) torn
+            (written_stands old.payloads items old.size l wrote.0 wrote.1 more journal (grows ∙ ap (λ n. n + frame_size items) (sym size))))),
       )
   by_fault fault.OutOfMemory R A wrote stand size journal clean up payloads_are size_is torn_is proceeds writes more grows disk memory full on_disk on_memory on_full rest =
       let P : State → Type 0 = λ s. DeskStands desk s in
       let L : List (List ℕ) → Type 0 = λ ps. PayloadsStand ps (lasting state) in (
         memory (up, proceeds),
         subst P (sym on_memory) (whole desk (moved_on state.torn) rest (size_is ∙ ap (λ j. j.size) wrote ∙ size) (subst L (sym (payloads_are ∙ ap (λ j. j.payloads) wrote)) stand)
-            (none_torn desk.payloads desk.torn state.torn (torn_is ∙ ap (λ j. j.torn) wrote ∙ clean) up)),
+            (none_torn desk.torn state.torn (torn_is ∙ ap (λ j. j.torn) wrote ∙ clean) up)),
       )
   by_fault (fault.Full s w) R A wrote stand size journal clean up payloads_are size_is torn_is proceeds writes more grows disk memory full on_disk on_memory on_full rest =
       let P : State → Type 0 = λ x. DeskStands desk x in
@@ -171,5 +170,5 @@ module _ {D : Type 0} (faults : D → ℕ) (old new : Journaled D) (items : List
       let same = wrote.1 in (
         full s w (up, proceeds, subst whats (sym writes) (subst sizes size wrote.0)),
         subst P (sym (on_full s w)) (whole desk (moved_on state.torn) rest (size_is ∙ ap (λ j. j.size) same ∙ size) (subst L (sym (payloads_are ∙ ap (λ j. j.payloads) same)) stand)
-            (none_torn desk.payloads desk.torn state.torn (torn_is ∙ ap (λ j. j.torn) same ∙ clean) up)),
+            (none_torn desk.torn state.torn (torn_is ∙ ap (λ j. j.torn) same ∙ clean) up)),
       )

@@ -1,8 +1,7 @@
 -- One call of a desk.
-use Rattle.std.specs.Prelude.{◌≡◌, ◌⊎◌, ◌↔◌, ℕ, ◌≤◌, Bool, List, [], ◌∷◌, ◌++◌, Option, None, Some, is_some, IsSome, IsSomeAnd, IsTrue, map, if◌then◌else◌}
+use Rattle.std.specs.Prelude.{◌≡◌, ◌⊎◌, ◌↔◌, ℕ, Bool, List, [], ◌∷◌, ◌++◌, Option, None, Some, is_some, IsSome, IsSomeAnd, IsTrue, map, if◌then◌else◌}
 use Rattle.std.specs.Map.{keys_of}
-use Rattle.edge_kit.specs.Causes.{Rose}
-use Rattle.edge_kit.specs.Disks.{LeavesOnly}
+use Rattle.edge_kit.specs.declared.disk.Disks.{Disks}
 use Rattle.edge_kit.specs.declared.bytes.PubKey.{PubKey}
 use Rattle.slash_defs.specs.declared.message.Message.{Message}
 use Rattle.protect_record.specs.Parts.{Parts, SameParts}
@@ -27,7 +26,9 @@ use Rattle.desk_machine.specs.declared.call.DeskCall.{DeskCall}
 use Rattle.desk_machine.specs.declared.call.DeskCall.TheVariants as call
 use Rattle.desk_machine.specs.declared.call.DeskReply.{DeskReply}
 use Rattle.desk_machine.specs.declared.call.DeskReply.TheVariants as reply
-use Rattle.check_sign.specs.Contents.{Contents, Seen}
+use Rattle.record_journal.specs.TwoDisks.{FaultsLater, EitherRose}
+use Rattle.check_sign.specs.Contents.{Contents, Seen, disks_in}
+use Rattle.check_sign.specs.Crashes.{LeavesFiles, LeftNow}
 use Rattle.check_sign.specs.Standing.{DeskStands, MayOpen}
 use Rattle.check_sign.specs.Writing.{Moved, journal_of, payloads_of}
 
@@ -69,7 +70,7 @@ pub record IsOwnLeave (old : Contents) (key : PubKey) (new : Contents) : Type 0 
   pub payloads : new.payloads ≡ old.payloads
 
 -- the reply says why a key may not sign: the disk failed before, or one of five others
-abbrev pub IsBar : Option (List ℕ) → DeskReply → Type 0
+abbrev pub IsBar : Option (List (List ℕ)) → DeskReply → Type 0
 IsBar torn reply.Disk = IsSome torn
 IsBar torn reply.Unknown = Unit {0}
 IsBar torn reply.NotActive = Unit {0}
@@ -111,22 +112,22 @@ IsOwn old call.Keys (reply.Keys listed) new = (map {B = PubKey × KeyState} (λ 
 IsOwn old call.HasFailed (reply.HasFailed failed) new = failed ≡ is_some old.torn
 IsOwn old c r new = Unit {0}
 
--- each image of the disk opens to what the desk stands for
-abbrev pub LeavesDesk : {D : Type 0} → (D → ℕ) → (D → ℕ → List ℕ → Type 0) → D → Contents → Type 0
-LeavesDesk moment leaves disk desk = (state : State) → DeskStands desk state → (file : List ℕ) → leaves disk (moment disk) file → MayOpen desk.genesis state file
+-- each image of the one disk beside each of the other opens to what the desk stands for
+abbrev pub LeavesDesk : {D : Type 0} → (D → ℕ) → (D → ℕ → List ℕ → Type 0) → Disks D → Contents → Type 0
+LeavesDesk moment leaves disks desk = (state : State) → DeskStands desk state → LeftNow moment leaves disks (MayOpen desk.genesis state)
 
--- One call: a step of the machine. A crash at any moment of it leaves a file that opens to what lasts of the state before or of
--- the state after, and from now on of the latter. The disk's count of faults has not fallen, and the desk fails, or answers so
--- for the first time, only where it rose. The other disk is the same. What is said of the journal's payloads holds even where the
--- desk stands for no state.
+-- One call: a step of the machine. A crash at any moment of it leaves two files that open to what lasts of the state before or of
+-- the state after, and from now on of the latter. No disk's count of faults has fallen, and the desk fails, or answers so for the
+-- first time, only where one rose. The other disk is the same, and the current file stays it. What is said of the journal's payloads holds even where the desk stands for no state.
 pub record IsCallOf {D : Type 0} (moment : D → ℕ) (leaves : D → ℕ → List ℕ → Type 0) (faults : D → ℕ) (old new : Seen D) (c : DeskCall) (r : DeskReply) : Type 0 where
   pub machine : IsStep old.contents c r new.contents
   pub counted : Counted old.contents c r new.contents
   pub own : IsOwn old.contents c r new.contents
   pub journal : Moved moment leaves faults (journal_of old) (journal_of new)
-  pub moments : (state : State) → DeskStands old.contents state → LeavesOnly moment leaves old.disk new.disk (λ file. MayOpen old.contents.genesis state file ⊎ MayOpen old.contents.genesis (after state c r) file)
-  pub left : LeavesDesk moment leaves new.disk new.contents
-  pub later : faults old.disk ≤ faults new.disk
-  pub fails : old.contents.torn ≡ None → IsSome new.contents.torn → Rose (faults old.disk) (faults new.disk)
-  pub rose : r ≡ reply.Disk → old.contents.torn ≡ None → Rose (faults old.disk) (faults new.disk)
-  pub second : new.second ≡ old.second
+  pub moments : (state : State) → DeskStands old.contents state → LeavesFiles moment leaves (disks_in old) (disks_in new) (λ files. MayOpen old.contents.genesis state files ⊎ MayOpen old.contents.genesis (after state c r) files)
+  pub left : LeavesDesk moment leaves (disks_in new) new.contents
+  pub later : FaultsLater faults (disks_in old) (disks_in new)
+  pub fails : old.contents.torn ≡ None → IsSome new.contents.torn → EitherRose faults (disks_in old) (disks_in new)
+  pub rose : r ≡ reply.Disk → old.contents.torn ≡ None → EitherRose faults (disks_in old) (disks_in new)
+  pub other : new.other ≡ old.other
+  pub place : new.place ≡ old.place

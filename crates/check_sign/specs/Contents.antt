@@ -4,6 +4,9 @@ use Rattle.edge_kit.specs.declared.bytes.PubKey.{PubKey}
 use Rattle.edge_kit.specs.declared.bytes.Root.{Root}
 use Rattle.protect_record.specs.Parts.{Parts}
 use Rattle.record_replay.specs.declared.state.KeyState.{KeyState}
+use Rattle.edge_kit.specs.declared.disk.Disks.{Disks}
+use Rattle.record_journal.specs.declared.place.Place.{Place}
+use Rattle.record_journal.specs.TwoDisks.{by_place}
 use Rattle.desk_machine.specs.Watches.{KeptWatches}
 use Rattle.desk_machine.specs.declared.open_grant.OpenGrant.{OpenGrant}
 use Rattle.desk_machine.specs.declared.event.DeskEvent.{DeskEvent}
@@ -25,13 +28,19 @@ pub record Contents : Type 0 where
   pub watches : KeptWatches
   -- what the desk did since it was opened
   pub events : List DeskEvent
-  -- the payloads of the journal, its size in bytes, and the payload whose writing a fault of the disk tore
+  -- the payloads of the journal, the size in bytes of its current file, and the payloads that a call which a disk
+  -- failed would have left
   pub payloads : List (List ℕ)
   pub size : ℕ
-  pub torn : Option (List ℕ)
+  pub torn : Option (List (List ℕ))
 
--- a desk with its disks: the one of its journal, and one that is handed back as it came
+-- a desk with the disks of its journal: the one of the current file and the other, and which file is current
 pub record Seen (D : Type 0) : Type 0 where
-  pub disk : D
-  pub second : D
+  pub current : D
+  pub other : D
+  pub place : Place
   pub contents : Contents
+
+-- its disks, the first and the second
+abbrev pub disks_in : {D : Type 0} → Seen D → Disks D
+disks_in seen = by_place seen.place seen.current seen.other

@@ -1,4 +1,5 @@
 pub mod Contents
+pub mod Crashes
 pub mod Standing
 pub mod Exporting
 pub mod Calls

@@ -1,6 +1,7 @@
 //! Keys that become active, and keys that are closed.
 ghost use Rattle.std.specs.Prelude.{◌≡◌, ◌≤◌, None};
-ghost use Rattle.edge_kit.specs.Causes.{Rose};
+ghost use Rattle.record_journal.specs.TwoDisks.{EitherRose};
+ghost use Rattle.check_sign.specs.Contents.{disks_in};
 ghost use Rattle.desk_machine.specs.Machine.{moment_limit};
 ghost use Rattle.check_sign.specs.Calls.{IsStep, Counted};
 ghost use Rattle.check_sign.specs.Writing.{Moved, journal_of};
@@ -21,9 +22,8 @@ impl<D: Disk> Desk<D> {
         requires { now ≤ moment_limit }
         ensures machine { IsStep self.old.contents (DeskCall.Activate key now) result self.new.contents }
         ensures counted { Counted self.old.contents (DeskCall.Activate key now) result self.new.contents }
-        ensures rose { result ≡ DeskReply.Disk → self.old.contents.torn ≡ None → Rose (D.faults self.old.disk) (D.faults self.new.disk) }
+        ensures rose { result ≡ DeskReply.Disk → self.old.contents.torn ≡ None → EitherRose D.faults (disks_in self.old) (disks_in self.new) }
         ensures moved { Moved D.moment D.leaves D.faults (journal_of self.old) (journal_of self.new) }
-        ensures second { self.new.second ≡ self.old.second }
     {
         self.latest = self.latest.max(now);
         if self.journal.failed() {
@@ -70,9 +70,8 @@ impl<D: Disk> Desk<D> {
     pub(crate) fn begin_closing(&mut self, key: PubKey) -> DeskReply
         ensures machine { IsStep self.old.contents (DeskCall.BeginClose key) result self.new.contents }
         ensures counted { Counted self.old.contents (DeskCall.BeginClose key) result self.new.contents }
-        ensures rose { result ≡ DeskReply.Disk → self.old.contents.torn ≡ None → Rose (D.faults self.old.disk) (D.faults self.new.disk) }
+        ensures rose { result ≡ DeskReply.Disk → self.old.contents.torn ≡ None → EitherRose D.faults (disks_in self.old) (disks_in self.new) }
         ensures moved { Moved D.moment D.leaves D.faults (journal_of self.old) (journal_of self.new) }
-        ensures second { self.new.second ≡ self.old.second }
     {
         replay_laws();
         let Some(_) = self.books.get(&key) else {
@@ -94,9 +93,8 @@ impl<D: Disk> Desk<D> {
     pub(crate) fn finish_closing(&mut self, key: PubKey) -> DeskReply
         ensures machine { IsStep self.old.contents (DeskCall.FinishClose key) result self.new.contents }
         ensures counted { Counted self.old.contents (DeskCall.FinishClose key) result self.new.contents }
-        ensures rose { result ≡ DeskReply.Disk → self.old.contents.torn ≡ None → Rose (D.faults self.old.disk) (D.faults self.new.disk) }
+        ensures rose { result ≡ DeskReply.Disk → self.old.contents.torn ≡ None → EitherRose D.faults (disks_in self.old) (disks_in self.new) }
         ensures moved { Moved D.moment D.leaves D.faults (journal_of self.old) (journal_of self.new) }
-        ensures second { self.new.second ≡ self.old.second }
     {
         if self.journal.failed() {
             return DeskReply::Disk;

@@ -1,8 +1,9 @@
 //! The desk.
-ghost use Rattle.std.specs.Prelude.{◌≡◌, ◌+◌, ◌≤◌, ℕ, List, None, Contains, option_copied, IfOk};
+ghost use Rattle.std.specs.Prelude.{◌≡◌, ◌+◌, ◌≤◌, None, Contains, option_copied, IfOk};
 ghost use Rattle.record_journal.specs.Journals.{MayRead};
 ghost use Rattle.std.specs.Map.{keys_of};
-ghost use Rattle.edge_kit.specs.Causes.{Rose};
+ghost use Rattle.record_journal.specs.TwoDisks.{LeftPair, EitherRose};
+ghost use Rattle.check_sign.specs.Contents.{disks_in};
 ghost use Rattle.record_join.specs.Keys.{kept_of};
 ghost use Rattle.desk_machine.specs.Machine.{MayCall};
 ghost use Rattle.check_sign.specs.Calls.{IsCallOf, IsOwn, IsStep, Counted, LeavesDesk};
@@ -29,7 +30,6 @@ pub struct Desk<D: Disk> {
     pub(crate) genesis: Root,
     pub(crate) watches: Watches,
     pub(crate) journal: Journal<D>,
-    pub(crate) second: D,
     pub(crate) books: Books,
     pub(crate) states: BTreeMap<PubKey, KeyState>,
     pub(crate) grants: OpenGrants,
@@ -48,8 +48,9 @@ impl<D: Disk> Model for Desk<D> {
     ghost Value = { Seen D };
 
     ghost view = { λ d. record {
-      disk = d.journal.disk;
-      second = d.second;
+      current = d.journal.current;
+      other = d.journal.other;
+      place = d.journal.place;
       contents = record {
         genesis = d.genesis;
         keys = d.books;
@@ -87,9 +88,8 @@ impl<D: Disk> Desk<D> {
         ensures machine { IsStep self.old.contents (call) result self.new.contents }
         ensures counted { Counted self.old.contents (call) result self.new.contents }
         ensures own { IsOwn self.old.contents (call) result self.new.contents }
-        ensures rose { result ≡ DeskReply.Disk → self.old.contents.torn ≡ None → Rose (D.faults self.old.disk) (D.faults self.new.disk) }
+        ensures rose { result ≡ DeskReply.Disk → self.old.contents.torn ≡ None → EitherRose D.faults (disks_in self.old) (disks_in self.new) }
         ensures moved { Moved D.moment D.leaves D.faults (journal_of self.old) (journal_of self.new) }
-        ensures second { self.new.second ≡ self.old.second }
     {
         match call {
             DeskCall::Merge { file } => self.merge_file(file),
@@ -120,9 +120,8 @@ impl<D: Disk> Desk<D> {
         requires { Contains self.old.contents.grants grant }
         ensures machine { IsStep self.old.contents (DeskCall.Settle grant outcome) DeskReply.Settled self.new.contents }
         ensures counted { Counted self.old.contents (DeskCall.Settle grant outcome) DeskReply.Settled self.new.contents }
-        ensures rose { DeskReply.Settled ≡ DeskReply.Disk → self.old.contents.torn ≡ None → Rose (D.faults self.old.disk) (D.faults self.new.disk) }
+        ensures rose { DeskReply.Settled ≡ DeskReply.Disk → self.old.contents.torn ≡ None → EitherRose D.faults (disks_in self.old) (disks_in self.new) }
         ensures moved { Moved D.moment D.leaves D.faults (journal_of self.old) (journal_of self.new) }
-        ensures second { self.new.second ≡ self.old.second }
     {
         let number = self.grants.settle(grant);
         let settled = Event::Settled {
@@ -159,16 +158,11 @@ impl<D: Disk> Desk<D> {
 
     /// The disks as they are, and what the desk did since it was opened, in order. Takes no memory.
     pub fn end(self) -> (Disks<D>, Events)
-        ensures first { result.0.first ≡ self.disk }
-        ensures second { result.0.second ≡ self.second }
+        ensures disks { result.0 ≡ disks_in self }
         ensures events { result.1 ≡ self.contents.events }
-        ensures left { LeavesDesk D.moment D.leaves self.disk self.contents }
-        ensures holds { (file : List ℕ) → D.leaves self.disk (D.moment self.disk) file → MayRead (journal_of self) file }
+        ensures left { LeavesDesk D.moment D.leaves (disks_in self) self.contents }
+        ensures holds { LeftPair D.moment D.leaves (disks_in self) (MayRead (journal_of self)) }
     {
-        let disks = Disks {
-            first: self.journal.end(),
-            second: self.second,
-        };
-        (disks, Events::from_vec(self.events))
+        (self.journal.end(), Events::from_vec(self.events))
     }
 }

@@ -1,6 +1,7 @@
 //! Files that are merged, and keys that are pruned.
 ghost use Rattle.std.specs.Prelude.{◌≡◌, None};
-ghost use Rattle.edge_kit.specs.Causes.{Rose};
+ghost use Rattle.record_journal.specs.TwoDisks.{EitherRose};
+ghost use Rattle.check_sign.specs.Contents.{disks_in};
 ghost use Rattle.record_join.specs.BooksPasts.{EachOnce};
 ghost use Rattle.check_sign.specs.Calls.{IsStep, Counted};
 ghost use Rattle.check_sign.specs.Writing.{Moved, journal_of};
@@ -22,9 +23,8 @@ impl<D: Disk> Desk<D> {
         requires { EachOnce file.books }
         ensures machine { IsStep self.old.contents (DeskCall.Merge file) result self.new.contents }
         ensures counted { Counted self.old.contents (DeskCall.Merge file) result self.new.contents }
-        ensures rose { result ≡ DeskReply.Disk → self.old.contents.torn ≡ None → Rose (D.faults self.old.disk) (D.faults self.new.disk) }
+        ensures rose { result ≡ DeskReply.Disk → self.old.contents.torn ≡ None → EitherRose D.faults (disks_in self.old) (disks_in self.new) }
         ensures moved { Moved D.moment D.leaves D.faults (journal_of self.old) (journal_of self.new) }
-        ensures second { self.new.second ≡ self.old.second }
     {
         if self.journal.failed() {
             return DeskReply::Disk;
@@ -59,9 +59,8 @@ impl<D: Disk> Desk<D> {
     pub(crate) fn prune_key(&mut self, key: PubKey) -> DeskReply
         ensures machine { IsStep self.old.contents (DeskCall.Prune key) result self.new.contents }
         ensures counted { Counted self.old.contents (DeskCall.Prune key) result self.new.contents }
-        ensures rose { result ≡ DeskReply.Disk → self.old.contents.torn ≡ None → Rose (D.faults self.old.disk) (D.faults self.new.disk) }
+        ensures rose { result ≡ DeskReply.Disk → self.old.contents.torn ≡ None → EitherRose D.faults (disks_in self.old) (disks_in self.new) }
         ensures moved { Moved D.moment D.leaves D.faults (journal_of self.old) (journal_of self.new) }
-        ensures second { self.new.second ≡ self.old.second }
     {
         if self.journal.failed() {
             return DeskReply::Disk;

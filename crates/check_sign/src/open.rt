@@ -25,8 +25,8 @@ pub enum OpenFault {
 }
 
 impl<D: Disk> Desk<D> {
-    /// Opens the desk of a journal on the first disk, for the chain with this root of genesis validators, at an
-    /// epoch. A journal is begun where there is none. A key that was being closed is active again, and no
+    /// Opens the desk of a journal over two disks, for the chain with this root of genesis validators, at an
+    /// epoch. A journal is begun on the first disk where there is none. A key that was being closed is active again, and no
     /// grant is open. Where `watch` is true, keys are watched before they sign: each active key from this epoch
     /// on, as one that becomes active later is from then on. An `Err` gives the disks back.
     ///
@@ -42,35 +42,31 @@ impl<D: Disk> Desk<D> {
         now: u64,
     ) -> Result<Desk<D>, (OpenFault, Disks<D>)>
         requires moment { now ≤ moment_limit }
-        ensures opened { IfOk result (λ d. Opening D.shows D.moment D.leaves D.faults disks.first disks.second genesis watch now d) }
-        ensures refused { IfErr result (λ e. OpeningRefused D.shows D.moment D.leaves D.faults disks.first genesis e.0 e.1.first × (e.1.second ≡ disks.second)) }
+        ensures opened { IfOk result (λ d. Opening D.shows D.moment D.leaves D.faults disks genesis watch now d) }
+        ensures refused { IfErr result (λ e. OpeningRefused D.shows D.moment D.leaves D.faults disks genesis e.0 e.1) }
     {
-        let Disks { first, second } = disks;
-        let journal = match Journal::open(alloc, first, genesis) {
+        let journal = match Journal::open(alloc, disks, genesis) {
             Ok(journal) => journal,
-            Err((fault, first)) => {
-                return Err((OpenFault::Journal(fault), Disks { first, second }));
-            }
+            Err((fault, disks)) => return Err((OpenFault::Journal(fault), disks)),
         };
         let Replayed { books, states } = match replay(alloc, journal.payloads()) {
             Ok(replayed) => replayed,
             Err(fault) => {
-                let first = journal.end();
-                return Err((replay_fault(fault), Disks { first, second }));
+                let disks = journal.end();
+                return Err((replay_fault(fault), disks));
             }
         };
         let closable = states.len();
         let Ok(events) = Vec::with_capacity(alloc, closable) else {
-            let first = journal.end();
+            let disks = journal.end();
             let fault = OpenFault::Journal(record_journal::OpenFault::OutOfMemory);
-            return Err((fault, Disks { first, second }));
+            return Err((fault, disks));
         };
         Ok(Desk {
             alloc,
             genesis,
             watches: Watches::new(alloc, watch, now),
             journal,
-            second,
             books,
             states,
             grants: OpenGrants::new(alloc),

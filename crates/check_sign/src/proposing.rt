@@ -1,6 +1,7 @@
 //! Proposals of active keys.
 ghost use Rattle.std.specs.Prelude.{◌≡◌, ◌≤◌, None};
-ghost use Rattle.edge_kit.specs.Causes.{Rose};
+ghost use Rattle.record_journal.specs.TwoDisks.{EitherRose};
+ghost use Rattle.check_sign.specs.Contents.{disks_in};
 ghost use Rattle.desk_machine.specs.Machine.{moment_limit};
 ghost use Rattle.check_sign.specs.Calls.{IsStep, IsOwn, Counted};
 ghost use Rattle.check_sign.specs.Writing.{Moved, journal_of};
@@ -22,9 +23,8 @@ impl<D: Disk> Desk<D> {
         ensures machine { IsStep self.old.contents (DeskCall.Propose key message now) result self.new.contents }
         ensures counted { Counted self.old.contents (DeskCall.Propose key message now) result self.new.contents }
         ensures own { IsOwn self.old.contents (DeskCall.Propose key message now) result self.new.contents }
-        ensures rose { result ≡ DeskReply.Disk → self.old.contents.torn ≡ None → Rose (D.faults self.old.disk) (D.faults self.new.disk) }
+        ensures rose { result ≡ DeskReply.Disk → self.old.contents.torn ≡ None → EitherRose D.faults (disks_in self.old) (disks_in self.new) }
         ensures moved { Moved D.moment D.leaves D.faults (journal_of self.old) (journal_of self.new) }
-        ensures second { self.new.second ≡ self.old.second }
     {
         self.latest = self.latest.max(now);
         match self.may_sign(&key) {

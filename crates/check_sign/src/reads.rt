@@ -1,6 +1,7 @@
 //! What the desk hands out of what it keeps.
 ghost use Rattle.std.specs.Prelude.{◌≡◌, None};
-ghost use Rattle.edge_kit.specs.Causes.{Rose};
+ghost use Rattle.record_journal.specs.TwoDisks.{EitherRose};
+ghost use Rattle.check_sign.specs.Contents.{disks_in};
 ghost use Rattle.check_sign.specs.Calls.{IsOwn, IsStep, Counted};
 ghost use Rattle.check_sign.specs.Writing.{Moved, journal_of};
 ghost use Rattle.desk_machine.specs.declared.call.DeskCall.TheVariants as DeskCall;
@@ -17,9 +18,8 @@ impl<D: Disk> Desk<D> {
     pub(crate) fn export_keys(&mut self, keys: Keys) -> DeskReply
         ensures machine { IsStep self.old.contents (DeskCall.Export keys) result self.new.contents }
         ensures counted { Counted self.old.contents (DeskCall.Export keys) result self.new.contents }
-        ensures rose { result ≡ DeskReply.Disk → self.old.contents.torn ≡ None → Rose (D.faults self.old.disk) (D.faults self.new.disk) }
+        ensures rose { result ≡ DeskReply.Disk → self.old.contents.torn ≡ None → EitherRose D.faults (disks_in self.old) (disks_in self.new) }
         ensures moved { Moved D.moment D.leaves D.faults (journal_of self.old) (journal_of self.new) }
-        ensures second { self.new.second ≡ self.old.second }
     {
         match exports_of(self.alloc, &self.books, keys.as_slice()) {
             Ok(books) => DeskReply::Exported(File {
@@ -35,9 +35,8 @@ impl<D: Disk> Desk<D> {
         ensures machine { IsStep self.old.contents (DeskCall.Keys) result self.new.contents }
         ensures counted { Counted self.old.contents (DeskCall.Keys) result self.new.contents }
         ensures own { IsOwn self.old.contents (DeskCall.Keys) result self.new.contents }
-        ensures rose { result ≡ DeskReply.Disk → self.old.contents.torn ≡ None → Rose (D.faults self.old.disk) (D.faults self.new.disk) }
+        ensures rose { result ≡ DeskReply.Disk → self.old.contents.torn ≡ None → EitherRose D.faults (disks_in self.old) (disks_in self.new) }
         ensures moved { Moved D.moment D.leaves D.faults (journal_of self.old) (journal_of self.new) }
-        ensures second { self.new.second ≡ self.old.second }
     {
         match standings_of(
             self.alloc,
@@ -56,9 +55,8 @@ impl<D: Disk> Desk<D> {
         ensures machine { IsStep self.old.contents (DeskCall.HasFailed) result self.new.contents }
         ensures counted { Counted self.old.contents (DeskCall.HasFailed) result self.new.contents }
         ensures own { IsOwn self.old.contents (DeskCall.HasFailed) result self.new.contents }
-        ensures rose { result ≡ DeskReply.Disk → self.old.contents.torn ≡ None → Rose (D.faults self.old.disk) (D.faults self.new.disk) }
+        ensures rose { result ≡ DeskReply.Disk → self.old.contents.torn ≡ None → EitherRose D.faults (disks_in self.old) (disks_in self.new) }
         ensures moved { Moved D.moment D.leaves D.faults (journal_of self.old) (journal_of self.new) }
-        ensures second { self.new.second ≡ self.old.second }
     {
         DeskReply::HasFailed(self.journal.failed())
     }

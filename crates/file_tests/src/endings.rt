@@ -2,6 +2,7 @@
 use edge_kit::{MemSink, Root};
 use interchange_io::{Member, ReadFault, VersionText};
 use program_end::{ClosingLine, FileRefusal, Limit, close, finish};
+use record_journal::Place;
 use std::alloc::{AllocError, Global};
 use std::test::Fail;
 
@@ -39,10 +40,12 @@ fn line_at(alloc: Global, place: usize) -> Result<ClosingLine, AllocError> {
         0..=8 => ClosingLine::FileRefused(refusal_at(alloc, place)?),
         9 => ClosingLine::DiskFault,
         10 => ClosingLine::Damaged {
+            file: Place::First,
             offset: 18_446_744_073_709_551_615,
             byte: Some(0x0f),
         },
         11 => ClosingLine::Damaged {
+            file: Place::Second,
             offset: 0,
             byte: None,
         },
@@ -78,7 +81,7 @@ const LINES: [(u8, &str); 19] = [
     ),
     (5, "validator: disk fault\n"),
     (6, "validator: damaged at 18446744073709551615: 0f\n"),
-    (6, "validator: damaged at 0: end\n"),
+    (6, "validator: damaged in b at 0: end\n"),
     (
         7,
         "validator: genesis differs: kept 0xaaaaaaaaaaaaaaaaaaaaaaaaaaaaaaaaaaaaaaaaaaaaaaaaaaaaaaaaaaaaaaaa, given 0x1111111111111111111111111111111111111111111111111111111111111111\n",

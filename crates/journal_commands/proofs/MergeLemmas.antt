@@ -44,11 +44,11 @@ module _ {D : Type 0} (moment : D → ℕ) (leaves : D → ℕ → List ℕ → 
 
 -- a desk was opened, the input merged into it, and its disks handed back
 pub merge_ended : {D : Type 0} (shows : D → List ℕ → Type 0) (moment : D → ℕ) (leaves : D → ℕ → List ℕ → Type 0) (faults : D → ℕ) (genesis : Root) (first last : Disks D) (before now : View) (events : List DeskEvent) (result : Status) (opened ended : Seen D)
-    → Opening shows moment leaves faults first.first first.second genesis false 0 opened → DeskMergeEnds moment leaves faults before now opened ended result → Handed ended last events
+    → Opening shows moment leaves faults first genesis false 0 opened → DeskMergeEnds moment leaves faults before now opened ended result → Handed ended last events
     → MergeEnds shows moment leaves faults genesis first last before now events result
 merge_ended shows moment leaves faults genesis first last before now events result opened ended opening ends handed =
     let run = merge_leaves moment leaves faults before now opened ended result genesis opening.opened.genesis_is ends in
     inr (had_desk moment leaves faults shows genesis false first last events
-    (λ o e. DeskMergeEnds moment leaves faults before now o e result × EachImage moment leaves genesis first last (OpensByMerge genesis before now) o) opened ended opening
-    (ends, each_image moment leaves faults shows genesis false first last (OpensByMerge genesis before now) opened ended opening run handed.first)
+    (λ o e. DeskMergeEnds moment leaves faults before now o e result × EachImage shows moment leaves genesis first last (OpensByMerge genesis before now) o) opened ended opening
+    (ends, each_image moment leaves faults shows genesis false first last (OpensByMerge genesis before now) opened ended opening run handed.disks)
     (merge_fares moment leaves faults before now opened ended result ends) (run opening.left).left handed)

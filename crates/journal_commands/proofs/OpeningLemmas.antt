@@ -1,22 +1,22 @@
 -- A desk that was opened and ended.
-use Rattle.std.proofs.Common.{◌≡◌, ◌⊎◌, inl, inr, ℕ, ◌≤◌, Bool, List, Option, None, Some, refl, sym, ◌∙◌, subst, arith}
+use Rattle.std.proofs.Common.{◌≡◌, ℕ, Bool, List, Option, None, Some, refl, sym, ◌∙◌, subst}
 use Rattle.std.specs.Prelude.{IsSome, true, false}
-use Rattle.edge_kit.specs.Causes.{Rose}
-use Rattle.edge_kit.specs.Disks.{LeavesOnly}
 use Rattle.edge_kit.specs.declared.bytes.Root.{Root}
 use Rattle.edge_kit.specs.declared.disk.Disks.{Disks}
-use Rattle.edge_kit.proofs.Moments.{leaves_on, leaves_weaker}
+use Rattle.record_journal.specs.TwoDisks.{EitherRose, FaultsLater}
 use Rattle.desk_machine.specs.States.{State}
 use Rattle.desk_machine.specs.declared.call.DeskCall.{DeskCall}
 use Rattle.desk_machine.specs.declared.call.DeskReply.{DeskReply}
 use Rattle.desk_machine.specs.declared.event.DeskEvent.{DeskEvent}
-use Rattle.check_sign.specs.Contents.{Seen}
+use Rattle.check_sign.specs.Contents.{Seen, disks_in}
+use Rattle.check_sign.specs.Crashes.{Files, LeavesFiles}
 use Rattle.check_sign.specs.Calls.{IsCallOf, LeavesDesk}
 use Rattle.check_sign.specs.Images.{Leaves}
 use Rattle.check_sign.specs.Opening.{Opening}
+use Rattle.check_sign.proofs.FaultLemmas.{either_back, later_none, later_on}
 use Rattle.command_line.specs.declared.planned.Plan.{Plan}
 use Rattle.command_line.specs.declared.planned.Plan.TheVariants as plan
-use Rattle.journal_commands.specs.Openings.{EachImage, IsAsBefore, HadDesk}
+use Rattle.journal_commands.specs.Openings.{EachImage, HadDesk, OpenedLeaves}
 
 -- the chain of a plan, if it has one
 abbrev pub root_of : Root → Plan → Root
@@ -26,17 +26,17 @@ root_of none (plan.Show genesis journal) = genesis
 root_of none (plan.Rehearse number size) = none
 root_of none (plan.Shown text) = none
 
--- what a command made of a desk: its chain and its second disk are the same, and it has failed only where the disk's count of faults rose
+-- what a command made of a desk: its chain, its other disk and which file is current are the same, and it has failed only where a disk's count of faults rose
 pub record Fares {D : Type 0} (faults : D → ℕ) (old new : Seen D) : Type 0 where
   pub genesis : new.contents.genesis ≡ old.contents.genesis
-  pub second : new.second ≡ old.second
-  pub later : faults old.disk ≤ faults new.disk
-  pub fails : old.contents.torn ≡ None → IsSome new.contents.torn → Rose (faults old.disk) (faults new.disk)
+  pub other : new.other ≡ old.other
+  pub place : new.place ≡ old.place
+  pub later : FaultsLater faults (disks_in old) (disks_in new)
+  pub fails : old.contents.torn ≡ None → IsSome new.contents.torn → EitherRose faults (disks_in old) (disks_in new)
 
 -- the desk as it was handed out
 pub record Handed {D : Type 0} (ended : Seen D) (now : Disks D) (events : List DeskEvent) : Type 0 where
-  pub first : now.first ≡ ended.disk
-  pub second : now.second ≡ ended.second
+  pub disks : now ≡ disks_in ended
   pub noted : events ≡ ended.contents.events
 
 not_both : {X : Type 0} (t : Option X) (A : Type 0) → t ≡ None → IsSome t → A
@@ -47,41 +47,47 @@ not_both (Some x) A none some = let bad : Some x ≡ None = none in absurd cc
 pub fares_same : {D : Type 0} (faults : D → ℕ) (old new : Seen D) → new ≡ old → Fares faults old new
 fares_same {D} faults old new same =
     let F : Seen D → Type 0 = λ desk. Fares faults old desk in
-    subst F (sym same) (record { genesis = refl; second = refl; later = omega arith; fails = λ none some. not_both old.contents.torn (Rose (faults old.disk) (faults old.disk)) none some })
+    subst F (sym same) (record { genesis = refl; other = refl; place = refl; later = later_none faults (disks_in old); fails = λ none some. not_both old.contents.torn (EitherRose faults (disks_in old) (disks_in old)) none some })
 
 module _ {D : Type 0} (moment : D → ℕ) (leaves : D → ℕ → List ℕ → Type 0) (faults : D → ℕ) where
   pub fares_call : (old new : Seen D) (c : DeskCall) (r : DeskReply) → IsCallOf moment leaves faults old new c r → Fares faults old new
-  fares_call old new c r call = record { genesis = call.counted.genesis; second = call.second; later = call.later; fails = call.fails }
+  fares_call old new c r call = record { genesis = call.counted.genesis; other = call.other; place = call.place; later = call.later; fails = call.fails }
 
   pub had_desk : (shows : D → List ℕ → Type 0) (genesis : Root) (watch : Bool) (before now : Disks D) (events : List DeskEvent) (Ends : Seen D → Seen D → Type 0) (opened ended : Seen D)
-      → Opening shows moment leaves faults before.first before.second genesis watch 0 opened → Ends opened ended → Fares faults opened ended → LeavesDesk moment leaves ended.disk ended.contents → Handed ended now events
+      → Opening shows moment leaves faults before genesis watch 0 opened → Ends opened ended → Fares faults opened ended → LeavesDesk moment leaves (disks_in ended) ended.contents → Handed ended now events
       → HadDesk shows moment leaves faults genesis watch before now events Ends
   had_desk shows genesis watch before now events Ends opened ended opening ends fares left handed =
-      let L : D → Type 0 = λ disk. LeavesDesk moment leaves disk ended.contents in
-      let F : D → Type 0 = λ disk. IsSome ended.contents.torn → Rose (faults before.first) (faults disk) in
-      let N : D → Type 0 = λ disk. faults before.first ≤ faults disk in
+      let L : Disks D → Type 0 = λ disks. LeavesDesk moment leaves disks ended.contents in
+      let F : Disks D → Type 0 = λ disks. IsSome ended.contents.torn → EitherRose faults before disks in
+      let N : Disks D → Type 0 = λ disks. FaultsLater faults before disks in
       record {
         opened = opened;
         ended = ended;
         opening = opening;
         ends = ends;
+        other = fares.other;
+        place = fares.place;
         desk = record {
-          first = handed.first;
-          second = handed.second ∙ fares.second ∙ opening.second_is;
+          disks = handed.disks;
           noted = handed.noted;
           genesis_is = fares.genesis ∙ opening.opened.genesis_is;
-          fails = subst F (sym handed.first) (λ torn. let rose = fares.fails opening.opened.up torn in omega (arith, rose, opening.later));
-          later = subst N (sym handed.first) (omega (arith, opening.later, fares.later));
-          left = subst L (sym handed.first) left;
+          fails = subst F (sym handed.disks) (λ torn. either_back faults before (disks_in opened) (disks_in ended) opening.later (fares.fails opening.opened.up torn));
+          later = subst N (sym handed.disks) (later_on faults before (disks_in opened) (disks_in ended) opening.later fares.later);
+          left = subst L (sym handed.disks) left;
         };
       }
 
-  pub each_image : (shows : D → List ℕ → Type 0) (genesis : Root) (watch : Bool) (before now : Disks D) (May : State → List ℕ → Type 0) (opened ended : Seen D)
-      → Opening shows moment leaves faults before.first before.second genesis watch 0 opened → Leaves moment leaves May opened ended → now.first ≡ ended.disk → EachImage moment leaves genesis before now May opened
+  -- the images while it was opened are those that it left then
+  leaves_by : (shows : D → List ℕ → Type 0) (genesis : Root) (watch : Bool) (before now : Disks D) (May : Files → Type 0) (opened : Seen D)
+      → Opening shows moment leaves faults before genesis watch 0 opened → LeavesFiles moment leaves (disks_in opened) now May → OpenedLeaves shows moment leaves genesis before now May opened
+  leaves_by shows genesis watch before now May opened opening run = record {
+    opening = λ k files low high l.
+        opening.moments.each k.0 k.1 files.0 files.1 low.0 high.0 low.1 high.1 (run.first_stays k.0 files.0 high.0 l.0) (run.second_stays k.1 files.1 high.1 l.1);
+    command = run;
+  }
+
+  pub each_image : (shows : D → List ℕ → Type 0) (genesis : Root) (watch : Bool) (before now : Disks D) (May : State → Files → Type 0) (opened ended : Seen D)
+      → Opening shows moment leaves faults before genesis watch 0 opened → Leaves moment leaves May opened ended → now ≡ disks_in ended → EachImage shows moment leaves genesis before now May opened
   each_image shows genesis watch before now May opened ended opening run last = λ state stands.
-      let P : List ℕ → Type 0 = λ c. IsAsBefore moment leaves genesis before.first c ⊎ May state c in
-      let T : D → Type 0 = λ disk. LeavesOnly moment leaves before.first disk P in
-      let files = run opening.left in
-      subst T (sym last) (leaves_on moment leaves before.first opened.disk ended.disk P
-      (leaves_weaker moment leaves before.first opened.disk (IsAsBefore moment leaves genesis before.first) P opening.moments (λ c was. inl was))
-      (leaves_weaker moment leaves opened.disk ended.disk (May state) P (files.moments state stands) (λ c may. inr may)))
+      let T : Disks D → Type 0 = λ disks. LeavesFiles moment leaves (disks_in opened) disks (May state) in
+      leaves_by shows genesis watch before now (May state) opened opening (subst T (sym last) ((run opening.left).moments state stands))

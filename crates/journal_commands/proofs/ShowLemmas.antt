@@ -109,11 +109,11 @@ module _ {D : Type 0} (moment : D → ℕ) (leaves : D → ℕ → List ℕ → 
 
 -- a desk was opened and shown, and its disks handed back
 pub show_ended : {D : Type 0} (shows : D → List ℕ → Type 0) (moment : D → ℕ) (leaves : D → ℕ → List ℕ → Type 0) (faults : D → ℕ) (genesis : Root) (first last : Disks D) (before now : Output) (events : List DeskEvent) (result : Status) (opened ended : Seen D)
-    → Opening shows moment leaves faults first.first first.second genesis false 0 opened → DeskShowEnds moment leaves faults before now opened ended result → Handed ended last events
+    → Opening shows moment leaves faults first genesis false 0 opened → DeskShowEnds moment leaves faults before now opened ended result → Handed ended last events
     → ShowEnds shows moment leaves faults genesis first last before now events result
 show_ended shows moment leaves faults genesis first last before now events result opened ended opening ends handed =
     let run = show_leaves moment leaves faults opened ended genesis opening.opened.genesis_is ends.reply_is ends.called in
     inr (had_desk moment leaves faults shows genesis false first last events
-    (λ o e. DeskShowEnds moment leaves faults before now o e result × EachImage moment leaves genesis first last (MayOpen genesis) o) opened ended opening
-    (ends, each_image moment leaves faults shows genesis false first last (MayOpen genesis) opened ended opening run handed.first)
+    (λ o e. DeskShowEnds moment leaves faults before now o e result × EachImage shows moment leaves genesis first last (MayOpen genesis) o) opened ended opening
+    (ends, each_image moment leaves faults shows genesis false first last (MayOpen genesis) opened ended opening run handed.disks)
     (fares_call moment leaves faults opened ended call.Keys ends.reply_is ends.called) ends.called.left handed)

@@ -12,6 +12,7 @@ use Rattle.desk_machine.specs.declared.call.DeskCall.TheVariants as call
 use Rattle.desk_machine.specs.declared.call.DeskReply.{DeskReply}
 use Rattle.desk_machine.specs.declared.call.DeskReply.TheVariants as reply
 use Rattle.desk_machine.specs.declared.event.DeskEvent.{DeskEvent}
+use Rattle.check_sign.specs.Crashes.{Files}
 use Rattle.check_sign.specs.Contents.{Seen}
 use Rattle.check_sign.specs.Standing.{MayOpen}
 use Rattle.check_sign.specs.Calls.{IsCallOf}
@@ -101,11 +102,11 @@ abbrev pub DeskMergeEnds : {D : Type 0} → (D → ℕ) → (D → ℕ → List 
 DeskMergeEnds moment leaves faults before now opened ended result =
     InputUnread before now opened ended result ⊎ NoFile before now opened ended result ⊎ FileCalled moment leaves faults before now opened ended result
 
--- a file of the journal opens to what lasts before the merge, or after a reply that a desk may give to the merge of the file which the input is
-abbrev pub OpensByMerge : Root → View → View → State → List ℕ → Type 0
-OpensByMerge genesis before now state c =
-    MayOpen genesis state c
-    ⊎ ((file : File) × (r : DeskReply) × ReadsFile before now file × Reply state (call.Merge file) r × MayOpen genesis (after state (call.Merge file) r) c)
+-- the files of the journal open to what lasts before the merge, or after a reply that a desk may give to the merge of the file which the input is
+abbrev pub OpensByMerge : Root → View → View → State → Files → Type 0
+OpensByMerge genesis before now state files =
+    MayOpen genesis state files
+    ⊎ ((file : File) × (r : DeskReply) × ReadsFile before now file × Reply state (call.Merge file) r × MayOpen genesis (after state (call.Merge file) r) files)
 
 -- nothing was read
 pub record Unread (before now : View) : Type 0 where
@@ -117,7 +118,7 @@ abbrev pub MergeEnds : {D : Type 0} → (D → List ℕ → Type 0) → (D → �
 MergeEnds shows moment leaves faults genesis disks_before disks_now before now events result =
     (NotOpened shows moment leaves faults genesis disks_before disks_now before.out now.out events result × Unread before now)
     ⊎ HadDesk shows moment leaves faults genesis false disks_before disks_now events
-    (λ opened ended. DeskMergeEnds moment leaves faults before now opened ended result × EachImage moment leaves genesis disks_before disks_now (OpensByMerge genesis before now) opened)
+    (λ opened ended. DeskMergeEnds moment leaves faults before now opened ended result × EachImage shows moment leaves genesis disks_before disks_now (OpensByMerge genesis before now) opened)
 
 -- a merge in which nothing failed, of an input within the file's limit, is done, or ends for want of memory, by what the journal
 -- holds, or by what the file holds

@@ -111,7 +111,7 @@ abbrev pub ShowEnds : {D : Type 0} → (D → List ℕ → Type 0) → (D → �
 ShowEnds shows moment leaves faults genesis disks_before disks_now before now events result =
     NotOpened shows moment leaves faults genesis disks_before disks_now before now events result
     ⊎ HadDesk shows moment leaves faults genesis false disks_before disks_now events
-    (λ opened ended. DeskShowEnds moment leaves faults before now opened ended result × EachImage moment leaves genesis disks_before disks_now (MayOpen genesis) opened)
+    (λ opened ended. DeskShowEnds moment leaves faults before now opened ended result × EachImage shows moment leaves genesis disks_before disks_now (MayOpen genesis) opened)
 
 -- a showing in which nothing failed is done, or ends for want of memory or by what the journal holds
 abbrev pub IsShowComplete : Status → Type 0

@@ -2,6 +2,7 @@
 ghost use Rattle.std.specs.Prelude.{◌≡◌, ◌≢◌, ◌≤◌, ℕ, List, OnOk, OnErr, length, take};
 ghost use Rattle.std.specs.Io.KnownBytes.{Appends};
 ghost use Rattle.edge_kit.specs.Causes.{Rose};
+ghost use Rattle.record_journal.specs.TwoDisks.{EitherRose};
 ghost use Rattle.edge_kit.specs.declared.bytes.Root.{Root};
 ghost use Rattle.record_join.specs.Keys.{kept_of};
 ghost use Rattle.journal_commands.specs.Views.{output_of};
@@ -24,8 +25,7 @@ enum Unshown {
     Write,
 }
 
-/// Does what a showing's plan says: writes one line (`key_line`) for each key that the journal on the first
-/// disk names, in key order, each as soon as it is made. A journal is begun where there is none. The disks
+/// Does what a showing's plan says: writes one line (`key_line`) for each key that the journal names, in key order, each as soon as it is made. A journal is begun where there is none. The disks
 /// come back, with what the desk did: nothing.
 ///
 /// The status is `Done`; `DiskFault`, `Damaged`, `GenesisDiffers` and `InputTooLong(Limit::Keys)`, with a line
@@ -40,11 +40,10 @@ pub fn run_show<D: Disk, O: Sink>(
     requires { IsShow plan.now }
     ensures ends { (genesis : Root) (journal : List ℕ) → plan.now ≡ Plan.Show genesis journal → ShowEnds D.shows D.moment D.leaves D.faults genesis disks result.1
         (output_of O.held O.faults out.old) (output_of O.held O.faults out.new) result.2 result.0 }
-    ensures second { result.1.second ≡ disks.second }
     ensures read_fault { result.0 ≢ Status.ReadFault }
     ensures write_fault { result.0 ≡ Status.WriteFault → Rose (O.faults out.old) (O.faults out.new) }
-    ensures disk_fault { result.0 ≡ Status.DiskFault → Rose (D.faults disks.first) (D.faults result.1.first) }
-    ensures complete { ¬ (Rose (O.faults out.old) (O.faults out.new)) → ¬ (Rose (D.faults disks.first) (D.faults result.1.first)) → IsShowComplete result.0 }
+    ensures disk_fault { result.0 ≡ Status.DiskFault → EitherRose D.faults disks result.1 }
+    ensures complete { ¬ (Rose (O.faults out.old) (O.faults out.new)) → ¬ (EitherRose D.faults disks result.1) → IsShowComplete result.0 }
 {
     let Plan::Show { genesis, .. } = plan else {
         unreachable!()

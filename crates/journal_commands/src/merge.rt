@@ -1,6 +1,7 @@
 //! The input is merged into a journal.
 ghost use Rattle.std.specs.Prelude.{◌≡◌, ◌⊎◌, ◌≤◌, ℕ, List, length};
 ghost use Rattle.edge_kit.specs.Causes.{Rose};
+ghost use Rattle.record_journal.specs.TwoDisks.{EitherRose};
 ghost use Rattle.edge_kit.specs.declared.bytes.Root.{Root};
 ghost use Rattle.interchange_io.specs.Reading.{file_limit};
 ghost use Rattle.record_join.specs.BooksPasts.{EachOnce};
@@ -42,12 +43,11 @@ pub fn run_merge<D: Disk, I: Source, O: Sink>(
     requires { IsMerge plan.now }
     ensures ends { (genesis : Root) (journal : List ℕ) → plan.now ≡ Plan.Merge genesis journal → MergeEnds D.shows D.moment D.leaves D.faults genesis disks result.1
         (view_of I.left I.faults O.held O.faults input.old out.old) (view_of I.left I.faults O.held O.faults input.new out.new) result.2 result.0 }
-    ensures second { result.1.second ≡ disks.second }
     ensures read_fault { result.0 ≡ Status.ReadFault → Rose (I.faults input.old) (I.faults input.new) }
     ensures write_fault { result.0 ≡ Status.WriteFault → Rose (O.faults out.old) (O.faults out.new) }
-    ensures disk_fault { result.0 ≡ Status.DiskFault → Rose (D.faults disks.first) (D.faults result.1.first) }
+    ensures disk_fault { result.0 ≡ Status.DiskFault → EitherRose D.faults disks result.1 }
     ensures complete { WithinLimit file_limit (I.left input.old)
-        → ¬ (Rose (I.faults input.old) (I.faults input.new)) → ¬ (Rose (O.faults out.old) (O.faults out.new)) → ¬ (Rose (D.faults disks.first) (D.faults result.1.first))
+        → ¬ (Rose (I.faults input.old) (I.faults input.new)) → ¬ (Rose (O.faults out.old) (O.faults out.new)) → ¬ (EitherRose D.faults disks result.1)
         → IsMergeComplete result.0 }
 {
     let Plan::Merge { genesis, .. } = plan else {

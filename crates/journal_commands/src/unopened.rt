@@ -16,8 +16,8 @@ fn line_of(fault: OpenFault) -> Option<ClosingLine>
     match fault {
         OpenFault::Journal(JournalFault::Disk) => Some(ClosingLine::DiskFault),
         OpenFault::Journal(JournalFault::OutOfMemory) => None,
-        OpenFault::Journal(JournalFault::Damaged { offset, byte }) => {
-            Some(ClosingLine::Damaged { offset, byte })
+        OpenFault::Journal(JournalFault::Damaged { file, offset, byte }) => {
+            Some(ClosingLine::Damaged { file, offset, byte })
         }
         OpenFault::Journal(JournalFault::Genesis { kept, given }) => {
             Some(ClosingLine::GenesisDiffers { kept, given })

@@ -2,6 +2,8 @@
 use Rattle.std.specs.Prelude.{ℕ, List, [], ◌∷◌, ◌++◌, Option, Some, None, codes, decimal, string_bytes}
 use Rattle.hex.specs.Hex.{encode_lower}
 use Rattle.edge_kit.specs.Texts.{hex_text}
+use Rattle.record_journal.specs.declared.place.Place.{Place}
+use Rattle.record_journal.specs.declared.place.Place.TheVariants.{First, Second}
 use Rattle.interchange_io.specs.Members.{name_of}
 use Rattle.interchange_io.specs.declared.fault.ReadFault.{ReadFault}
 use Rattle.interchange_io.specs.declared.fault.ReadFault.TheVariants as fault
@@ -18,7 +20,7 @@ abbrev pub closing_status : ClosingLine → Status
 closing_status closing.ReadFault = status.ReadFault
 closing_status closing.DiskFault = status.DiskFault
 closing_status (closing.TooLong l) = status.InputTooLong l
-closing_status (closing.Damaged offset byte) = status.Damaged
+closing_status (closing.Damaged file offset byte) = status.Damaged
 closing_status (closing.GenesisDiffers kept given) = status.GenesisDiffers
 closing_status (closing.FileRefused r) = status.FileRefused
 closing_status (closing.Usage line) = status.Usage
@@ -39,6 +41,11 @@ refusal_words (refusal.Read f) = fault_words f
 refusal_words (refusal.TooManyKeys have new) = codes "too_many_keys have " ++ (decimal have ++ (codes " new " ++ decimal new))
 refusal_words (refusal.Full size wanted) = codes "full size " ++ (decimal size ++ (codes " wanted " ++ decimal wanted))
 
+-- which file of the journal is damaged
+abbrev pub damaged_words : Place → List ℕ
+damaged_words First = codes "damaged at "
+damaged_words Second = codes "damaged in b at "
+
 -- the byte that stands at a damaged place, where there is one
 abbrev pub byte_words : Option ℕ → List ℕ
 byte_words None = codes "end"
@@ -49,7 +56,7 @@ abbrev pub closing_words : ClosingLine → List ℕ
 closing_words closing.ReadFault = codes "read fault"
 closing_words closing.DiskFault = codes "disk fault"
 closing_words (closing.TooLong l) = codes "input too long: limit " ++ decimal (limit_number l)
-closing_words (closing.Damaged offset byte) = codes "damaged at " ++ (decimal offset ++ (codes ": " ++ byte_words byte))
+closing_words (closing.Damaged file offset byte) = damaged_words file ++ (decimal offset ++ (codes ": " ++ byte_words byte))
 closing_words (closing.GenesisDiffers kept given) = codes "genesis differs: kept " ++ (hex_text kept.0 ++ (codes ", given " ++ hex_text given.0))
 closing_words (closing.FileRefused r) = codes "file refused: " ++ refusal_words r
 closing_words (closing.Usage line) = string_bytes line
@@ -63,7 +70,7 @@ abbrev pub TakesMemory : ClosingLine → Type 0
 TakesMemory closing.ReadFault = ⊥
 TakesMemory closing.DiskFault = ⊥
 TakesMemory (closing.TooLong l) = ⊥
-TakesMemory (closing.Damaged offset byte) = Unit {0}
+TakesMemory (closing.Damaged file offset byte) = Unit {0}
 TakesMemory (closing.GenesisDiffers kept given) = Unit {0}
 TakesMemory (closing.FileRefused r) = Unit {0}
 TakesMemory (closing.Usage line) = Unit {0}

@@ -6,6 +6,7 @@ use crate::file_refusal::FileRefusal;
 use crate::limit::Limit;
 use crate::status::Status;
 use edge_kit::{Root, hex_text};
+use record_journal::Place;
 use std::alloc::{AllocError, Global};
 
 /// The line that closes an output where a command did not end well.
@@ -13,14 +14,24 @@ use std::alloc::{AllocError, Global};
 pub enum ClosingLine {
     /// The input failed.
     ReadFault,
-    /// The disk failed.
+    /// A disk failed.
     DiskFault,
     /// The input passed a limit.
     TooLong(Limit),
-    /// The file is no journal from this offset on, in bytes from its start; the byte there, none at its end.
-    Damaged { offset: u64, byte: Option<u8> },
+    /// A file of the journal is none from a place on.
+    Damaged {
+        /// Which file.
+        file: Place,
+        /// The place, in bytes from its start.
+        offset: u64,
+        /// The byte there; none at its end.
+        byte: Option<u8>,
+    },
     /// The journal is of another chain: the genesis validators root that it has, and the one that was given.
-    GenesisDiffers { kept: Root, given: Root },
+    GenesisDiffers {
+        kept: Root,
+        given: Root,
+    },
     /// The file that was to be merged is refused.
     FileRefused(FileRefusal),
     /// The words are no command, as this line says.
@@ -65,7 +76,7 @@ impl ClosingLine {
             ClosingLine::ReadFault => unreachable!(),
             ClosingLine::DiskFault => unreachable!(),
             ClosingLine::TooLong(_) => unreachable!(),
-            ClosingLine::Damaged { offset, byte } => damaged(alloc, *offset, *byte),
+            ClosingLine::Damaged { file, offset, byte } => damaged(alloc, *file, *offset, *byte),
             ClosingLine::GenesisDiffers { kept, given } => genesis_differs(alloc, kept, given),
             ClosingLine::FileRefused(refusal) => file_refused(alloc, refusal),
             ClosingLine::Usage(line) => line.clone(),
@@ -103,12 +114,15 @@ fn too_long_line(limit: Limit) -> &'static str
     }
 }
 
-fn damaged(alloc: Global, offset: u64, byte: Option<u8>) -> Result<String, AllocError>
-    ensures { IfOk result (λ text. string_bytes text ≡ closing_words (ClosingLine.Damaged offset byte)) }
+fn damaged(alloc: Global, file: Place, offset: u64, byte: Option<u8>) -> Result<String, AllocError>
+    ensures { IfOk result (λ text. string_bytes text ≡ closing_words (ClosingLine.Damaged file offset byte)) }
 {
     let byte = byte_text(alloc, byte)?;
     let byte = byte.as_str();
-    format!(in alloc; "damaged at {offset}: {byte}")
+    match file {
+        Place::First => format!(in alloc; "damaged at {offset}: {byte}"),
+        Place::Second => format!(in alloc; "damaged in b at {offset}: {byte}"),
+    }
 }
 
 /// The digits of a byte, and `end` where there is none.

@@ -1,9 +1,11 @@
-mod Made
-mod Header
 mod Steps
 mod Beginning
-mod Parsing
 mod Moments
 mod Appending
-mod Laws
+pub mod TwoDisks
+mod Pairing
+mod Replacing
+mod Planning
+mod Writing
+mod Looking
 mod Opening

@@ -2,8 +2,8 @@
 use Rattle.std.proofs.Common.{◌≡◌, inl, inr, ⊎_elim, ℕ, ◌+◌, List, [], ◌∷◌, ◌++◌, length, sym, subst}
 use Rattle.edge_kit.specs.Disks.{Torn, overwrite, Elapses, Holds, LeavesOnly}
 use Rattle.edge_kit.proofs.Moments.{leaves_call, leaves_on}
-use Rattle.record_journal.specs.Frames.{IsPayload, body, WellMade, Staged, IsBeforeOrAfter}
-use Rattle.record_journal.proofs.Made.{reading_made}
+use Rattle.journal_frames.specs.Frames.{IsPayload, body, WellMade, Staged, IsBeforeOrAfter}
+use Rattle.journal_frames.proofs.Made.{reading_made}
 use Rattle.record_journal.proofs.Steps.{torn_behind, written_behind, torn_gate, staged_shut, written_gate}
 
 module _ {D : Type 0} (shows : D → List ℕ → Type 0) (moment : D → ℕ) (leaves : D → ℕ → List ℕ → Type 0) (root : List ℕ) (ps : List (List ℕ)) (p : List ℕ) (size : ℕ) where

@@ -1,24 +1,12 @@
 -- What each step of an append leaves.
 use Rattle.std.proofs.Common.{◌≡◌, ◌≢◌, ◌⊎◌, inl, inr, ℕ, ◌+◌, ◌<◌, ◌≤◌, List, [], ◌∷◌, ◌++◌, length, get_or, take, drop, sym, ◌∙◌, ap, arith, length-append, append_assoc, take-append-drop}
-use Rattle.std.proofs.lemmas.List.{append-nil, take_at, drop_at, drop_more}
+use Rattle.std.proofs.lemmas.List.{take_at, drop_at, drop_more}
 use Rattle.std.proofs.lemmas.Bool.{cases_eq}
-use Rattle.std.specs.List.{AllByRecursion}
 use Rattle.edge_kit.specs.Disks.{Torn, overwrite}
-use Rattle.record_journal.specs.Frames.{magic, IsPayload, body, frames, front, WellMade, Staged}
+use Rattle.journal_frames.specs.Frames.{IsPayload, body, front, WellMade, Staged}
 use Rattle.edge_kit.proofs.DiskLemmas.{overwrite_within}
-use Rattle.record_journal.proofs.Made.{length-body}
-
-pub frames_push : (ps : List (List ℕ)) (p : List ℕ) → frames (ps ++ p ∷ []) ≡ frames ps ++ 1 ∷ body p
-frames_push [] p = ap (λ (l : List ℕ). 1 ∷ l) (append-nil (body p))
-frames_push (q ∷ ps) p = ap (λ (l : List ℕ). 1 ∷ (body q ++ l)) (frames_push ps p) ∙ ap (λ (l : List ℕ). 1 ∷ l) (sym (append_assoc (body q) (frames ps) (1 ∷ body p)))
-
-pub front_push : (root : List ℕ) (ps : List (List ℕ)) (p : List ℕ) → front root (ps ++ p ∷ []) ≡ front root ps ++ 1 ∷ body p
-unfolding front
-front_push root ps p = ap (λ (l : List ℕ). 1 ∷ (magic ++ root ++ l)) (frames_push ps p) ∙ ap (λ (l : List ℕ). 1 ∷ l) (sym (append_assoc (magic ++ root) (frames ps) (1 ∷ body p)))
-
-pub all_push : (ps : List (List ℕ)) (p : List ℕ) → AllByRecursion IsPayload ps → IsPayload p → AllByRecursion IsPayload (ps ++ p ∷ [])
-all_push [] p all one = (one, tt)
-all_push (q ∷ ps) p all one = (all.0, all_push ps p all.1 one)
+use Rattle.journal_frames.proofs.Made.{length-body}
+use Rattle.journal_frames.proofs.Pushing.{front_push, framed_push}
 
 -- a gate of a list, and what stands before and behind it
 take_gate : (f b : List ℕ) (g size : ℕ) → length f + 1 ≡ size → take size (f ++ g ∷ b) ≡ f ++ g ∷ []
@@ -74,7 +62,7 @@ module _ (root : List ℕ) (ps : List (List ℕ)) (p : List ℕ) (size : ℕ) wh
     shut = λ same. absurd (omega arith);
     ends = omega (arith, ap length (front_push root ps p), length-append (front root ps) (1 ∷ body p), length-body p, staged.ends);
     rooted = staged.rooted;
-    payloads = all_push ps p staged.payloads staged.payload;
+    payloads = framed_push ps p staged.payloads staged.payload;
   }
 
   shut : (d c : List ℕ) (staged : Staged root ps p size d) (g : ℕ) → g ≢ 1 → c ≡ front root ps ++ g ∷ (body p ++ 0 ∷ staged.behind) → WellMade root ps size c

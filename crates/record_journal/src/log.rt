@@ -1,20 +1,22 @@
-//! The parts of a journal, and how a payload is added.
-ghost use Rattle.std.specs.Prelude.{◌≡◌, ◌⊎◌, ◌<◌, ◌≤◌, ◌^◌, ◌++◌, ◌∷◌, [], None, List, ℕ, length, IfOk};
-ghost use Rattle.edge_kit.specs.Disks.{LeavesOnly};
+//! The parts of a journal, and how a payload is added to the current file.
+ghost use Rattle.std.specs.Prelude.{◌≡◌, ◌⊎◌, ◌<◌, ◌^◌, ◌++◌, ◌∷◌, [], None, List, ℕ, length, IfOk};
 ghost use Rattle.record_codec.specs.Reading.{bad_at};
-ghost use Rattle.record_journal.specs.Frames.{body};
+ghost use Rattle.journal_frames.specs.Frames.{body};
 
-use edge_kit::{Disk, write_synced};
+use crate::place::Place;
+use edge_kit::{Disk, Disks, write_synced};
 use std::alloc::{AllocError, Global};
 
+// How many bytes a payload has at most.
 const MAX_LENGTH: u64 = 0xffff_ffff;
 
-const MAX_SIZE: u64 = 1 << 40;
+// How many bytes a file has at most.
+pub const MAX_SIZE: u64 = 1 << 40;
 
 /// Why a payload isn't added.
 #[derive(Clone, Copy, Debug, PartialEq, Eq)]
 pub enum AppendFault {
-    /// The disk failed in this call, or in an earlier one since the journal was opened.
+    /// A disk failed in this call, or in an earlier one since the journal was opened.
     Disk,
     /// There is no memory for the frame. Nothing was written.
     OutOfMemory,
@@ -27,30 +29,42 @@ pub enum AppendFault {
     },
 }
 
-/// A disk, the genesis root, the payloads, the offset behind the closed gate, and the payload whose append
-/// the disk's failure tore.
+/// What a call which a disk failed would have made of the payloads.
+#[derive(Drop)]
+pub enum Torn {
+    /// One more.
+    More(Vec<u8>),
+    /// These in their place.
+    Instead(Vec<Vec<u8>>),
+}
+
+/// The disk of the current file and the other disk, which file is current, the genesis root, the payloads, the
+/// offset behind the closed gate, and what a call which a disk failed would have made of the payloads.
 #[derive(Drop)]
 pub struct Log<D> {
-    pub disk: D,
+    pub current: D,
+    pub other: D,
+    pub place: Place,
     pub root: [u8; 32],
     pub payloads: Vec<Vec<u8>>,
     pub size: u64,
-    pub torn: Option<Vec<u8>>,
+    pub torn: Option<Torn>,
 }
 
 impl<D: Disk> Log<D> {
-    ghost use Rattle.record_journal.specs.Journals.{Stands, MayRead, Appended};
+    ghost use Rattle.record_journal.specs.Journals.{Stands, MayRead, Appended, disks_of};
     ghost use Rattle.record_journal.specs.Logs.{seen};
+    ghost use Rattle.record_journal.specs.TwoDisks.{LeavesPairs, FaultsLater};
 
-    /// Adds a payload, in two writes with a sync each.
+    /// Adds a payload to the current file, in two writes with a sync each.
     pub fn append(&mut self, alloc: Global, payload: Vec<u8>) -> Result<(), AppendFault>
         requires stands { Stands D.shows D.moment D.leaves (seen self.old) }
         requires batch { bad_at payload.items ≡ None }
 
         ensures stands { Stands D.shows D.moment D.leaves (seen self.new) }
         ensures ends { Appended D.faults (seen self.old) payload.items (seen self.new) result }
-        ensures any_moment { LeavesOnly D.moment D.leaves self.old.disk self.new.disk (λ c. MayRead (seen self.old) c ⊎ MayRead (seen self.new) c) }
-        ensures later { D.faults self.old.disk ≤ D.faults self.new.disk }
+        ensures any_moment { LeavesPairs D.moment D.leaves (disks_of (seen self.old)) (disks_of (seen self.new)) (λ a b. MayRead (seen self.old) a b ⊎ MayRead (seen self.new) a b) }
+        ensures later { FaultsLater D.faults (disks_of (seen self.old)) (disks_of (seen self.new)) }
     {
         if self.torn.is_some() {
             return Err(AppendFault::Disk);
@@ -67,12 +81,12 @@ impl<D: Disk> Log<D> {
         let Ok(()) = self.payloads.reserve(1) else {
             return Err(AppendFault::OutOfMemory);
         };
-        let Ok(()) = write_synced(&mut self.disk, self.size, &frame) else {
-            self.torn = Some(payload);
+        let Ok(()) = write_synced(&mut self.current, self.size, &frame) else {
+            self.torn = Some(Torn::More(payload));
             return Err(AppendFault::Disk);
         };
-        let Ok(()) = write_synced(&mut self.disk, self.size - 1, &[1]) else {
-            self.torn = Some(payload);
+        let Ok(()) = write_synced(&mut self.current, self.size - 1, &[1]) else {
+            self.torn = Some(Torn::More(payload));
             return Err(AppendFault::Disk);
         };
         let _ = self.payloads.push(payload);
@@ -82,7 +96,7 @@ impl<D: Disk> Log<D> {
 }
 
 // A frame behind its gate, and the next gate, closed.
-#[tactic(auto, unfolding(crate::specs::Frames::size_bytes))]
+#[tactic(auto, unfolding(journal_frames::specs::Frames::size_bytes))]
 fn frame_of(alloc: Global, payload: &[u8]) -> Result<Vec<u8>, AllocError>
     requires { length payload.now < 2 ^ 32 }
     ensures { IfOk result (λ frame. frame.items ≡ body payload.now ++ 0 ∷ []) }
@@ -96,17 +110,30 @@ fn frame_of(alloc: Global, payload: &[u8]) -> Result<Vec<u8>, AllocError>
 }
 
 impl<D> Log<D> {
-    /// Its disk, as it is.
-    pub fn into_disk(self) -> D
-        ensures { result ≡ self.disk }
+    ghost use Rattle.record_journal.specs.TwoDisks.{by_place};
+
+    /// Its disks, as they are.
+    pub fn into_disks(self) -> Disks<D>
+        ensures { result ≡ by_place self.place self.current self.other }
     {
         let Log {
-            disk,
+            current,
+            other,
+            place,
             root: _,
             payloads: _,
             size: _,
             torn: _,
         } = self;
-        disk
+        match place {
+            Place::First => Disks {
+                first: current,
+                second: other,
+            },
+            Place::Second => Disks {
+                first: other,
+                second: current,
+            },
+        }
     }
 }

@@ -1,27 +1,31 @@
-//! A journal is opened: synced before it is read, and begun where it isn't.
-ghost use Rattle.std.specs.Prelude.{◌≡◌, ◌≤◌, ◌+◌, [], List, ℕ, length, map, Some, IfOk, IfErr, OnOk, IsErrOf};
-ghost use Rattle.std.specs.List.{AllByRecursion};
+//! A journal is opened over two disks: both are synced before they are read, and the first is begun where neither is.
+ghost use Rattle.std.specs.Prelude.{◌≡◌, ◌⊎◌, ◌≤◌, [], List, ℕ, map, IfOk, IfErr, IsErrOf};
 ghost use Rattle.edge_kit.specs.Causes.{Rose};
-ghost use Rattle.edge_kit.specs.Disks.{Alike, Holds, Same, Elapses};
-ghost use Rattle.record_journal.specs.Frames.{Closed, Keeps, WellMade, IsPayload, front, reading, begun};
-ghost use Rattle.record_journal.specs.Journals.{journal_size};
-ghost use Rattle.record_journal.specs.Parsed.{IsFound};
-ghost use Rattle.record_journal.specs.Opened.{Read, FaultIs, IsOutside, Unwritten, OpeningLeaves, RefusalLeaves};
+ghost use Rattle.edge_kit.specs.Disks.{Holds};
+ghost use Rattle.journal_frames.specs.Frames.{WellMade, reading, generation_of as number_of};
+ghost use Rattle.record_journal.specs.TwoDisks.{current_of, other_of};
+ghost use Rattle.record_journal.specs.Pairs.{Reads, IsIdle};
+ghost use Rattle.record_journal.specs.Opened.{Read, ReadPair, FaultIs, Unwritten, KeepsOrRead, OpeningLeaves, RefusalLeaves};
+ghost use Rattle.record_journal.specs.Chosen.{ChosenFirst, ChosenSecond, IsFormed};
 
-use crate::begin::{begin_gate, begin_header, header_of};
-use crate::parse::{Found, parse};
-use edge_kit::{Disk, Root};
+use crate::begin::{begin_short, begin_shut};
+use crate::choose::{Choice, begun_or, choose};
+use crate::look::see_both;
+use crate::place::Place;
+use edge_kit::{Disk, Disks, Root};
 use std::alloc::Global;
 
 /// Why a journal isn't opened.
 #[derive(Clone, Copy, Debug, PartialEq, Eq)]
 pub enum OpenFault {
-    /// The disk failed in this call.
+    /// A disk failed in this call.
     Disk,
     /// There is no memory for the payloads.
     OutOfMemory,
-    /// The file is no journal from this place on.
+    /// A file is no journal from this place on.
     Damaged {
+        /// Which file.
+        file: Place,
         /// The place, in bytes from the start of the file.
         offset: u64,
         /// The byte there; none at the end of the file.
@@ -36,128 +40,74 @@ pub enum OpenFault {
     },
 }
 
-// All the bytes of a disk, read at once.
-fn fetch<D: Disk>(alloc: Global, disk: &mut D) -> Result<Vec<u8>, OpenFault>
-    ensures bytes { IfOk result (λ v. (c : List ℕ) → D.shows disk.old c → c ≡ v.items) }
-    ensures shows { Alike (D.shows disk.old) (D.shows disk.new) }
-    ensures time { Elapses Same (D.moment disk.old) (D.moment disk.new) (D.leaves disk.old) (D.leaves disk.new) }
-    ensures fault { IfErr result IsOutside }
-    ensures cause { IsErrOf result OpenFault.Disk → Rose (D.faults disk.old) (D.faults disk.new) }
-    ensures later { D.faults disk.old ≤ D.faults disk.new }
-{
-    let Ok(len) = disk.len() else {
-        return Err(OpenFault::Disk);
-    };
-    let Ok(mut bytes) = Vec::from_elem(alloc, 0u8, len as usize) else {
-        return Err(OpenFault::OutOfMemory);
-    };
-    let Ok(count) = disk.read(0, &mut bytes) else {
-        return Err(OpenFault::Disk);
-    };
-    bytes.truncate(count);
-    Ok(bytes)
-}
-
-// Syncs, and finds out what the disk's bytes stand for.
-fn look<D: Disk>(alloc: Global, disk: &mut D, root: &[u8; 32]) -> Result<Found, OpenFault>
-    ensures found { IfOk result (λ found. Holds D.shows D.moment D.leaves disk.new (λ c. IsFound root.now c found)) }
-    ensures seen { IfOk result (λ found. Read D.shows disk.old (λ bytes. IsFound root.now bytes found)) }
-    ensures unwritten { Unwritten D.shows D.moment D.leaves disk.old disk.new }
-    ensures fault { IfErr result IsOutside }
-    ensures cause { IsErrOf result OpenFault.Disk → Rose (D.faults disk.old) (D.faults disk.new) }
-    ensures later { D.faults disk.old ≤ D.faults disk.new }
-{
-    let Ok(()) = disk.sync() else {
-        return Err(OpenFault::Disk);
-    };
-    let bytes = match fetch(alloc, disk) {
-        Ok(bytes) => bytes,
-        Err(fault) => return Err(fault),
-    };
-    let Ok(found) = parse(alloc, &bytes, root) else {
-        return Err(OpenFault::OutOfMemory);
-    };
-    Ok(found)
-}
-
-// A journal on a disk of no more than a byte.
-fn begin_short<D: Disk>(alloc: Global, disk: &mut D, root: &[u8; 32]) -> Result<(), OpenFault>
-    requires { Holds D.shows D.moment D.leaves disk.old (λ c. length c ≤ 1) }
-    ensures done { OnOk result (Holds D.shows D.moment D.leaves disk.new (WellMade root.now [] 42)) }
-    ensures memory { IsErrOf result OpenFault.OutOfMemory → Holds D.shows D.moment D.leaves disk.new Closed }
-    ensures any_moment { Keeps D.moment D.leaves root.now disk.old disk.new }
-    ensures fault { IfErr result IsOutside }
-    ensures cause { IsErrOf result OpenFault.Disk → Rose (D.faults disk.old) (D.faults disk.new) }
-    ensures later { D.faults disk.old ≤ D.faults disk.new }
-{
-    let Ok(()) = begin_gate(disk, root) else {
-        return Err(OpenFault::Disk);
-    };
-    if let Err(fault) = begin_shut(alloc, disk, root) {
-        return Err(fault);
-    }
-    Ok(())
-}
-
-// A journal behind a closed gate.
-fn begin_shut<D: Disk>(alloc: Global, disk: &mut D, root: &[u8; 32]) -> Result<(), OpenFault>
-    requires { Holds D.shows D.moment D.leaves disk.old Closed }
-    ensures done { OnOk result (Holds D.shows D.moment D.leaves disk.new (WellMade root.now [] 42)) }
-    ensures memory { IsErrOf result OpenFault.OutOfMemory → Holds D.shows D.moment D.leaves disk.new Closed }
-    ensures any_moment { Keeps D.moment D.leaves root.now disk.old disk.new }
-    ensures fault { IfErr result IsOutside }
-    ensures cause { IsErrOf result OpenFault.Disk → Rose (D.faults disk.old) (D.faults disk.new) }
-    ensures later { D.faults disk.old ≤ D.faults disk.new }
-{
-    let Ok(header) = header_of(alloc, root) else {
-        return Err(OpenFault::OutOfMemory);
-    };
-    let Ok(()) = begin_header(disk, root, &header) else {
-        return Err(OpenFault::Disk);
-    };
-    Ok(())
-}
-
-// The payloads of a disk and the size of its journal, once it is begun and synced.
-pub fn settle<D: Disk>(
+// Which of two files is current, once both disks are synced.
+fn choose_seen<D: Disk>(
     alloc: Global,
-    disk: &mut D,
+    first: &mut D,
+    second: &mut D,
     root: &[u8; 32],
-) -> Result<(Vec<Vec<u8>>, u64), OpenFault>
-    ensures done { IfOk result (λ kept. Holds D.shows D.moment D.leaves disk.new (WellMade root.now (map (λ v. v.items) kept.0.items) kept.1)) }
-    ensures ends { IfOk result (λ kept. length (front root.now (map (λ v. v.items) kept.0.items)) + 1 ≡ kept.1) }
-    ensures sized { IfOk result (λ kept. kept.1 ≡ journal_size (map (λ v. v.items) kept.0.items)) }
-    ensures made { IfOk result (λ kept. AllByRecursion IsPayload (map (λ v. v.items) kept.0.items)) }
-    ensures read { IfOk result (λ kept. Read D.shows disk.old (λ bytes. begun (reading root.now bytes) ≡ Some (map (λ v. v.items) kept.0.items))) }
-    ensures any_moment { Keeps D.moment D.leaves root.now disk.old disk.new }
-    ensures writes { IfOk result (λ kept. OpeningLeaves D.shows D.moment D.leaves root.now disk.old (map (λ v. v.items) kept.0.items) disk.new) }
-    ensures writes_err { IfErr result (λ fault. RefusalLeaves D.shows D.moment D.leaves root.now disk.old fault disk.new) }
-    ensures fault { IfErr result (FaultIs D.shows disk.old root.now) }
-    ensures cause { IsErrOf result OpenFault.Disk → Rose (D.faults disk.old) (D.faults disk.new) }
-    ensures later { D.faults disk.old ≤ D.faults disk.new }
+) -> Result<Choice, OpenFault>
+    ensures first_chosen { IfOk result (λ choice. Holds D.shows D.moment D.leaves first.new (ChosenFirst root.now choice)) }
+    ensures second_chosen { IfOk result (λ choice. Holds D.shows D.moment D.leaves second.new (ChosenSecond root.now choice)) }
+    ensures first_read { IfOk result (λ choice. Read D.shows first.old (ChosenFirst root.now choice)) }
+    ensures second_read { IfOk result (λ choice. Read D.shows second.old (ChosenSecond root.now choice)) }
+    ensures first_unwritten { Unwritten D.shows D.moment D.leaves first.old first.new }
+    ensures second_unwritten { Unwritten D.shows D.moment D.leaves second.old second.new }
+    ensures fault { IfErr result (FaultIs D.shows first.old second.old root.now) }
+    ensures cause { IsErrOf result OpenFault.Disk → Rose (D.faults first.old) (D.faults first.new) ⊎ Rose (D.faults second.old) (D.faults second.new) }
+    ensures first_later { D.faults first.old ≤ D.faults first.new }
+    ensures second_later { D.faults second.old ≤ D.faults second.new }
 {
-    let found = match look(alloc, disk, root) {
+    let (one, other) = match see_both(alloc, first, second, root) {
         Ok(found) => found,
         Err(fault) => return Err(fault),
     };
-    match found {
-        Found::Kept(payloads, size) => Ok((payloads, size)),
-        Found::Damaged(offset, byte) => Err(OpenFault::Damaged { offset, byte }),
-        Found::Genesis(kept) => Err(OpenFault::Genesis {
-            kept: Root(kept),
-            given: Root(*root),
-        }),
-        Found::Short => {
-            if let Err(fault) = begin_short(alloc, disk, root) {
+    let one = match begun_or(one, Place::First, root) {
+        Ok(begun) => begun,
+        Err(fault) => return Err(fault),
+    };
+    let other = match begun_or(other, Place::Second, root) {
+        Ok(begun) => begun,
+        Err(fault) => return Err(fault),
+    };
+    Ok(choose(one, other))
+}
+
+// The place of the current file, its payloads and its size, once it is begun and both disks are synced.
+pub fn settle<D: Disk>(
+    alloc: Global,
+    disks: &mut Disks<D>,
+    root: &[u8; 32],
+) -> Result<(Place, Vec<Vec<u8>>, u64), OpenFault>
+    ensures done { IfOk result (λ kept. Holds D.shows D.moment D.leaves (current_of kept.0 disks.new) (WellMade root.now (map (λ v. v.items) kept.1.items) kept.2)) }
+    ensures idle { IfOk result (λ kept. (c : List ℕ) → D.leaves (other_of kept.0 disks.new) (D.moment (other_of kept.0 disks.new)) c → IsIdle kept.0 (number_of (map (λ v. v.items) kept.1.items)) (reading root.now c)) }
+    ensures formed { IfOk result (λ kept. IsFormed root.now (map (λ v. v.items) kept.1.items) kept.2) }
+    ensures read { IfOk result (λ kept. ReadPair D.shows disks.old.first disks.old.second (Reads root.now (map (λ v. v.items) kept.1.items))) }
+    ensures any_moment { KeepsOrRead D.shows D.moment D.leaves root.now disks.old disks.new }
+    ensures writes { IfOk result (λ kept. OpeningLeaves D.shows D.moment D.leaves root.now disks.old kept.0 (map (λ v. v.items) kept.1.items) disks.new) }
+    ensures writes_err { IfErr result (λ fault. RefusalLeaves D.shows D.moment D.leaves root.now disks.old fault disks.new) }
+    ensures fault { IfErr result (FaultIs D.shows disks.old.first disks.old.second root.now) }
+    ensures cause { IsErrOf result OpenFault.Disk → Rose (D.faults disks.old.first) (D.faults disks.new.first) ⊎ Rose (D.faults disks.old.second) (D.faults disks.new.second) }
+    ensures first_later { D.faults disks.old.first ≤ D.faults disks.new.first }
+    ensures second_later { D.faults disks.old.second ≤ D.faults disks.new.second }
+{
+    let choice = match choose_seen(alloc, &mut disks.first, &mut disks.second, root) {
+        Ok(choice) => choice,
+        Err(fault) => return Err(fault),
+    };
+    match choice {
+        Choice::Current(place, payloads, size) => Ok((place, payloads, size)),
+        Choice::Short => {
+            if let Err(fault) = begin_short(alloc, &mut disks.first, root) {
                 return Err(fault);
             }
-            Ok((Vec::new(alloc), 42))
+            Ok((Place::First, Vec::new(alloc), 42))
         }
-        Found::Shut => {
-            if let Err(fault) = begin_shut(alloc, disk, root) {
+        Choice::Shut => {
+            if let Err(fault) = begin_shut(alloc, &mut disks.first, root) {
                 return Err(fault);
             }
-            Ok((Vec::new(alloc), 42))
+            Ok((Place::First, Vec::new(alloc), 42))
         }
     }
 }

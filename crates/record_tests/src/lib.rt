@@ -6,8 +6,6 @@ mod batches;
 #[cfg(test)]
 mod joins;
 #[cfg(test)]
-mod journals;
-#[cfg(test)]
 mod records;
 #[cfg(test)]
 mod replays;

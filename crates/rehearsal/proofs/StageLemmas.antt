@@ -301,7 +301,7 @@ rehearsed number clients steps stage counts stood s g r h t c z = record {
 -- ---- the loops
 
 -- one client more that has done nothing
-pub push_stands : (xs : List Client) (y : Client) → Stands xs empty → OpensBy [] 0 y.desk.contents → Stands (xs ++ y ∷ []) empty
+pub push_stands : (xs : List Client) (y : Client) → Stands xs empty → OpensBy ([], []) 0 y.desk.contents → Stands (xs ++ y ∷ []) empty
 push_stands xs y stands opens c d below = at (cases_lt c (length xs)) where
   at : (c < length xs) ⊎ (length xs ≤ c) → DeskStands (get_or (xs ++ y ∷ []) c d).desk.contents (no_state genesis) × ((get_or (xs ++ y ∷ []) c d).desk.contents.genesis ≡ genesis)
   at (inl less) =

@@ -9,6 +9,7 @@ use Rattle.desk_machine.specs.declared.call.DeskCall.TheVariants as call
 use Rattle.desk_machine.specs.declared.call.DeskReply.{DeskReply}
 use Rattle.desk_machine.specs.declared.call.DeskReply.TheVariants as reply
 use Rattle.check_sign.specs.Contents.{Contents}
+use Rattle.check_sign.specs.Crashes.{Files}
 use Rattle.check_sign.specs.Standing.{DeskStands, Opens}
 use Rattle.world_law.specs.Worlds.{Event}
 use Rattle.world_law.specs.Worlds.Event.{Call, Crash}
@@ -94,9 +95,9 @@ pub record TakesIn (key : PubKey) (book : Book) (now : ℕ) (old new : Contents)
 
 -- ---- starts
 
--- a desk that is opened over a file stands for what lasts by the file
-pub record OpensBy (file : List ℕ) (now : ℕ) (new : Contents) : Type 0 where
-  pub stands : (l : Lasting) → Opens genesis file l → DeskStands new (reopened genesis l false now)
+-- a desk that is opened over these files stands for what lasts by them
+pub record OpensBy (files : Files) (now : ℕ) (new : Contents) : Type 0 where
+  pub stands : (l : Lasting) → Opens genesis files l → DeskStands new (reopened genesis l false now)
   pub genesis_is : new.genesis ≡ genesis
 
 -- a stop of the client, and its start

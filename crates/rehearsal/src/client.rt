@@ -1,4 +1,4 @@
-//! A client of a rehearsal: a desk over a disk in memory, and a signer in memory.
+//! A client of a rehearsal: a desk over disks in memory, and a signer in memory.
 ghost use Rattle.std.specs.Prelude.{◌≡◌, ◌≤◌, ◌++◌, ◌∷◌, [], ℕ, Some, Contains, IsSome, IfOk, OnOk};
 ghost use Rattle.desk_machine.specs.Machine.{moment_limit};
 ghost use Rattle.desk_machine.specs.declared.call.Outcome.TheVariants as outcome;
@@ -17,7 +17,7 @@ use signer_link::{MemSigner, SignReply, SignRequest, Signer};
 use slash_defs::{Book, File, Message};
 use std::alloc::{AllocError, Global};
 
-/// How many calls of its disk the opening of a desk makes, where the journal is begun: it syncs, asks for the length,
+/// How many calls of its first disk the opening of a desk makes, where the journal is begun: it syncs, asks for the length,
 /// and reads.
 pub(crate) const OPENING_CALLS: u64 = 3;
 
@@ -28,19 +28,20 @@ fn genesis() -> Root
     root_at(0)
 }
 
-/// Opens a desk, at an epoch, over a disk of these bytes, which stops at a call.
+/// Opens a desk, at an epoch, over disks of these bytes, of which the first stops at a call.
 fn open(
     alloc: Global,
-    bytes: Vec<u8>,
+    first: Vec<u8>,
+    second: Vec<u8>,
     stop: Option<u64>,
     now: u64,
 ) -> Result<Desk<MemDisk>, AllocError>
     requires { now ≤ moment_limit }
-    ensures { IfOk result (λ desk. OpensBy bytes.items now desk.contents) }
+    ensures { IfOk result (λ desk. OpensBy (first.items, second.items) now desk.contents) }
 {
     let disks = Disks {
-        first: MemDisk::new(alloc, bytes, Vec::new(alloc), stop)?,
-        second: MemDisk::new(alloc, Vec::new(alloc), Vec::new(alloc), None)?,
+        first: MemDisk::new(alloc, first, Vec::new(alloc), stop)?,
+        second: MemDisk::new(alloc, second, Vec::new(alloc), None)?,
     };
     match Desk::open(alloc, disks, genesis(), false, now) {
         Ok(desk) => Ok(desk),
@@ -49,7 +50,8 @@ fn open(
 }
 
 /// Stops a desk: of the bytes that are not synced the crash makes what it does. Then it is opened again, at an epoch,
-/// over a disk that stops at a call. The error is want of memory, also where it ran out at the disk before.
+/// over disks of which the first stops at a call. The error is want of memory, also where it ran out at a disk
+/// before.
 fn restart(
     alloc: Global,
     desk: Desk<MemDisk>,
@@ -61,11 +63,12 @@ fn restart(
     ensures { IfOk result (λ new. desk.contents.genesis ≡ genesis → Restarts now desk.contents new.contents) }
 {
     let (disks, _events) = desk.end();
-    if disks.first.lacks() > 0 {
+    if disks.first.lacks() > 0 || disks.second.lacks() > 0 {
         return Err(AllocError);
     }
-    let image = disks.first.image(alloc, crash)?;
-    open(alloc, image, stop, now)
+    let first = disks.first.image(alloc, crash)?;
+    let second = disks.second.image(alloc, crash)?;
+    open(alloc, first, second, stop, now)
 }
 
 /// A client: its desk, and the service that signs for it.
@@ -78,10 +81,10 @@ pub(crate) struct Client {
 impl Client {
     /// A client that has done nothing, at epoch 0.
     pub(crate) fn new(alloc: Global) -> Result<Client, AllocError>
-        ensures { IfOk result (λ client. OpensBy [] 0 client.desk.contents) }
+        ensures { IfOk result (λ client. OpensBy ([], []) 0 client.desk.contents) }
     {
         Ok(Client {
-            desk: open(alloc, Vec::new(alloc), None, 0)?,
+            desk: open(alloc, Vec::new(alloc), Vec::new(alloc), None, 0)?,
             signer: MemSigner::new(alloc, Vec::new(alloc), Vec::new(alloc)),
         })
     }

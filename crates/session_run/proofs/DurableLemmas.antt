@@ -1,5 +1,5 @@
 -- A grant outlasts every call and every stop.
-use Rattle.std.proofs.Common.{◌≡◌, ◌⊎◌, inl, inr, ℕ, List, Option, Some, None, refl, sym, ◌∙◌, ap, subst}
+use Rattle.std.proofs.Common.{◌≡◌, ◌⊎◌, inl, inr, ℕ, Option, Some, None, refl, sym, ◌∙◌, ap, subst}
 use Rattle.std.specs.Prelude.{is_some, IsSomeAnd}
 use Rattle.edge_kit.specs.declared.bytes.PubKey.{PubKey}
 use Rattle.edge_kit.specs.declared.bytes.Root.{Root}
@@ -10,6 +10,7 @@ use Rattle.protect_record.specs.PastLaws.{covers-with_own}
 use Rattle.record_join.specs.Keys.{kept_of, with_kept}
 use Rattle.record_join.specs.BooksPasts.{own_grown, own_grown_from}
 use Rattle.desk_machine.specs.States.{State, Lasting, lasting, past_of}
+use Rattle.check_sign.specs.Crashes.{Files}
 use Rattle.check_sign.specs.Standing.{MayOpen, Opens}
 use Rattle.desk_machine.specs.Machine.{after, Reply, lasting_after, torn_first}
 use Rattle.desk_machine.specs.declared.open_grant.OpenGrant.{OpenGrant}
@@ -85,11 +86,11 @@ granted state key m now g can =
       torn = λ l e. none_some state.torn l (CoversKey l.keys key m) can.0.0 e;
     }
 
-torn_opens : (genesis : Root) (torn : Option Lasting) (key : PubKey) (m : Message) (file : List ℕ) → ((l : Lasting) → torn ≡ Some l → CoversKey l.keys key m) → IsSomeAnd torn (λ l. Opens genesis file l)
-    → (l : Lasting) × Opens genesis file l × CoversKey l.keys key m
-torn_opens genesis None key m file d h = absurd h
-torn_opens genesis (Some l) key m file d h = (l, h, d l refl)
+torn_opens : (genesis : Root) (torn : Option Lasting) (key : PubKey) (m : Message) (files : Files) → ((l : Lasting) → torn ≡ Some l → CoversKey l.keys key m) → IsSomeAnd torn (λ l. Opens genesis files l)
+    → (l : Lasting) × Opens genesis files l × CoversKey l.keys key m
+torn_opens genesis None key m files d h = absurd h
+torn_opens genesis (Some l) key m files d h = (l, h, d l refl)
 
-pub images : (genesis : Root) (state : State) (key : PubKey) (m : Message) (file : List ℕ) → IsDurable state key m → MayOpen genesis state file → (l : Lasting) × Opens genesis file l × CoversKey l.keys key m
-images genesis state key m file d (inl opens) = (lasting state, opens, d.now)
-images genesis state key m file d (inr opens) = torn_opens genesis state.torn key m file d.torn opens
+pub images : (genesis : Root) (state : State) (key : PubKey) (m : Message) (files : Files) → IsDurable state key m → MayOpen genesis state files → (l : Lasting) × Opens genesis files l × CoversKey l.keys key m
+images genesis state key m files d (inl opens) = (lasting state, opens, d.now)
+images genesis state key m files d (inr opens) = torn_opens genesis state.torn key m files d.torn opens

@@ -5,6 +5,8 @@ use Rattle.std.specs.Io.KnownBytes.{Appends, IsAtEnd}
 use Rattle.std.proofs.lemmas.List.{append-nil}
 use Rattle.std.proofs.lemmas.Grind.{common_steps, flat_map-append}
 use Rattle.edge_kit.specs.Causes.{Rose}
+use Rattle.record_journal.specs.TwoDisks.{EitherRose}
+use Rattle.check_sign.specs.Contents.{disks_in}
 use Rattle.edge_kit.proofs.TellingLemmas.{Appends-nil, Appends-trans, Appends-kept}
 use Rattle.sign_roots.specs.declared.domains.Domains.{Domains}
 use Rattle.session_format.specs.Requests.{request_of}
@@ -248,7 +250,7 @@ module _ {D : Type 0} (moment : D → ℕ) (leaves : D → ℕ → List ℕ → 
           takes_none closing.ReadFault why takes same = absurd takes
           takes_none closing.DiskFault why takes same = absurd takes
           takes_none (closing.TooLong l) why takes same = absurd takes
-          takes_none (closing.Damaged offset byte) why takes same = absurd why
+          takes_none (closing.Damaged file offset byte) why takes same = absurd why
           takes_none (closing.GenesisDiffers kept given) why takes same = absurd why
           takes_none (closing.FileRefused r) why takes same = absurd why
           takes_none (closing.Usage line) why takes same = absurd why
@@ -294,7 +296,7 @@ module _ {D : Type 0} (moment : D → ℕ) (leaves : D → ℕ → List ℕ → 
     pub ends_write : result ≡ status.WriteFault → Rose before.writes_failed now.writes_failed
     ends_write is = let e = subst As is ends in e.ends.1
 
-    pub ends_disk : result ≡ status.DiskFault → Rose (faults a.desk.disk) (faults c.desk.disk)
+    pub ends_disk : result ≡ status.DiskFault → EitherRose faults (disks_in a.desk) (disks_in c.desk)
     ends_disk is = let e = subst As is ends in e.ends.1.because.0
 
     pub ends_fares : DeskFares faults a.desk c.desk

@@ -1,12 +1,13 @@
 -- The images of calls, moment by moment.
-use Rattle.std.proofs.Common.{◌≡◌, ◌⊎◌, ⊎_elim, inl, inr, ℕ, ◌≤◌, List, [], ◌∷◌, Option, None, Some, sym, ◌∙◌, subst, arith}
+use Rattle.std.proofs.Common.{◌≡◌, ◌⊎◌, ⊎_elim, ℕ, ◌≤◌, List, [], ◌∷◌, Option, None, Some, refl, sym, ◌∙◌, subst, arith}
 use Rattle.std.specs.Prelude.{IfSome}
-use Rattle.std.proofs.lemmas.Bool.{cases_lt}
+use Rattle.edge_kit.specs.declared.disk.Disks.{Disks}
 use Rattle.edge_kit.specs.declared.bytes.PubKey.{PubKey}
 use Rattle.edge_kit.specs.declared.bytes.Root.{Root}
 use Rattle.slash_defs.specs.declared.message.Message.{Message}
-use Rattle.check_sign.specs.Contents.{Seen}
-use Rattle.check_sign.specs.Paths.{Path}
+use Rattle.check_sign.specs.Contents.{Seen, disks_in}
+use Rattle.check_sign.specs.Crashes.{Moments, now_of}
+use Rattle.check_sign.specs.Paths.{Path, moments_behind}
 use Rattle.desk_machine.specs.States.{State}
 use Rattle.check_sign.specs.Standing.{DeskStands, MayOpen}
 use Rattle.check_sign.specs.Calls.{LeavesDesk}
@@ -33,90 +34,101 @@ if_some P Q (Some x) f h = f x h
 
 -- ---- images that follow calls
 
-module _ {D : Type 0} (moment : D → ℕ) (leaves : D → ℕ → List ℕ → Type 0) (genesis : Root) (last : D) where
-  covered : (state : State) (xs : List (DeskCall × DeskReply)) (ms : List ℕ) (from : ℕ) (key : PubKey) (m : Message) → IsDurable state key m → FollowCalls moment leaves genesis last state xs ms from
-      → CoveredFrom moment leaves genesis last from (key, m)
-  covered state [] [] from key m d f = λ k file low high left. images genesis state key m file d (f.1 k file low high left)
+module _ {D : Type 0} (moment : D → ℕ) (leaves : D → ℕ → List ℕ → Type 0) (genesis : Root) (last : Disks D) where
+  covered : (state : State) (xs : List (DeskCall × DeskReply)) (ms : List Moments) (from : Moments) (key : PubKey) (m : Message) → IsDurable state key m → FollowCalls moment leaves genesis last state xs ms from
+      → CoveredFrom moment leaves genesis last ms from (key, m)
+  covered state [] [] from key m d f = λ k files low high left. images genesis state key m files d (f.1 k files low high left)
   covered state [] (y ∷ ys) from key m d f = absurd f
   covered state (x ∷ xs) [] from key m d f = absurd f
-  covered state (x ∷ xs) (y ∷ ys) from key m d f = λ k file low high left.
+  covered state (x ∷ xs) (y ∷ ys) from key m d f =
       let next = after state x.0 x.1 in
-      let later = stays state x.0 x.1 key m d in
-      elim (cases_lt y k) [
-        | inl past ↦ covered next xs ys y key m later f.2 k file (omega arith) high left
-        | inr within ↦ ⊎_elim (λ may. images genesis state key m file d may) (λ may. images genesis next key m file later may) (f.1 k file low within left)
-      ]
+      let later = stays state x.0 x.1 key m d in (
+        λ k files low high left. ⊎_elim (λ may. images genesis state key m files d may) (λ may. images genesis next key m files later may) (f.1 k files low high left),
+        covered next xs ys y key m later f.2,
+      )
 
-  grants_last : (state : State) (xs : List (DeskCall × DeskReply)) (ms : List ℕ) (from : ℕ) → CanMake state xs → FollowCalls moment leaves genesis last state xs ms from → GrantsLast moment leaves genesis last xs ms
+  grants_last : (state : State) (xs : List (DeskCall × DeskReply)) (ms : List Moments) (from : Moments) → CanMake state xs → FollowCalls moment leaves genesis last state xs ms from → GrantsLast moment leaves genesis last xs ms
   grants_last state [] ms from can f = tt
   grants_last state (x ∷ xs) [] from can f = absurd f
   grants_last state (x ∷ xs) (y ∷ ys) from can f =
       let next = after state x.0 x.1 in (
-        if_some (λ sent. IsDurable next sent.0 sent.1) (CoveredFrom moment leaves genesis last y) (granted_by x.0 x.1) (λ sent d. covered next xs ys y sent.0 sent.1 d f.2) (granted_call state x.0 x.1 can.0),
+        if_some (λ sent. IsDurable next sent.0 sent.1) (CoveredFrom moment leaves genesis last ys y) (granted_by x.0 x.1) (λ sent d. covered next xs ys y sent.0 sent.1 d f.2) (granted_call state x.0 x.1 can.0),
         grants_last next xs ys y can.1 f.2,
       )
 
 module _ {D : Type 0} (moment : D → ℕ) (leaves : D → ℕ → List ℕ → Type 0) (faults : D → ℕ) (genesis : Root) (last : Seen D) where
-  abbrev Followed : List (DeskCall × DeskReply) → List ℕ → Seen D → State → Type 0
-  Followed xs ms first state =
-      ((k : ℕ) (file : List ℕ) → k ≤ moment first.disk → leaves last.disk k file → leaves first.disk k file)
-      × FollowCalls moment leaves genesis last.disk state xs ms (moment first.disk)
+  -- what a crash before the first call might have left stays
+  pub record Stays (first : Disks D) : Type 0 where
+    pub first_stays : (k : ℕ) (a : List ℕ) → k ≤ moment first.first → leaves (disks_in last).first k a → leaves first.first k a
+    pub second_stays : (k : ℕ) (b : List ℕ) → k ≤ moment first.second → leaves (disks_in last).second k b → leaves first.second k b
 
-  followed : (xs : List (DeskCall × DeskReply)) (a : Seen D) → Path moment leaves faults a xs last → a.contents.genesis ≡ genesis → LeavesDesk moment leaves a.disk a.contents
-      → (ms : List ℕ) × ((state : State) → DeskStands a.contents state → Followed xs ms a state) × LeavesDesk moment leaves last.disk last.contents
+  abbrev Followed : List (DeskCall × DeskReply) → List Moments → Seen D → State → Type 0
+  Followed xs ms first state = Stays (disks_in first) × FollowCalls moment leaves genesis (disks_in last) state xs ms (now_of moment (disks_in first))
+
+  here : (root : Root) → last.contents.genesis ≡ root → root ≡ genesis → LeavesDesk moment leaves (disks_in last) last.contents → (state : State) → DeskStands last.contents state → Followed [] [] last state
+  here root same is left state stands = (
+    record { first_stays = λ k a le l. l; second_stays = λ k b le l. l },
+    (
+      (omega arith, omega arith),
+      λ k files low high l.
+          let at : k.0 ≡ moment (disks_in last).first = omega (arith, low.0, high.0) in
+          let at_too : k.1 ≡ moment (disks_in last).second = omega (arith, low.1, high.1) in
+          let A : ℕ → Type 0 = λ n. leaves (disks_in last).first n files.0 in
+          let B : ℕ → Type 0 = λ n. leaves (disks_in last).second n files.1 in
+          let G : Root → Type 0 = λ g. MayOpen g state files in
+          subst G (same ∙ is) (left state stands files.0 files.1 (subst A at l.0) (subst B at_too l.1)),
+    ),
+  )
+
+  followed : (xs : List (DeskCall × DeskReply)) (a : Seen D) (path : Path moment leaves faults a xs last) → a.contents.genesis ≡ genesis → LeavesDesk moment leaves (disks_in a) a.contents
+      → ((state : State) → DeskStands a.contents state → Followed xs (moments_behind moment leaves faults a xs last path) a state) × LeavesDesk moment leaves (disks_in last) last.contents
   followed [] a same is left =
-      let P : Seen D → Type 0 = λ d. LeavesDesk moment leaves d.disk d.contents in
-      let Q : Seen D → State → Type 0 = λ d state.
-      ((k : ℕ) (file : List ℕ) → k ≤ moment a.disk → leaves d.disk k file → leaves a.disk k file) × FollowCalls moment leaves genesis d.disk state [] [] (moment a.disk) in
-      let here : (state : State) → DeskStands a.contents state → Q a state = λ state stands. (
-        λ k file le l. l,
-        (
-          omega arith,
-          λ k file low high l.
-              let at : k ≡ moment a.disk = omega arith in
-              let L : ℕ → Type 0 = λ n. leaves a.disk n file in
-              let G : Root → Type 0 = λ g. MayOpen g state file in
-              subst G is (left state stands file (subst L at l)),
-        ),
-      ) in (
-        [],
-        λ state stands. let R : Seen D → Type 0 = λ d. Q d state in subst R (sym same) (here state stands),
-        subst P (sym same) left,
+      let L : Seen D → Type 0 = λ d. LeavesDesk moment leaves (disks_in d) d.contents in
+      let F : Seen D → Type 0 = λ d. (state : State) → DeskStands d.contents state → Followed [] [] d state in
+      let G : Seen D → Type 0 = λ d. d.contents.genesis ≡ genesis in
+      let left_now = subst L (sym same) left in (
+        subst F same (here genesis (subst G (sym same) is) refl left_now),
+        left_now,
       )
   followed (x ∷ xs) a p is left =
       let mid = p.0 in
       let one = p.1 in
       let rest = followed xs mid p.2 (one.counted.genesis ∙ is) one.left in (
-        moment mid.disk ∷ rest.0,
         λ state stands.
             let step = one.machine state stands in
-            let files = one.moments state stands in
-            let more = rest.1 (after state x.0 x.1) step.1 in (
-              λ k file le l. files.past_stays k file le (more.0 k file (omega (arith, files.later)) l),
+            let run = one.moments state stands in
+            let more = rest.0 (after state x.0 x.1) step.1 in (
+              record {
+                first_stays = λ k c le l. run.first_stays k c le (more.0.first_stays k c (omega (arith, le, run.first_later)) l);
+                second_stays = λ k c le l. run.second_stays k c le (more.0.second_stays k c (omega (arith, le, run.second_later)) l);
+              },
               (
-                files.later,
-                λ k file low high l.
-                    let R : Root → Type 0 = λ g. MayOpen g state file ⊎ MayOpen g (after state x.0 x.1) file in
-                    subst R is (files.each k file low high (more.0 k file high l)),
+                (run.first_later, run.second_later),
+                λ k files low high l.
+                    let R : Root → Type 0 = λ g. MayOpen g state files ⊎ MayOpen g (after state x.0 x.1) files in
+                    subst R is (run.each k.0 k.1 files.0 files.1 low.0 high.0 low.1 high.1 (more.0.first_stays k.0 files.0 high.0 l.0) (more.0.second_stays k.1 files.1 high.1 l.1)),
                 more.1,
               ),
             ),
-        rest.2,
+        rest.1,
       )
 
-  pub images_of : (xs : List (DeskCall × DeskReply)) (a : Seen D) → Path moment leaves faults a xs last → a.contents.genesis ≡ genesis → LeavesDesk moment leaves a.disk a.contents → Images moment leaves a last xs
+  pub images_of : (xs : List (DeskCall × DeskReply)) (a : Seen D) → Path moment leaves faults a xs last → a.contents.genesis ≡ genesis → LeavesDesk moment leaves (disks_in a) a.contents → Images moment leaves faults a last xs
   images_of xs a path is left =
       let f = followed xs a path is left in
+      let ms = moments_behind moment leaves faults a xs last path in
+      let from = now_of moment (disks_in a) in
       record {
-        moments = f.0;
+        calls = path;
         follows = λ state stands.
-            let g = f.1 state stands in
-            let F : Root → Type 0 = λ r. FollowCalls moment leaves r last.disk state xs f.0 (moment a.disk) in
-            let here : FollowCalls moment leaves a.contents.genesis last.disk state xs f.0 (moment a.disk) = subst F (sym is) g.1 in
+            let g = f.0 state stands in
+            let F : Root → Type 0 = λ r. FollowCalls moment leaves r (disks_in last) state xs ms from in
+            let follow : FollowCalls moment leaves a.contents.genesis (disks_in last) state xs ms from = subst F (sym is) g.1 in
             record {
-              past_stays = g.0;
-              follow = here;
-              granted = grants_last moment leaves a.contents.genesis last.disk state xs f.0 (moment a.disk) (path_machine moment leaves faults a last xs path state stands).0 here;
+              first_stays = g.0.first_stays;
+              second_stays = g.0.second_stays;
+              follow = follow;
+              granted = grants_last moment leaves a.contents.genesis (disks_in last) state xs ms from (path_machine moment leaves faults a last xs path state stands).0 follow;
             };
-        left = f.2;
+        left = f.1;
       }

@@ -1,13 +1,13 @@
 -- What one line did at a bench: a desk with its disks, and a signer.
-use Rattle.std.specs.Prelude.{◌≡◌, ℕ, ◌≤◌, List, [], ◌∷◌, ◌++◌, map, Option, None, Some, IsSome, IfSome, Result, Ok, Err}
+use Rattle.std.specs.Prelude.{◌≡◌, ℕ, List, [], ◌∷◌, ◌++◌, map, Option, None, Some, IsSome, IfSome, Result, Ok, Err}
 use Rattle.std.specs.Map.{keys_of}
-use Rattle.edge_kit.specs.Causes.{Rose}
+use Rattle.record_journal.specs.TwoDisks.{FaultsLater, EitherRose}
 use Rattle.record_join.specs.BooksPasts.{EachOnce}
 use Rattle.slash_defs.specs.declared.message.Message.{Message}
 use Rattle.sign_roots.specs.declared.domains.Domains.{Domains}
 use Rattle.signer_link.specs.declared.request.SignRequest.{SignRequest}
 use Rattle.signer_link.specs.declared.reply.SignReply.{SignReply}
-use Rattle.check_sign.specs.Contents.{Seen}
+use Rattle.check_sign.specs.Contents.{Seen, disks_in}
 use Rattle.check_sign.specs.Paths.{Path}
 use Rattle.desk_machine.specs.Given.{given}
 use Rattle.desk_machine.specs.declared.open_grant.OpenGrant.{OpenGrant}
@@ -30,13 +30,14 @@ use Rattle.session_run.specs.Turns.{Turn, IsPlanned}
 abbrev pub AtBench : Type 0 → Type 0
 AtBench D = Seat (Seen D)
 
--- how a desk with its disks fared: the count of faults has not fallen, a desk that was up failed only where it rose, and the
--- chain and the other disk are the same
+-- how a desk with its disks fared: no count of faults has fallen, a desk that was up failed only where one rose, and the chain, the
+-- other disk and which file is current are the same
 pub record DeskFares {D : Type 0} (faults : D → ℕ) (old new : Seen D) : Type 0 where
-  pub later : faults old.disk ≤ faults new.disk
-  pub fails : old.contents.torn ≡ None → IsSome new.contents.torn → Rose (faults old.disk) (faults new.disk)
+  pub later : FaultsLater faults (disks_in old) (disks_in new)
+  pub fails : old.contents.torn ≡ None → IsSome new.contents.torn → EitherRose faults (disks_in old) (disks_in new)
   pub genesis : new.contents.genesis ≡ old.contents.genesis
-  pub second : new.second ≡ old.second
+  pub other : new.other ≡ old.other
+  pub place : new.place ≡ old.place
 
 -- these steps led from the one bench to the other: the calls of its desk, each with all that holds of a call whether or not the desk
 -- stands for a state, and what the signer tells and counts

@@ -3,6 +3,8 @@ use Rattle.std.specs.Prelude.{◌≡◌, ℕ, ◌<◌, ◌⊎◌, List, [], ◌�
 use Rattle.std.specs.Io.KnownBytes.{Appends}
 use Rattle.edge_kit.specs.Causes.{Rose}
 use Rattle.sign_roots.specs.declared.domains.Domains.{Domains}
+use Rattle.record_journal.specs.TwoDisks.{EitherRose}
+use Rattle.check_sign.specs.Contents.{disks_in}
 use Rattle.check_sign.specs.Calls.{LeavesDesk}
 use Rattle.desk_machine.specs.declared.call.DeskCall.{DeskCall}
 use Rattle.desk_machine.specs.declared.call.DeskReply.{DeskReply}
@@ -26,16 +28,16 @@ pub record Wires : Type 0 where
   pub reads_failed : ℕ
   pub writes_failed : ℕ
 
--- Why a closing line is written behind the answers of these turns, over a desk with its disk: the input failed within a line, or
--- passed a limit, and the desk is up; or the disk failed at the last of the turns, which are whole lines.
+-- Why a closing line is written behind the answers of these turns, over a desk with its disks: the input failed within a line, or
+-- passed a limit, and the desk is up; or a disk failed at the last of the turns, which are whole lines.
 abbrev pub Because : {D : Type 0} → (D → ℕ) → List Turn → AtBench D → AtBench D → Wires → Wires → ClosingLine → Type 0
 Because faults turns bench_before bench_now before now closing.ReadFault =
     Rose before.reads_failed now.reads_failed × StopsReading before.left now.left turns StoppedShort × (bench_now.desk.contents.torn ≡ None)
 Because faults turns bench_before bench_now before now (closing.TooLong l) =
     StopsReading before.left now.left turns (PassesLimit l) × (bench_now.desk.contents.torn ≡ None)
 Because faults turns bench_before bench_now before now closing.DiskFault =
-    Rose (faults bench_before.desk.disk) (faults bench_now.desk.disk) × IsSome bench_now.desk.contents.torn × ReadsFirst before.left now.left turns
-Because faults turns bench_before bench_now before now (closing.Damaged offset byte) = ⊥
+    EitherRose faults (disks_in bench_before.desk) (disks_in bench_now.desk) × IsSome bench_now.desk.contents.torn × ReadsFirst before.left now.left turns
+Because faults turns bench_before bench_now before now (closing.Damaged file offset byte) = ⊥
 Because faults turns bench_before bench_now before now (closing.GenesisDiffers kept given) = ⊥
 Because faults turns bench_before bench_now before now (closing.FileRefused r) = ⊥
 Because faults turns bench_before bench_now before now (closing.Usage line) = ⊥
@@ -99,7 +101,7 @@ abbrev pub all_made : List Turn → List ClientStep → List (DeskCall × DeskRe
 all_made turns steps = made turns ++ desk_calls steps
 
 -- How a session ends, over the bench and the wires before it and now. Some lines were served, a turn each, and behind them one may
--- have been begun and not answered, where memory ran out. What the status says, the images of the disk at each moment, and the
+-- have been begun and not answered, where memory ran out. What the status says, the images of the disks at each moment, and the
 -- laws are of these turns.
 pub record Ends {D : Type 0} (moment : D → ℕ) (leaves : D → ℕ → List ℕ → Type 0) (faults : D → ℕ) (domains : Domains) (bench_before bench_now : AtBench D) (before now : Wires) (result : Status) : Type 0 where
   pub turns : List Turn
@@ -110,4 +112,4 @@ pub record Ends {D : Type 0} (moment : D → ℕ) (leaves : D → ℕ → List �
   pub ends : EndsBy faults turns line unanswered.steps bench_before mid bench_now before now result
   pub ran : Ran faults domains 0 turns bench_before mid
   pub laws : Laws 0 turns bench_before
-  pub images : LeavesDesk moment leaves bench_before.desk.disk bench_before.desk.contents → Images moment leaves bench_before.desk bench_now.desk (all_made turns unanswered.steps)
+  pub images : LeavesDesk moment leaves (disks_in bench_before.desk) bench_before.desk.contents → Images moment leaves faults bench_before.desk bench_now.desk (all_made turns unanswered.steps)

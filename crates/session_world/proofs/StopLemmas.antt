@@ -1,6 +1,5 @@
 -- That a crash at any moment of a session is a stop behind some of its events, or within the next.
-use Rattle.std.proofs.Common.{◌≡◌, ◌⊎◌, ⊎_elim, ℕ, ◌≤◌, List, [], ◌∷◌, ◌++◌, Option, Some, None, refl, sym, ◌∙◌, ap, subst, append_assoc, arith}
-use Rattle.std.proofs.lemmas.Bool.{cases_lt}
+use Rattle.std.proofs.Common.{◌≡◌, ◌⊎◌, ⊎_elim, ℕ, List, [], ◌∷◌, ◌++◌, Option, Some, None, refl, sym, ◌∙◌, ap, subst, append_assoc, arith}
 use Rattle.std.proofs.lemmas.Grind.{flat_map-append}
 use Rattle.edge_kit.specs.declared.bytes.Root.{Root}
 use Rattle.slash_defs.specs.declared.message.Message.{Message}
@@ -10,10 +9,10 @@ use Rattle.desk_machine.specs.Machine.{after}
 use Rattle.desk_machine.specs.declared.open_grant.OpenGrant.{OpenGrant}
 use Rattle.desk_machine.specs.declared.call.DeskCall.{DeskCall}
 use Rattle.desk_machine.specs.declared.call.DeskReply.{DeskReply}
-use Rattle.check_sign.specs.Contents.{Seen}
+use Rattle.check_sign.specs.Contents.{Seen, disks_in}
+use Rattle.check_sign.specs.Crashes.{Files, LeftAt, Moments, NotAfter, now_of}
 use Rattle.check_sign.specs.Calls.{LeavesDesk}
-use Rattle.check_sign.specs.Paths.{Path}
-use Rattle.check_sign.specs.PathLaws.{path_more}
+use Rattle.check_sign.specs.Paths.{IsDuring, Path}
 use Rattle.check_sign.specs.Standing.{DeskStands, MayOpen, Opens}
 use Rattle.client_calls.specs.Machines.{state_after}
 use Rattle.client_calls.specs.Steps.{ClientCall, ClientReply, ClientStep, Calls, Closes, Signs, Imports, Deletes, Replies, ClosedBy, Signed, Imported, Deleted, step_calls, desk_calls}
@@ -33,8 +32,8 @@ use Rattle.session_world.proofs.EventLemmas.{turns_piece, calls_are, calls_run}
 -- ---- stops
 
 -- before the first of the events, or within it
-here : (genesis : Root) (client : ℕ) (state : State) (events : List Event) (file : List ℕ) (within : Option DeskCall) → IsNextCall within events → IsOfStop genesis state within file → StopsIn genesis client state events file
-here genesis client state events file within next stop = record {
+here : (genesis : Root) (client : ℕ) (state : State) (events : List Event) (files : Files) (within : Option DeskCall) → IsNextCall within events → IsOfStop genesis state within files → StopsIn genesis client state events files
+here genesis client state events files within next stop = record {
   front = [];
   rest = events;
   events_are = refl;
@@ -45,12 +44,12 @@ here genesis client state events file within next stop = record {
   opens = stop.2;
 }
 
-between : (genesis : Root) (client : ℕ) (state : State) (events : List Event) (file : List ℕ) → MayOpen genesis state file → StopsIn genesis client state events file
-between genesis client state events file o = here genesis client state events file None tt (stops_between genesis state file o)
+between : (genesis : Root) (client : ℕ) (state : State) (events : List Event) (files : Files) → MayOpen genesis state files → StopsIn genesis client state events files
+between genesis client state events files o = here genesis client state events files None tt (stops_between genesis state files o)
 
 -- behind the first events
-unfoldable pub later : (genesis : Root) (client : ℕ) (state : State) (xs ys : List Event) (file : List ℕ) → RunsFrom state xs → StopsIn genesis client (state_over state xs) ys file → StopsIn genesis client state (xs ++ ys) file
-later genesis client state xs ys file runs s = record {
+unfoldable pub later : (genesis : Root) (client : ℕ) (state : State) (xs ys : List Event) (files : Files) → RunsFrom state xs → StopsIn genesis client (state_over state xs) ys files → StopsIn genesis client state (xs ++ ys) files
+later genesis client state xs ys files runs s = record {
   front = xs ++ s.front;
   rest = s.rest;
   events_are = ap (λ (l : List Event). xs ++ l) s.events_are ∙ sym (append_assoc xs s.front s.rest);
@@ -61,7 +60,7 @@ later genesis client state xs ys file runs s = record {
       let crash : List Event = Crash client s.within s.done now watch ∷ [] in
       let R : List Event → Type 0 = λ l. RunsFrom state l in
       subst R (sym (append_assoc xs s.front crash)) (runs_both state xs (s.front ++ crash) runs (s.runs now watch));
-  opens = let O : State → Type 0 = λ z. Opens genesis file (lasting_stopped z s.within s.done) in subst O (sym (over_both state xs s.front)) s.opens;
+  opens = let O : State → Type 0 = λ z. Opens genesis files (lasting_stopped z s.within s.done) in subst O (sym (over_both state xs s.front)) s.opens;
 }
 
 -- ---- events without a stop
@@ -145,38 +144,48 @@ calls_in_steps client (s ∷ steps) =
 module _ {D : Type 0} (moment : D → ℕ) (leaves : D → ℕ → List ℕ → Type 0) (faults : D → ℕ) (client : ℕ) where
   -- what a crash before these calls might have left stays
   pub past_stays : (first last : Seen D) (made : List (DeskCall × DeskReply)) → Path moment leaves faults first made last → (state : State) → DeskStands first.contents state
-      → (k : ℕ) (file : List ℕ) → k ≤ moment first.disk → leaves last.disk k file → leaves first.disk k file
-  past_stays first last [] path state stands k file low left = let P : Seen D → Type 0 = λ s. leaves s.disk k file in subst P path left
-  past_stays first last (x ∷ made) path state stands k file low left =
-      let moments = path.1.moments state stands in
+      → (k : Moments) (files : Files) → NotAfter k (now_of moment (disks_in first)) → LeftAt leaves (disks_in last) k files → LeftAt leaves (disks_in first) k files
+  past_stays first last [] path state stands k files low left = let P : Seen D → Type 0 = λ s. LeftAt leaves (disks_in s) k files in subst P path left
+  past_stays first last (x ∷ made) path state stands k files low left =
+      let run = path.1.moments state stands in
       let step = path.1.machine state stands in
-      let later = moments.later in
-      moments.past_stays k file low (past_stays path.0 last made path.2 (after state x.0 x.1) step.1 k file (omega (arith, low, later)) left)
+      let rest = past_stays path.0 last made path.2 (after state x.0 x.1) step.1 k files (omega (arith, low.0, run.first_later), omega (arith, low.1, run.second_later)) left in
+      (run.first_stays k.0 files.0 low.0 rest.0, run.second_stays k.1 files.1 low.1 rest.1)
 
-  events_stop : (genesis : Root) (first last : Seen D) (es : List Event) → NoStop es → first.contents.genesis ≡ genesis → Path moment leaves faults first (calls_in es) last → (state : State) → RunsFrom state es → DeskStands first.contents state
-      → LeavesDesk moment leaves first.disk first.contents → (k : ℕ) (file : List ℕ) → moment first.disk ≤ k → k ≤ moment last.disk → leaves last.disk k file → StopsIn genesis client state es file
-  events_stop genesis first last [] none is path state runs stands left k file low high leaves_it =
-      let P : Seen D → Type 0 = λ s. (k ≤ moment s.disk) × leaves s.disk k file in
-      let here_left = subst P path (high, leaves_it) in
-      let high_here = here_left.0 in
-      let at : k ≡ moment first.disk = omega (arith, low, high_here) in
-      let L : ℕ → Type 0 = λ n. leaves first.disk n file in
-      let G : Root → Type 0 = λ g. MayOpen g state file in
-      between genesis client state [] file (subst G is (left state stands file (subst L at here_left.1)))
-  events_stop genesis first last (Call c x r ∷ es) none is path state runs stands left k file low high leaves_it =
+  events_stop : (genesis : Root) (first last : Seen D) (es : List Event) → NoStop es → first.contents.genesis ≡ genesis → (path : Path moment leaves faults first (calls_in es) last) → (state : State) → RunsFrom state es → DeskStands first.contents state
+      → LeavesDesk moment leaves (disks_in first) first.contents → (k : Moments) (files : Files) → IsDuring moment leaves faults first (calls_in es) last path k → LeftAt leaves (disks_in last) k files → StopsIn genesis client state es files
+  events_stop genesis first last [] none is path state runs stands left k files during leaves_it =
+      let P : Seen D → Type 0 = λ s. NotAfter k (now_of moment (disks_in s)) × LeftAt leaves (disks_in s) k files in
+      let now = subst P path (during.1, leaves_it) in
+      let at : k.0 ≡ moment (disks_in first).first = omega (arith, during.0.0, now.0.0) in
+      let at_too : k.1 ≡ moment (disks_in first).second = omega (arith, during.0.1, now.0.1) in
+      let A : ℕ → Type 0 = λ n. leaves (disks_in first).first n files.0 in
+      let B : ℕ → Type 0 = λ n. leaves (disks_in first).second n files.1 in
+      let G : Root → Type 0 = λ g. MayOpen g state files in
+      between genesis client state [] files (subst G is (left state stands files.0 files.1 (subst A at now.1.0) (subst B at_too now.1.1)))
+  events_stop genesis first last (Call c x r ∷ es) none is path state runs stands left k files during leaves_it =
       let step = path.1.machine state stands in
       let new = after state x r in
-      let moments = path.1.moments state stands in
-      let G : Root → Type 0 = λ g. MayOpen g state file ⊎ MayOpen g new file in
+      let run = path.1.moments state stands in
+      let G : Root → Type 0 = λ g. MayOpen g state files ⊎ MayOpen g new files in
       ⊎_elim
-      (λ over. later genesis client state (Call c x r ∷ []) es file (runs.0, tt)
-      (events_stop genesis path.0 last es none (path.1.counted.genesis ∙ is) path.2 new runs.1 step.1 path.1.left k file (omega (arith, over)) high leaves_it))
-      (λ early. here genesis client state (Call c x r ∷ es) file (Some x) refl
-      (stops_within genesis first.contents state x r file stands step.0 (subst G is (moments.each k file low early (past_stays path.0 last (calls_in es) path.2 new step.1 k file early leaves_it)))))
-      (cases_lt (moment path.0.disk) k)
-  events_stop genesis first last (Send c grant m ∷ es) none is path state runs stands left k file low high leaves_it =
-      later genesis client state (Send c grant m ∷ []) es file (runs.0, tt) (events_stop genesis first last es none is path state runs.1 stands left k file low high leaves_it)
-  events_stop genesis first last (Crash c within done now watch ∷ es) none is path state runs stands left k file low high leaves_it = absurd none
+      (λ within.
+      let was = past_stays path.0 last (calls_in es) path.2 new step.1 k files within.1 leaves_it in
+      here genesis client state (Call c x r ∷ es) files (Some x) refl
+      (stops_within genesis first.contents state x r files stands step.0 (subst G is (run.each k.0 k.1 files.0 files.1 within.0.0 within.1.0 within.0.1 within.1.1 was.0 was.1))))
+      (λ over. later genesis client state (Call c x r ∷ []) es files (runs.0, tt)
+      (events_stop genesis path.0 last es none (path.1.counted.genesis ∙ is) path.2 new runs.1 step.1 path.1.left k files over leaves_it))
+      during
+  events_stop genesis first last (Send c grant m ∷ es) none is path state runs stands left k files during leaves_it =
+      later genesis client state (Send c grant m ∷ []) es files (runs.0, tt) (events_stop genesis first last es none is path state runs.1 stands left k files during leaves_it)
+  events_stop genesis first last (Crash c within done now watch ∷ es) none is path state runs stands left k files during leaves_it = absurd none
+
+  -- the same, where their calls are these
+  calls_stop_in : (genesis : Root) (first last : Seen D) (es : List Event) (made : List (DeskCall × DeskReply)) → calls_in es ≡ made → NoStop es → first.contents.genesis ≡ genesis → (state : State) → RunsFrom state es → DeskStands first.contents state
+      → LeavesDesk moment leaves (disks_in first) first.contents → (path : Path moment leaves faults first made last) (k : Moments) (files : Files) → IsDuring moment leaves faults first made last path k → LeftAt leaves (disks_in last) k files → StopsIn genesis client state es files
+  calls_stop_in genesis first last es made are none is state runs stands left =
+      let Q : List (DeskCall × DeskReply) → Type 0 = λ l. (path : Path moment leaves faults first l last) (k : Moments) (files : Files) → IsDuring moment leaves faults first l last path k → LeftAt leaves (disks_in last) k files → StopsIn genesis client state es files in
+      subst Q are (λ path k files during leaves_it. events_stop genesis first last es none is path state runs stands left k files during leaves_it)
 
   -- ---- behind the calls that were over
 
@@ -184,27 +193,26 @@ module _ {D : Type 0} (moment : D → ℕ) (leaves : D → ℕ → List ℕ → 
   calls_both [] ys = refl
   calls_both (x ∷ xs) ys = ap (λ (l : List Event). Call client x.0 x.1 ∷ l) (calls_both xs ys)
 
-  same_desk_leaves : (a b : Seen D) → b ≡ a → LeavesDesk moment leaves a.disk a.contents → LeavesDesk moment leaves b.disk b.contents × (b.contents.genesis ≡ a.contents.genesis)
-  same_desk_leaves a b e left = let P : Seen D → Type 0 = λ x. LeavesDesk moment leaves x.disk x.contents × (x.contents.genesis ≡ a.contents.genesis) in subst P (sym e) (left, refl)
+  same_desk_leaves : (a b : Seen D) → b ≡ a → LeavesDesk moment leaves (disks_in a) a.contents → LeavesDesk moment leaves (disks_in b) b.contents × (b.contents.genesis ≡ a.contents.genesis)
+  same_desk_leaves a b e left = let P : Seen D → Type 0 = λ x. LeavesDesk moment leaves (disks_in x) x.contents × (x.contents.genesis ≡ a.contents.genesis) in subst P (sym e) (left, refl)
 
-  led : (a b : Seen D) (made : List (DeskCall × DeskReply)) → Path moment leaves faults a made b → LeavesDesk moment leaves a.disk a.contents → LeavesDesk moment leaves b.disk b.contents × (b.contents.genesis ≡ a.contents.genesis)
+  led : (a b : Seen D) (made : List (DeskCall × DeskReply)) → Path moment leaves faults a made b → LeavesDesk moment leaves (disks_in a) a.contents → LeavesDesk moment leaves (disks_in b) b.contents × (b.contents.genesis ≡ a.contents.genesis)
   led a b [] path left = same_desk_leaves a b path left
   led a b (x ∷ made) path left = let rest = led path.0 b made path.2 path.1.left in (rest.0, rest.1 ∙ path.1.counted.genesis)
 
 pub calls_stop : {D : Type 0} (moment : D → ℕ) (leaves : D → ℕ → List ℕ → Type 0) (faults : D → ℕ) → CallsStop moment leaves faults
 unfolding later
-calls_stop moment leaves faults first mid last over rest path_over path_rest client state stands left k file low high is_left =
+calls_stop moment leaves faults first mid last over rest path_over path_rest client state stands left k files during is_left =
     let genesis = first.contents.genesis in
     let events = calls_of client over in
     let are = calls_run moment leaves faults first mid over path_over client state stands in
     let far = led moment leaves faults client first mid over path_over left in
     let at = state_over state events in
     let rest_are = calls_are moment leaves faults client mid last rest path_rest at are.stands in
-    let R : List (DeskCall × DeskReply) → Type 0 = λ l. Path moment leaves faults mid l last in
-    let stop = events_stop moment leaves faults client genesis mid last (calls_of client rest) (no_stop_calls client rest) far.1 (subst R (sym (calls_in_calls client rest)) path_rest) at rest_are.runs are.stands far.0 k file low high is_left in
-    let A : List Event → Type 0 = λ l. StopsBehind genesis client state events l file in
+    let stop = calls_stop_in moment leaves faults client genesis mid last (calls_of client rest) rest (calls_in_calls client rest) (no_stop_calls client rest) far.1 at rest_are.runs are.stands far.0 path_rest k files during is_left in
+    let A : List Event → Type 0 = λ l. StopsBehind genesis client state events l files in
     subst A (sym (calls_both moment leaves faults client over rest))
-    (record { stop = later genesis client state events (calls_of client rest) file are.runs stop; more = stop.front; front_is = refl })
+    (record { stop = later genesis client state events (calls_of client rest) files are.runs stop; more = stop.front; front_is = refl })
 
 -- ---- a session
 
@@ -213,7 +221,7 @@ turns_both client ts us = ap (steps_events client) (flat_map-append steps_in ts 
 
 pub session_stops : {D : Type 0} (moment : D → ℕ) (leaves : D → ℕ → List ℕ → Type 0) (faults : D → ℕ) → SessionStops moment leaves faults
 unfolding later
-session_stops {D} moment leaves faults domains first last before now result ends over rest here turns_are_both run_over run_rest client state stands left k file low high is_left =
+session_stops {D} moment leaves faults domains first last before now result ends over rest here turns_are_both run_over run_rest client state stands left path k files during is_left =
     let genesis = first.desk.contents.genesis in
     let mid = ends.mid in
     let latest = moment_after 0 over in
@@ -235,13 +243,11 @@ session_stops {D} moment leaves faults domains first last before now result ends
     let turn_calls = calls_in_steps client (steps_of rest) in
     let calls_are_all : calls_in more ≡ made rest ++ tail =
     calls_in_both (turn_events client rest) (calls_of client tail) ∙ ap (λ (l : List (DeskCall × DeskReply)). l ++ calls_in (calls_of client tail)) turn_calls.0 ∙ ap (λ (l : List (DeskCall × DeskReply)). made rest ++ l) (calls_in_calls client tail) in
-    let P : List (DeskCall × DeskReply) → Type 0 = λ l. Path moment leaves faults here.desk l last.desk in
-    let path : Path moment leaves faults here.desk (calls_in more) last.desk = subst P (sym calls_are_all) (path_more moment leaves faults here.desk mid.desk last.desk (made rest) tail rest_path ends.unanswered.makes.desk) in
     let none : NoStop more = no_stop_both (turn_events client rest) (calls_of client tail) turn_calls.1 (no_stop_calls client tail) in
-    let stop = events_stop moment leaves faults client genesis here.desk last.desk more none far.1 path at runs over_by.1 far.0 k file low high is_left in
-    let S : State → Type 0 = λ z. StopsIn genesis client z more file in
-    let there : StopsIn genesis client (state_over state events) more file = subst S (sym first_piece.ends) stop in
+    let stop = calls_stop_in moment leaves faults client genesis here.desk last.desk more (made rest ++ tail) calls_are_all none far.1 at runs over_by.1 far.0 path k files during is_left in
+    let S : State → Type 0 = λ z. StopsIn genesis client z more files in
+    let there : StopsIn genesis client (state_over state events) more files = subst S (sym first_piece.ends) stop in
     let whole : events ++ more ≡ turn_events client ends.turns ++ calls_of client tail =
     sym (append_assoc events (turn_events client rest) (calls_of client tail)) ∙ ap (λ (l : List Event). l ++ calls_of client tail) (sym (ap (turn_events client) turns_are_both ∙ turns_both client over rest)) in
-    let A : List Event → Type 0 = λ l. StopsBehind genesis client state events l file in
-    subst A whole (record { stop = later genesis client state events more file first_piece.runs there; more = there.front; front_is = refl })
+    let A : List Event → Type 0 = λ l. StopsBehind genesis client state events l files in
+    subst A whole (record { stop = later genesis client state events more files first_piece.runs there; more = there.front; front_is = refl })

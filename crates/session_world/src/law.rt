@@ -8,11 +8,11 @@ use edge_kit::Disk;
 
 /// However a session ends, what it did is a list of events of one client: they may happen from each state that the
 /// desk stood for, one after the other; the messages that are sent in it are those of its signed lines, in order;
-/// and at the end the desk stands for the state after them. Where each file that a crash at the start would have left
-/// opens to what the desk stood for, each that a crash at any moment of the session leaves opens to what a stop leaves
-/// behind the first few of these events, maybe within the next; and those of the lines that were over by then, as the
-/// disk stood behind them, are among these few. Over a disk that tells nothing of what it leaves, as a real file, this
-/// says nothing of files.
+/// and at the end the desk stands for the state after them. Where the files that a crash at the start would have
+/// left open to what the desk stood for, those that a crash at any moment of the session leaves open to what a stop
+/// leaves behind the first few of these events, maybe within the next; and those of the lines that were over by then,
+/// as the disks stood behind them, are among these few. Over disks that tell nothing of what they leave, as real files,
+/// this says nothing of files.
 pub fn session_law<D: Disk>()
     ensures runs { SessionRuns D.moment D.leaves D.faults }
     ensures stops { SessionStops D.moment D.leaves D.faults }
@@ -26,15 +26,15 @@ pub fn calls_law<D: Disk>()
 {}
 
 /// A desk that is opened over what such a stop left stands for the state after the stop, and a crash while it is
-/// opened, or refused, leaves what such a stop leaves. A file that is no journal yet, or an empty one, is what a stop
-/// leaves of a client that has done nothing.
+/// opened, or refused, leaves what such a stop leaves. Files that are no journal yet, or an empty one, are what a
+/// stop leaves of a client that has done nothing.
 pub fn start_law<D: Disk>()
     ensures again { StartsAgain D.shows D.moment D.leaves D.faults }
-    ensures keep { StartsKeep D.moment D.leaves }
+    ensures keep { StartsKeep D.shows D.moment D.leaves }
     ensures empty { StartsEmpty }
 {}
 
-/// However a run of the program that was asked for a session, a merge or a showing ends, over a disk that shows what a
+/// However a run of the program that was asked for a session, a merge or a showing ends, over disks that show what a
 /// stop of the client left, and of which a crash leaves such files: the client did nothing, and what a crash leaves is
 /// as before; or it started, and what its lines did, as `session_law` says, or its one call, are events of it behind
 /// those before the stop. So the runs over one journal, one after another, are one list of events of one client, which

@@ -1,11 +1,13 @@
 -- A session over the desk of a journal.
-use Rattle.std.proofs.Common.{◌≡◌, ℕ, ◌≤◌, Bool, List, Option, refl, sym, ◌∙◌, subst, inr, arith}
+use Rattle.std.proofs.Common.{◌≡◌, ℕ, Bool, List, Option, refl, sym, subst, inr}
 use Rattle.edge_kit.specs.Causes.{Rose}
 use Rattle.edge_kit.specs.declared.disk.Disks.{Disks}
 use Rattle.sign_roots.specs.declared.domains.Domains.{Domains}
 use Rattle.signer_link.specs.declared.reply.Told.{Told}
 use Rattle.desk_machine.specs.declared.event.DeskEvent.{DeskEvent}
-use Rattle.check_sign.specs.Contents.{Seen}
+use Rattle.record_journal.specs.TwoDisks.{EitherRose}
+use Rattle.check_sign.specs.Contents.{Seen, disks_in}
+use Rattle.check_sign.proofs.FaultLemmas.{either_back}
 use Rattle.check_sign.specs.Calls.{LeavesDesk}
 use Rattle.check_sign.specs.Opening.{Opening}
 use Rattle.program_end.specs.declared.status.Status.{Status}
@@ -39,7 +41,7 @@ pub at_bench : {D : Type 0} (b : AtBench D) (desk : Seen D) (told : Option (List
 at_bench b desk told failed denied d t f n = λ i. record { desk = d i; signer = record { told = t i; faults = f i; denials = n i } }
 
 fares_as : {D : Type 0} (faults : D → ℕ) (old new : Seen D) → DeskFares faults old new → Fares faults old new
-fares_as faults old new f = record { genesis = f.genesis; second = f.second; later = f.later; fails = f.fails }
+fares_as faults old new f = record { genesis = f.genesis; other = f.other; place = f.place; later = f.later; fails = f.fails }
 
 module _ {D : Type 0} (shows : D → List ℕ → Type 0) (moment : D → ℕ) (leaves : D → ℕ → List ℕ → Type 0) (faults : D → ℕ) (domains : Domains) (before now : Outside) (result : Status) (opened ended : Seen D) where
   abbrev pub Served : Status → Type 0
@@ -54,15 +56,11 @@ module _ {D : Type 0} (shows : D → List ℕ → Type 0) (moment : D → ℕ) (
       let N : AtBench D → Type 0 = λ x. Ends moment leaves faults domains (bench_at opened before) x (wires_of before.view) (wires_of now.view) result in
       subst N n (subst B b (subst E d ends))
 
-  module _ (watch : Bool) (first last : Disks D) (events : List DeskEvent) (opening : Opening shows moment leaves faults first.first first.second domains.genesis watch 0 opened) (handed : Handed ended last events) (ends : Served result) where
-    pub session_ended : LeavesDesk moment leaves ended.disk ended.contents → SessionEnds shows moment leaves faults domains watch first last before now events result
+  module _ (watch : Bool) (first last : Disks D) (events : List DeskEvent) (opening : Opening shows moment leaves faults first domains.genesis watch 0 opened) (handed : Handed ended last events) (ends : Served result) where
+    pub session_ended : LeavesDesk moment leaves (disks_in ended) ended.contents → SessionEnds shows moment leaves faults domains watch first last before now events result
     session_ended left = inr (had_desk moment leaves faults shows domains.genesis watch first last events
         (λ o e. Ends moment leaves faults domains (bench_at o before) (bench_at e now) (wires_of before.view) (wires_of now.view) result) opened ended opening ends
         (fares_as faults opened ended (ends_fares moment leaves faults domains (bench_at opened before) (bench_at ended now) (wires_of before.view) (wires_of now.view) result ends)) left handed)
-
-    pub session_second : last.second ≡ first.second
-    session_second =
-        handed.second ∙ (ends_fares moment leaves faults domains (bench_at opened before) (bench_at ended now) (wires_of before.view) (wires_of now.view) result ends).second ∙ opening.second_is
 
     pub session_read : result ≡ status.ReadFault → Rose before.view.failed now.view.failed
     session_read = ends_read moment leaves faults domains (bench_at opened before) (bench_at ended now) (wires_of before.view) (wires_of now.view) result ends
@@ -70,15 +68,13 @@ module _ {D : Type 0} (shows : D → List ℕ → Type 0) (moment : D → ℕ) (
     pub session_write : result ≡ status.WriteFault → Rose before.view.out.failed now.view.out.failed
     session_write = ends_write moment leaves faults domains (bench_at opened before) (bench_at ended now) (wires_of before.view) (wires_of now.view) result ends
 
-    pub session_disk : result ≡ status.DiskFault → Rose (faults first.first) (faults last.first)
+    pub session_disk : result ≡ status.DiskFault → EitherRose faults first last
     session_disk is =
-        let R : D → Type 0 = λ disk. Rose (faults first.first) (faults disk) in
+        let R : Disks D → Type 0 = λ disks. EitherRose faults first disks in
         let rose = ends_disk moment leaves faults domains (bench_at opened before) (bench_at ended now) (wires_of before.view) (wires_of now.view) result ends is in
-        subst R (sym handed.first) (earlier (faults first.first) (faults opened.disk) (faults ended.disk) opening.later rose) where
-          earlier : (x y z : ℕ) → x ≤ y → Rose y z → Rose x z
-          earlier x y z low r = omega arith
+        subst R (sym handed.disks) (either_back faults first (disks_in opened) (disks_in ended) opening.later rose)
 
-    pub session_complete : WithinLimits before.view.left → ¬ (Rose before.view.failed now.view.failed) → ¬ (Rose before.view.out.failed now.view.out.failed) → ¬ (Rose (faults first.first) (faults last.first)) → IsSessionComplete result
+    pub session_complete : WithinLimits before.view.left → ¬ (Rose before.view.failed now.view.failed) → ¬ (Rose before.view.out.failed now.view.out.failed) → ¬ (EitherRose faults first last) → IsSessionComplete result
     session_complete within reads writes disk = at result refl where
       at : (st : Status) → result ≡ st → IsSessionComplete st
       at status.Done is = tt

@@ -53,7 +53,7 @@ wires_of view = record { left = view.left; held = view.out.held; reads_failed = 
 abbrev pub bench_at : {D : Type 0} → Seen D → Outside → AtBench D
 bench_at desk o = record { desk = desk; signer = record { told = o.told; faults = o.signs_failed; denials = o.signs_denied } }
 
--- a session over the desk of a disk, its keys watched or not; where none was opened nothing was read or asked
+-- a session over the desk of two disks, its keys watched or not; where none was opened nothing was read or asked
 abbrev pub SessionEnds : {D : Type 0} → (D → List ℕ → Type 0) → (D → ℕ) → (D → ℕ → List ℕ → Type 0) → (D → ℕ) → Domains → Bool → Disks D → Disks D → Outside → Outside → List DeskEvent → Status → Type 0
 SessionEnds shows moment leaves faults domains watch disks_before disks_now before now events ended =
     (NotOpened shows moment leaves faults domains.genesis disks_before disks_now before.view.out now.view.out events ended × IsUntouched before now)
@@ -125,7 +125,7 @@ IsComplete (rehearse number clients steps) s = IsRehearsalComplete s
 IsComplete shown s = (s ≡ status.Done) ⊎ (s ≡ status.OutOfMemory)
 IsComplete nothing s = ⊥
 
--- what a status tells of the counts of faults that rose: the input's, the output's and the first disk's; and where none did and the
+-- what a status tells of the counts of faults that rose: the input's, the output's and a disk's; and where none did and the
 -- input is within its limits, the run is complete
 pub record Causes (asked : Asked) (left : Option (List ℕ)) (Reads Writes Disk : Type 0) (s : Status) : Type 0 where
   pub read_fault : s ≡ status.ReadFault → Reads

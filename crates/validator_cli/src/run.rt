@@ -1,6 +1,7 @@
 //! The top call.
 ghost use Rattle.std.specs.Prelude.{◌≡◌, ◌⊎◌, ◌≤◌, ℕ, List, [], map, string_bytes};
 ghost use Rattle.edge_kit.specs.Causes.{Rose};
+ghost use Rattle.record_journal.specs.TwoDisks.{EitherRose};
 ghost use Rattle.command_line.specs.Plans.{asked_of, nothing};
 ghost use Rattle.journal_commands.specs.Views.{Unwritten, output_of};
 ghost use Rattle.validator_cli.specs.Endings.{Causes, IsComplete, IsWithin, NoCommand, RunEnds, outside_of};
@@ -51,11 +52,10 @@ pub fn run_validator<
         → (result.status ≡ Status.Usage) ⊎ (result.status ≡ Status.WriteFault) ⊎ (result.status ≡ Status.OutOfMemory) }
     ensures read_fault { result.status ≡ Status.ReadFault → Rose (I.faults input.old) (I.faults input.new) }
     ensures write_fault { result.status ≡ Status.WriteFault → Rose (O.faults out.old) (O.faults out.new) }
-    ensures disk_fault { result.status ≡ Status.DiskFault → Rose (D.faults disks.first) (D.faults result.disks.first) }
+    ensures disk_fault { result.status ≡ Status.DiskFault → EitherRose D.faults disks result.disks }
     ensures complete { IsWithin (asked_of (map string_bytes words.now)) (I.left input.old)
-        → ¬ (Rose (I.faults input.old) (I.faults input.new)) → ¬ (Rose (O.faults out.old) (O.faults out.new)) → ¬ (Rose (D.faults disks.first) (D.faults result.disks.first))
+        → ¬ (Rose (I.faults input.old) (I.faults input.new)) → ¬ (Rose (O.faults out.old) (O.faults out.new)) → ¬ (EitherRose D.faults disks result.disks)
         → IsComplete (asked_of (map string_bytes words.now)) result.status }
-    ensures second { result.disks.second ≡ disks.second }
     ensures nodes { result.nodes ≡ nodes }
     ensures door { result.door ≡ door }
     ensures lanes { result.lanes.items ≡ [] }
@@ -84,8 +84,7 @@ fn run_words<D: Disk, S: Signer, I: Source, O: Sink>(
     ensures ending { RunEnds D.shows D.moment D.leaves D.faults (asked_of (map string_bytes words.now)) disks result.1
         (outside_of I.left I.faults O.held O.faults S.told S.faults S.denials input.old out.old signer) (outside_of I.left I.faults O.held O.faults S.told S.faults S.denials input.new out.new result.2) result.3 result.0 }
     ensures causes { Causes (asked_of (map string_bytes words.now)) (I.left input.old)
-        (Rose (I.faults input.old) (I.faults input.new)) (Rose (O.faults out.old) (O.faults out.new)) (Rose (D.faults disks.first) (D.faults result.1.first)) result.0 }
-    ensures second { result.1.second ≡ disks.second }
+        (Rose (I.faults input.old) (I.faults input.new)) (Rose (O.faults out.old) (O.faults out.new)) (EitherRose D.faults disks result.1) result.0 }
 {
     let planned = match plan(alloc, words) {
         Ok(Ok(planned)) => planned,

@@ -1,6 +1,7 @@
 //! A session: a request a line in, an answer a line out.
 ghost use Rattle.std.specs.Prelude.{◌≡◌, ◌≤◌, ℕ, Bool, List, Option};
 ghost use Rattle.edge_kit.specs.Causes.{Rose};
+ghost use Rattle.record_journal.specs.TwoDisks.{EitherRose};
 ghost use Rattle.edge_kit.specs.declared.bytes.Root.{Root};
 ghost use Rattle.phase0_types.specs.declared.fork.Fork.{Fork};
 ghost use Rattle.service_url.specs.Services.{Service};
@@ -18,9 +19,8 @@ use signer_link::Signer;
 use std::alloc::Global;
 
 /// Does what a session's plan says: serves the lines of the input, a request each, over the desk of the journal
-/// on the first disk, which is begun where there is none, with or without a watch as the plan says: an active
-/// key is watched from epoch 0 on, and one that becomes active later from then on. The second disk comes back
-/// untouched.
+/// on the disks, which is begun where there is none, with or without a watch as the plan says: an active key is
+/// watched from epoch 0 on, and one that becomes active later from then on.
 ///
 /// The status is that of the lines (`serve_lines`); or, with a line that closes the output, `DiskFault`,
 /// `Damaged`, `GenesisDiffers` and `InputTooLong(Limit::Keys)` where the journal is not opened, and nothing was
@@ -37,12 +37,11 @@ pub fn run_session<D: Disk, S: Signer, I: Source, O: Sink>(
     ensures ends { (genesis : Root) (journal : Option (List ℕ)) (fork : Fork) (signer_at : Option Service) (watch : Bool) → plan.now ≡ Plan.Session genesis journal fork signer_at watch
         → SessionEnds D.shows D.moment D.leaves D.faults (record { fork = fork; genesis = genesis }) watch disks result.1
         (outside_of I.left I.faults O.held O.faults S.told S.faults S.denials input.old out.old signer) (outside_of I.left I.faults O.held O.faults S.told S.faults S.denials input.new out.new result.2) result.3 result.0 }
-    ensures second { result.1.second ≡ disks.second }
     ensures read_fault { result.0 ≡ Status.ReadFault → Rose (I.faults input.old) (I.faults input.new) }
     ensures write_fault { result.0 ≡ Status.WriteFault → Rose (O.faults out.old) (O.faults out.new) }
-    ensures disk_fault { result.0 ≡ Status.DiskFault → Rose (D.faults disks.first) (D.faults result.1.first) }
+    ensures disk_fault { result.0 ≡ Status.DiskFault → EitherRose D.faults disks result.1 }
     ensures complete { WithinLimits (I.left input.old)
-        → ¬ (Rose (I.faults input.old) (I.faults input.new)) → ¬ (Rose (O.faults out.old) (O.faults out.new)) → ¬ (Rose (D.faults disks.first) (D.faults result.1.first))
+        → ¬ (Rose (I.faults input.old) (I.faults input.new)) → ¬ (Rose (O.faults out.old) (O.faults out.new)) → ¬ (EitherRose D.faults disks result.1)
         → IsSessionComplete result.0 }
 {
     let Plan::Session {

@@ -16,6 +16,7 @@ use Rattle.record_replay.specs.Replaying.{lasting_state, lasting_states}
 use Rattle.record_replay.specs.declared.state.KeyState.{KeyState}
 use Rattle.record_replay.specs.declared.state.KeyState.TheVariants.{Active, Closing}
 use Rattle.check_sign.specs.Contents.{Contents}
+use Rattle.check_sign.specs.Crashes.{Files}
 use Rattle.desk_machine.specs.States.{State, Lasting, lasting, past_of}
 use Rattle.check_sign.specs.Standing.{DeskStands, MayOpen, Opens}
 use Rattle.desk_machine.specs.Handing.{IsExport}
@@ -46,7 +47,7 @@ closing_lasts (a ∷ more) key e = at (is_at (key_cmp key) a.0) e (closing_lasts
   at false h rest = ap (λ l. (a.0, lasting_state a.1) ∷ l) (rest h)
 
 -- a file opens to what lasts by the states that outlast a stop alone
-opens_same : (genesis : Root) (file : List ℕ) (l : Lasting) (states : List (PubKey × KeyState)) → lasting_states l.states ≡ lasting_states states → Opens genesis file l → Opens genesis file (record { keys = l.keys; states = states; size = l.size })
+opens_same : (genesis : Root) (file : Files) (l : Lasting) (states : List (PubKey × KeyState)) → lasting_states l.states ≡ lasting_states states → Opens genesis file l → Opens genesis file (record { keys = l.keys; states = states; size = l.size })
 opens_same genesis file l states e o = record {
   payloads = o.payloads;
   read = o.read;
@@ -58,10 +59,10 @@ opens_same genesis file l states e o = record {
 
 -- ---- the ways to stop
 
-undone : (genesis : Root) (state : State) (within : Option DeskCall) (file : List ℕ) → Opens genesis file (lasting state) → IsOfStop genesis state within file
+undone : (genesis : Root) (state : State) (within : Option DeskCall) (file : Files) → Opens genesis file (lasting state) → IsOfStop genesis state within file
 undone genesis state within file o = (false, tt, o)
 
-torn_done : (genesis : Root) (state : State) (within : Option DeskCall) (file : List ℕ) → IsSomeAnd state.torn (λ l. Opens genesis file l) → IsOfStop genesis state within file
+torn_done : (genesis : Root) (state : State) (within : Option DeskCall) (file : Files) → IsSomeAnd state.torn (λ l. Opens genesis file l) → IsOfStop genesis state within file
 torn_done genesis state within file h = at state.torn refl h where
   at : (t : Option Lasting) → state.torn ≡ t → IsSomeAnd t (λ l. Opens genesis file l) → IsOfStop genesis state within file
   at None e x = absurd x
@@ -71,7 +72,7 @@ torn_done genesis state within file h = at state.torn refl h where
       let may : M (Some l) = tt in
       (true, subst M (sym e) may, subst O (sym e) x)
 
-call_done : (genesis : Root) (state : State) (c : DeskCall) (file : List ℕ) → state.torn ≡ None → HasOk state c → Opens genesis file (lasting_after state c) → IsOfStop genesis state (Some c) file
+call_done : (genesis : Root) (state : State) (c : DeskCall) (file : Files) → state.torn ≡ None → HasOk state c → Opens genesis file (lasting_after state c) → IsOfStop genesis state (Some c) file
 call_done genesis state c file up ok o =
     let M : Option Lasting → Type 0 = λ lt. MayBeDone state lt (Some c) in
     let O : Option Lasting → Type 0 = λ lt. Opens genesis file (lasting_done state lt (Some c)) in
@@ -106,7 +107,7 @@ succeeds_ok desk state (call.Prune key) stands w s =
 succeeds_ok desk state c stands w s = absurd w
 
 -- what a torn call may leave
-torn_left : (genesis : Root) (desk : Contents) (state : State) (c : DeskCall) (file : List ℕ) → DeskStands desk state → Reply state c reply.Disk
+torn_left : (genesis : Root) (desk : Contents) (state : State) (c : DeskCall) (file : Files) → DeskStands desk state → Reply state c reply.Disk
     → IsSomeAnd (torn_first state.torn (lasting_after state c)) (λ l. Opens genesis file l) → IsOfStop genesis state (Some c) file
 torn_left genesis desk state c file stands h o = at state.torn refl where
   fault : MayFail state c × CanFail c
@@ -131,7 +132,7 @@ pub stops_between : StopsBetween
 stops_between genesis state file (inl o) = undone genesis state None file o
 stops_between genesis state file (inr t) = torn_done genesis state None file t
 
-after_torn : (genesis : Root) (desk : Contents) (state : State) (c : DeskCall) (r : DeskReply) (file : List ℕ) → DeskStands desk state → Reply state c r → IsSomeAnd (after state c r).torn (λ l. Opens genesis file l) → IsOfStop genesis state (Some c) file
+after_torn : (genesis : Root) (desk : Contents) (state : State) (c : DeskCall) (r : DeskReply) (file : Files) → DeskStands desk state → Reply state c r → IsSomeAnd (after state c r).torn (λ l. Opens genesis file l) → IsOfStop genesis state (Some c) file
 after_torn genesis desk state (call.Merge file) (reply.Merged keys) bytes stands h t = torn_done genesis state (Some (call.Merge file)) bytes t
 after_torn genesis desk state (call.Activate key now) reply.Active bytes stands h t = torn_done genesis state (Some (call.Activate key now)) bytes t
 after_torn genesis desk state (call.Propose key m now) (reply.Granted grant) bytes stands h t = torn_done genesis state (Some (call.Propose key m now)) bytes t
@@ -144,7 +145,7 @@ after_torn genesis desk state (call.Prune key) (reply.Pruned book) bytes stands 
 after_torn genesis desk state c reply.Disk bytes stands h t = torn_left genesis desk state c bytes stands h t
 after_torn genesis desk state c r bytes stands h t = torn_done genesis state (Some c) bytes t
 
-after_call : (genesis : Root) (desk : Contents) (state : State) (c : DeskCall) (r : DeskReply) (file : List ℕ) → DeskStands desk state → Reply state c r → MayOpen genesis (after state c r) file → IsOfStop genesis state (Some c) file
+after_call : (genesis : Root) (desk : Contents) (state : State) (c : DeskCall) (r : DeskReply) (file : Files) → DeskStands desk state → Reply state c r → MayOpen genesis (after state c r) file → IsOfStop genesis state (Some c) file
 after_call genesis desk state (call.Merge file) (reply.Merged keys) bytes stands h (inl o) = call_done genesis state (call.Merge file) bytes h.0.0 (reply.Merged keys, tt, h) o
 after_call genesis desk state (call.Activate key now) reply.Active bytes stands h (inl o) = call_done genesis state (call.Activate key now) bytes h.0 (reply.Active, tt, h) o
 after_call genesis desk state (call.Propose key m now) (reply.Granted grant) bytes stands h (inl o) = call_done genesis state (call.Propose key m now) bytes h.0.0 (reply.Granted grant, tt, h) o

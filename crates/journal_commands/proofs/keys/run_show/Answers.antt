@@ -13,4 +13,4 @@ returns-clause-ends g c = λ genesis journal is.
     let E : Root → Type 0 = λ root. ShowEnds g.D.Disk.shows g.D.Disk.moment g.D.Disk.leaves g.D.Disk.faults root c.args.disks c.end-disks.result.0 before now c.end-disks.result.1 c.show_desk-status.result in
     subst E (ap (root_of c.in-Show.genesis) (sym c.in-Show.is ∙ is))
     (show_ended g.D.Disk.shows g.D.Disk.moment g.D.Disk.leaves g.D.Disk.faults c.in-Show.genesis c.args.disks c.end-disks.result.0 before now c.end-disks.result.1 c.show_desk-status.result
-    c.in-Ok.desk c.show_desk-status.new.desk c.in-Ok.ensures.opened c.show_desk-status.ensures.ends (record { first = c.end-disks.ensures.first; second = c.end-disks.ensures.second; noted = c.end-disks.ensures.events }))
+    c.in-Ok.desk c.show_desk-status.new.desk c.in-Ok.ensures.opened c.show_desk-status.ensures.ends (record { disks = c.end-disks.ensures.disks; noted = c.end-disks.ensures.events }))

@@ -13,4 +13,4 @@ returns-clause-ends g c = λ genesis journal is.
     let E : Root → Type 0 = λ root. MergeEnds g.D.Disk.shows g.D.Disk.moment g.D.Disk.leaves g.D.Disk.faults root c.args.disks c.end-disks.result.0 before now c.end-disks.result.1 c.merge_input-status.result in
     subst E (ap (root_of c.in-Merge.genesis) (sym c.in-Merge.is ∙ is))
     (merge_ended g.D.Disk.shows g.D.Disk.moment g.D.Disk.leaves g.D.Disk.faults c.in-Merge.genesis c.args.disks c.end-disks.result.0 before now c.end-disks.result.1 c.merge_input-status.result
-    c.in-Ok.desk c.merge_input-status.new.desk c.in-Ok.ensures.opened c.merge_input-status.ensures.ends (record { first = c.end-disks.ensures.first; second = c.end-disks.ensures.second; noted = c.end-disks.ensures.events }))
+    c.in-Ok.desk c.merge_input-status.new.desk c.in-Ok.ensures.opened c.merge_input-status.ensures.ends (record { disks = c.end-disks.ensures.disks; noted = c.end-disks.ensures.events }))

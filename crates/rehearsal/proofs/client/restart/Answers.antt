@@ -1,5 +1,6 @@
 use Rattle.std.proofs.Common.{subst}
 use Rattle.edge_kit.specs.OnMemDisks.{Leaves}
+use Rattle.edge_kit.specs.declared.disk.Disks.{Disks}
 use Rattle.edge_kit.specs.declared.mem_disk.MemDisk.{MemDisk}
 use Rattle.rehearsal.proofs.GoLemmas.{if_ok}
 use Rattle.rehearsal.proofs.OpenLemmas.{restarts}
@@ -7,7 +8,10 @@ use Rattle.rehearsal.proofs.client.restart.Goals as goal
 
 pub returns : goal.returns
 returns c =
-    let image = c.in_ok-image.image.items in
-    let L : MemDisk → Type 0 = λ d. Leaves d image in
-    let left = subst L c.end-disks.ensures.first c.in_ok-image.ensures.left in
-    if_ok _ _ c.open.result (λ new opens chain. restarts image c.args.now c.args.desk.contents new.contents chain (λ state stands. c.end-disks.ensures.left state stands image left) opens) c.open.ensures
+    let a = c.in_ok-first.first.items in
+    let b = c.in_ok-second.second.items in
+    let A : Disks MemDisk → Type 0 = λ d. Leaves d.first a in
+    let B : Disks MemDisk → Type 0 = λ d. Leaves d.second b in
+    let left = subst A c.end-disks.ensures.disks c.in_ok-first.ensures.left in
+    let left_too = subst B c.end-disks.ensures.disks c.in_ok-second.ensures.left in
+    if_ok _ _ c.open.result (λ new opens chain. restarts (a, b) c.args.now c.args.desk.contents new.contents chain (λ state stands. c.end-disks.ensures.left state stands a b left left_too) opens) c.open.ensures

@@ -18,6 +18,8 @@ use Rattle.desk_machine.specs.declared.call.DeskReply.{DeskReply}
 use Rattle.check_sign.proofs.MachineLemmas.{opened, none_at, same_length, not_fits, fits}
 use Rattle.check_sign.proofs.StepLemmas.{up_state, by_fault, grown}
 use Rattle.check_sign.proofs.MarkLemmas.{none_if, idle_at, later}
+use Rattle.check_sign.specs.Writing.{journal_of}
+use Rattle.check_sign.proofs.ProposalLemmas.{desk_moved}
 use Rattle.check_sign.proofs.desk.Desk.activate_key.Goals as goal
 
 pub returns-then-not-fits_one-clause-machine : goal.returns-then-not-fits_one-clause-machine
@@ -25,7 +27,7 @@ returns-then-not-fits_one-clause-machine g c = λ state stands.
     let s = opened c.args.self.now _ state c.self.view_is stands in
     let room = not_fits c.fits_one.result _ _ c.fits_one.ensures (search rules) in (
       (
-        up_state _ _ state.torn s.torn (none_if c.failed.result c.self.inside.journal.torn c.failed.ensures c.if-failed.false),
+        up_state _ state.torn s.torn (none_if c.failed.result c.self.inside.journal.torn c.failed.ensures c.if-failed.false),
         idle_at c.state_of.result c.self.inside.states.entries state.states c.args.key c.state_of.ensures.value s.states c.in-Known.is,
         none_at c.self.inside.books state.keys c.args.key s.keys room.0,
         c.len.ensures.count ∙ same_length c.self.inside.books state.keys s.keys,
@@ -39,7 +41,7 @@ pub returns-then-is_err-clause-machine : goal.returns-then-is_err-clause-machine
 returns-then-is_err-clause-machine g c = λ state stands.
     let s = opened c.args.self.now _ state c.self.view_is stands in (
       (
-        up_state _ _ state.torn s.torn (none_if c.failed.result c.self.inside.journal.torn c.failed.ensures c.if-failed.false),
+        up_state _ state.torn s.torn (none_if c.failed.result c.self.inside.journal.torn c.failed.ensures c.if-failed.false),
         (
           idle_at c.state_of.result c.self.inside.states.entries state.states c.args.key c.state_of.ensures.value s.states c.in-Known.is,
           fits c.fits_one.result c.self.inside.books state.keys c.args.key c.fits_one.ensures (search rules) s.keys,
@@ -52,7 +54,7 @@ pub returns-then-not-make_room-clause-machine : goal.returns-then-not-make_room-
 returns-then-not-make_room-clause-machine g c = λ state stands.
     let s = opened c.args.self.now _ state c.self.view_is stands in (
       (
-        up_state _ _ state.torn s.torn (none_if c.failed.result c.self.inside.journal.torn c.failed.ensures c.if-failed.false),
+        up_state _ state.torn s.torn (none_if c.failed.result c.self.inside.journal.torn c.failed.ensures c.if-failed.false),
         (
           idle_at c.state_of.result c.self.inside.states.entries state.states c.args.key c.state_of.ensures.value s.states c.in-Known.is,
           fits c.fits_one.result c.self.inside.books state.keys c.args.key c.fits_one.ensures (search rules) s.keys,
@@ -66,7 +68,7 @@ returns-in_default-clause-machine g c = λ state stands.
     let s = opened c.args.self.now _ state c.self.view_is stands in
     let B : List (PubKey × Parts) → Type 0 = λ l. BooksStand l state.keys in (
       (
-        up_state _ _ state.torn s.torn (none_if c.failed.result c.self.inside.journal.torn c.failed.ensures c.if-failed.false),
+        up_state _ state.torn s.torn (none_if c.failed.result c.self.inside.journal.torn c.failed.ensures c.if-failed.false),
         (
           idle_at c.state_of.result c.self.inside.states.entries state.states c.args.key c.state_of.ensures.value s.states c.in-Known.is,
           fits c.fits_one.result c.self.inside.books state.keys c.args.key c.fits_one.ensures (search rules) s.keys,
@@ -80,7 +82,7 @@ pub returns-in_default-mark_active-clause-machine :
 returns-in_default-mark_active-clause-machine g c = λ state stands.
     let s = opened c.args.self.now _ state c.self.view_is stands in (
       (
-        up_state _ _ state.torn s.torn (none_if c.failed.result c.self.inside.journal.torn c.failed.ensures c.if-failed.false),
+        up_state _ state.torn s.torn (none_if c.failed.result c.self.inside.journal.torn c.failed.ensures c.if-failed.false),
         (
           idle_at c.state_of.result c.self.inside.states.entries state.states c.args.key c.state_of.ensures.value s.states c.in-Known.is,
           fits c.fits_one.result c.self.inside.books state.keys c.args.key c.fits_one.ensures (search rules) s.keys,
@@ -113,7 +115,7 @@ returns-in-Err-clause-machine g c = λ state stands.
     let P : DeskReply → Type 0 = λ r. R r × DeskStands desk (A r) in
     subst P (sym c.refusal.ensures)
     (by_fault g.D.Disk.faults c.self.inside.journal c.write_items.new.journal items desk state call c.in-Err.fault R A c.in-Err.ensures.wrote s.payloads s.size c.self.invariant.3.size clean
-    (up_state _ _ state.torn s.torn clean) refl refl refl (
+    (up_state _ state.torn s.torn clean) refl refl refl (
       idle_at c.state_of.result c.self.inside.states.entries state.states c.args.key c.state_of.ensures.value s.states c.in-Known.is,
       fits c.fits_one.result c.self.inside.books state.keys c.args.key c.fits_one.ensures (search rules) s.keys,
     ) refl (c.replay_laws.ensures.activated (items_in c.self.inside.journal.payloads) state.keys state.states c.args.key s.payloads.items) refl (λ h. h) (λ h. h) (λ n w h. h) refl refl (λ n w. refl) (record {
@@ -140,7 +142,7 @@ pub returns-clause-machine : goal.returns-clause-machine
 returns-clause-machine g c = λ state stands.
     let s = opened c.args.self.now _ state c.self.view_is stands in
     let clean = none_if c.failed.result c.self.inside.journal.torn c.failed.ensures c.if-failed.false in
-    let up = up_state _ _ state.torn s.torn clean in
+    let up = up_state _ state.torn s.torn clean in
     let items : List JournalItem = item.Activate c.args.key ∷ [] in
     let wrote = c.in_default-write_items.ensures.wrote in
     let moment = c.max-self-inside.ensures ∙ ap (λ m. max m c.args.now) s.latest in
@@ -172,3 +174,11 @@ take_back-requires g c = (c.self.inside.books, c.in-Ok.ensures.fresh)
 
 pub take_back-requires-in-Err : goal.take_back-requires-in-Err
 take_back-requires-in-Err g c = (c.self.inside.books, c.in-Ok.ensures.fresh)
+
+pub returns-in-Err-clause-moved : goal.returns-in-Err-clause-moved
+returns-in-Err-clause-moved g c =
+    desk_moved g.D.Disk.moment g.D.Disk.leaves g.D.Disk.faults c.args.self.now c.self.inside.journal c.write_items.new.journal c.self.inside.genesis.0 c.self.invariant.3.root (ap journal_of c.self.view_is) c.write_items.ensures.moved
+
+pub returns-clause-moved : goal.returns-clause-moved
+returns-clause-moved g c =
+    desk_moved g.D.Disk.moment g.D.Disk.leaves g.D.Disk.faults c.args.self.now c.self.inside.journal c.write_items.new.journal c.self.inside.genesis.0 c.self.invariant.3.root (ap journal_of c.self.view_is) c.write_items.ensures.moved

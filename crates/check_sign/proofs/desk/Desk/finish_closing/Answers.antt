@@ -116,3 +116,7 @@ returns-clause-machine g c = λ state stands.
       latest = s.latest;
       watches = s.watches;
     }) at.1 at.2 c.in-Ok.ensures.value
+
+pub returns-clause-moved : goal.returns-clause-moved
+returns-clause-moved g c =
+    desk_moved g.D.Disk.moment g.D.Disk.leaves g.D.Disk.faults c.args.self.now c.self.inside.journal c.write_items.new.journal c.self.inside.genesis.0 c.self.invariant.3.root (ap journal_of c.self.view_is) c.write_items.ensures.moved

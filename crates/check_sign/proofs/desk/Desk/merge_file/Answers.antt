@@ -1,4 +1,4 @@
-use Rattle.std.proofs.Common.{◌≡◌, ◌+◌, ◌<◌, ◌≤◌, List, length, refl, sym, ◌∙◌, subst, rules, arith}
+use Rattle.std.proofs.Common.{ap, ◌≡◌, ◌+◌, ◌<◌, ◌≤◌, List, length, refl, sym, ◌∙◌, subst, rules, arith}
 use Rattle.edge_kit.specs.declared.bytes.PubKey.{PubKey}
 use Rattle.slash_defs.specs.declared.book.Book.{Book}
 use Rattle.interchange_io.specs.WrittenOrder.{canonical}
@@ -12,6 +12,8 @@ use Rattle.desk_machine.specs.declared.call.DeskCall.TheVariants as call
 use Rattle.check_sign.proofs.MachineLemmas.{opened, fits_file, over_file}
 use Rattle.check_sign.proofs.StepLemmas.{whole, grown, up_state}
 use Rattle.check_sign.proofs.DeskLemmas.{none_of, sized, by_reply}
+use Rattle.check_sign.specs.Writing.{journal_of}
+use Rattle.check_sign.proofs.ProposalLemmas.{desk_moved}
 use Rattle.check_sign.proofs.desk.Desk.merge_file.Goals as goal
 
 pub returns-in-Err-TooManyKeys-clause-machine : goal.returns-in-Err-TooManyKeys-clause-machine
@@ -19,7 +21,7 @@ returns-in-Err-TooManyKeys-clause-machine g c = λ state stands.
     let s = opened c.args.self.now _ state c.self.view_is stands in
     let same : c.args.file.genesis ≡ c.self.inside.genesis = search rules in
     let clean = none_of c.failed.result c.self.inside.journal.torn c.failed.ensures c.if-failed.false in
-    let up = up_state _ _ _ s.torn clean in
+    let up = up_state _ _ s.torn clean in
     let P : MergeFault → Type 0 = λ f. IsMergeFault c.self.inside.books c.as_slice.result.now f in
     let O : List (PubKey × Book) → Type 0 = λ l. (c.in-Err-TooManyKeys.have ≡ length state.keys) × (c.in-Err-TooManyKeys.new ≡ new_keys state.keys l) × (key_limit < c.in-Err-TooManyKeys.have + c.in-Err-TooManyKeys.new) in
     let over = subst O c.as_slice.ensures (over_file c.self.inside.books state.keys c.as_slice.result.now _ _ s.keys (subst P c.in-Err-TooManyKeys.field-0-is c.in-Err-TooManyKeys.ensures.fault)) in (
@@ -40,7 +42,7 @@ returns-in-Err-OutOfMemory-clause-machine g c = λ state stands.
     let s = opened c.args.self.now _ state c.self.view_is stands in
     let same : c.args.file.genesis ≡ c.self.inside.genesis = search rules in
     let clean = none_of c.failed.result c.self.inside.journal.torn c.failed.ensures c.if-failed.false in
-    let up = up_state _ _ _ s.torn clean in
+    let up = up_state _ _ s.torn clean in
     let P : MergeFault → Type 0 = λ f. IsMergeFault c.self.inside.books c.as_slice.result.now f in
     let F : List (PubKey × Book) → Type 0 = λ l. length state.keys + new_keys state.keys l ≤ key_limit in
     let within = subst F c.as_slice.ensures (fits_file c.self.inside.books state.keys c.as_slice.result.now s.keys (subst P c.in-Err-OutOfMemory.field-0-is c.in-Err-OutOfMemory.ensures.fault)) in (
@@ -61,7 +63,7 @@ returns-in-Err-clause-machine g c = λ state stands.
     let s = opened c.args.self.now _ state c.self.view_is stands in
     let same : c.args.file.genesis ≡ c.self.inside.genesis = search rules in
     let clean = none_of c.failed.result c.self.inside.journal.torn c.failed.ensures c.if-failed.false in
-    let up = up_state _ _ _ s.torn clean in
+    let up = up_state _ _ s.torn clean in
     let F : List (PubKey × Book) → Type 0 = λ l. length state.keys + new_keys state.keys l ≤ key_limit in
     let within = subst F c.as_slice.ensures (fits_file c.self.inside.books state.keys c.as_slice.result.now s.keys c.in-Ok.ensures.within) in
     by_reply g.D.Disk.faults c.self.inside.journal c.write_file.new.journal (file_items (canonical c.args.file).books) _ state (call.Merge c.args.file) c.refusal.result c.in-Err.fault
@@ -95,7 +97,7 @@ returns-clause-machine g c = λ state stands.
     let s = opened c.args.self.now _ state c.self.view_is stands in
     let same : c.args.file.genesis ≡ c.self.inside.genesis = search rules in
     let clean = none_of c.failed.result c.self.inside.journal.torn c.failed.ensures c.if-failed.false in
-    let up = up_state _ _ _ s.torn clean in
+    let up = up_state _ _ s.torn clean in
     let F : List (PubKey × Book) → Type 0 = λ l. length state.keys + new_keys state.keys l ≤ key_limit in
     let K : List (PubKey × Book) → Type 0 = λ l. BooksStand c.merge_prepared.new.self (with_file state.keys l) in
     let R : List (PubKey × Book) → Type 0 = λ l. IsPrepared c.self.inside.books l c.in-Ok.fresh c.prepare.new.self in
@@ -117,3 +119,11 @@ returns-clause-machine g c = λ state stands.
 
 pub take_back-requires : goal.take_back-requires
 take_back-requires g c = (c.self.inside.books, c.prepared_law.ensures _ _ _ _ c.in-Ok.ensures.prepared)
+
+pub returns-in-Err-clause-moved : goal.returns-in-Err-clause-moved
+returns-in-Err-clause-moved g c =
+    desk_moved g.D.Disk.moment g.D.Disk.leaves g.D.Disk.faults c.args.self.now c.self.inside.journal c.write_file.new.journal c.self.inside.genesis.0 c.self.invariant.3.root (ap journal_of c.self.view_is) c.write_file.ensures.moved
+
+pub returns-clause-moved : goal.returns-clause-moved
+returns-clause-moved g c =
+    desk_moved g.D.Disk.moment g.D.Disk.leaves g.D.Disk.faults c.args.self.now c.self.inside.journal c.write_file.new.journal c.self.inside.genesis.0 c.self.invariant.3.root (ap journal_of c.self.view_is) c.write_file.ensures.moved

@@ -1,5 +1,6 @@
-use Rattle.std.proofs.Common.{List, ℕ, refl, subst}
-use Rattle.record_journal.specs.Journals.{MayRead}
+use Rattle.std.proofs.Common.{inl, refl}
+use Rattle.record_journal.specs.Journals.{MayRead, disks_of}
+use Rattle.record_journal.specs.TwoDisks.{LeftPair}
 use Rattle.check_sign.specs.Contents.{Contents}
 use Rattle.check_sign.proofs.OpenLemmas.{may_open}
 use Rattle.check_sign.proofs.ReadLemmas.{brought_back, opened_stands}
@@ -20,7 +21,7 @@ returns-clause-opened g c =
       size = c.in-Ok.journal.size;
       torn = c.in-Ok.journal.torn;
     } in
-    let files : List ℕ → Type 0 = λ root. (file : List ℕ) → g.D.Disk.leaves c.in-Ok.journal.disk (g.D.Disk.moment c.in-Ok.journal.disk) file → MayRead (record c.in-Ok.journal { root = root }) file in
+    let holds : LeftPair g.D.Disk.moment g.D.Disk.leaves (disks_of c.in-Ok.journal) (MayRead (record c.in-Ok.journal { root = c.args.genesis.0 })) = λ a b left left_too. inl (c.in-Ok.ensures.left a b left left_too) in
     record {
       opened = record {
         read = c.in-Ok.ensures.read;
@@ -44,8 +45,7 @@ returns-clause-opened g c =
       };
       writes = c.in-Ok.ensures.writes;
       moments = c.in-Ok.ensures.any_moment;
-      left = λ state stands file left. may_open (record { disk = c.in-Ok.journal.disk; second = c.args.disks.second; contents = desk }) state stands file (subst files c.in-Ok.ensures.root c.in-Ok.ensures.left file left);
-      holds = subst files c.in-Ok.ensures.root c.in-Ok.ensures.left;
+      left = λ state stands a b left left_too. may_open (record { current = c.in-Ok.journal.current; other = c.in-Ok.journal.other; place = c.in-Ok.journal.place; contents = desk }) state stands (a, b) (holds a b left left_too);
+      holds = holds;
       later = c.in-Ok.ensures.later;
-      second_is = refl;
     }

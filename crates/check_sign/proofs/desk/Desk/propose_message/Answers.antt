@@ -1,6 +1,8 @@
 use Rattle.std.proofs.Common.{◌+◌, Some, max, refl, sym, ap, ◌∙◌, subst, arith, ◌++◌, ◌∷◌, []}
 use Rattle.check_sign.proofs.MachineLemmas.{opened, is_some_of}
-use Rattle.check_sign.proofs.ProposalLemmas.{past_of_repeat, past_with, proposal_fault, proposal_granted, rose_from}
+use Rattle.check_sign.specs.Contents.{disks_in}
+use Rattle.check_sign.specs.Writing.{journal_of}
+use Rattle.check_sign.proofs.ProposalLemmas.{desk_moved, past_of_repeat, past_with, proposal_fault, proposal_granted, rose_from}
 use Rattle.desk_machine.specs.declared.call.DeskCall.TheVariants as call
 use Rattle.desk_machine.specs.declared.call.DeskReply.TheVariants as reply
 use Rattle.check_sign.specs.Contents.{Seen}
@@ -44,7 +46,7 @@ returns-in-Err-write_message-clause-machine g c = λ state stands.
 pub returns-in-Err-write_message-clause-rose : goal.returns-in-Err-write_message-clause-rose
 returns-in-Err-write_message-clause-rose g c = λ disk up.
     let past = past_of_repeat c.in-Ready.repeat c.args.message in
-    rose_from g.D.Disk.faults c.self.inside.journal c.write_message.new.journal _ _ c.in-Err-write_message.fault (c.in-Err-write_message.ensures.wrote past.0 past.1) (sym c.refusal.ensures ∙ disk) (ap (λ d. d.disk) c.self.view_is)
+    rose_from g.D.Disk.faults c.self.inside.journal c.write_message.new.journal _ _ c.in-Err-write_message.fault (c.in-Err-write_message.ensures.wrote past.0 past.1) (sym c.refusal.ensures ∙ disk) (ap (λ d. disks_in d) c.self.view_is)
 
 pub invariant_of-self-2 : goal.invariant_of-self-2
 invariant_of-self-2 g c =
@@ -101,3 +103,11 @@ returns-clause-own g c =
       added = c.add.ensures.takes;
       states = refl;
     })
+
+pub returns-in-Err-write_message-clause-moved : goal.returns-in-Err-write_message-clause-moved
+returns-in-Err-write_message-clause-moved g c =
+    desk_moved g.D.Disk.moment g.D.Disk.leaves g.D.Disk.faults c.args.self.now c.self.inside.journal c.write_message.new.journal c.self.inside.genesis.0 c.self.invariant.3.root (ap journal_of c.self.view_is) c.write_message.ensures.moved
+
+pub returns-clause-moved : goal.returns-clause-moved
+returns-clause-moved g c =
+    desk_moved g.D.Disk.moment g.D.Disk.leaves g.D.Disk.faults c.args.self.now c.self.inside.journal c.write_message.new.journal c.self.inside.genesis.0 c.self.invariant.3.root (ap journal_of c.self.view_is) c.write_message.ensures.moved

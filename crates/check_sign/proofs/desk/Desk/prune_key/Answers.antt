@@ -17,34 +17,36 @@ use Rattle.check_sign.proofs.MachineLemmas.{opened, none_at, some_at, is_some_of
 use Rattle.check_sign.proofs.StepLemmas.{whole, grown, up_state}
 use Rattle.check_sign.proofs.OpenLemmas.{moved_rooted}
 use Rattle.check_sign.proofs.DeskLemmas.{none_of, sized, by_reply}
+use Rattle.check_sign.specs.Writing.{journal_of}
+use Rattle.check_sign.proofs.ProposalLemmas.{desk_moved}
 use Rattle.check_sign.proofs.desk.Desk.prune_key.Goals as goal
 
 pub returns-in_default-clause-machine : goal.returns-in_default-clause-machine
 returns-in_default-clause-machine g c = λ state stands.
     let s = opened c.args.self.now _ state c.self.view_is stands in
     let clean = none_of c.failed.result c.self.inside.journal.torn c.failed.ensures c.if-failed.false in
-    ((up_state _ _ _ s.torn clean, none_at c.self.inside.books state.keys c.args.key s.keys (search rules)), stands)
+    ((up_state _ _ s.torn clean, none_at c.self.inside.books state.keys c.args.key s.keys (search rules)), stands)
 
 pub returns-in_default-pruning_book-clause-machine : goal.returns-in_default-pruning_book-clause-machine
 returns-in_default-pruning_book-clause-machine g c = λ state stands.
     let s = opened c.args.self.now _ state c.self.view_is stands in
     let clean = none_of c.failed.result c.self.inside.journal.torn c.failed.ensures c.if-failed.false in
     let at = some_at c.self.inside.books state.keys c.args.key c.in-Some.record.now s.keys (search rules) in
-    ((up_state _ _ _ s.torn clean, is_some_of _ at.0 at.1), stands)
+    ((up_state _ _ s.torn clean, is_some_of _ at.0 at.1), stands)
 
 pub returns-in_default-copy-clause-machine : goal.returns-in_default-copy-clause-machine
 returns-in_default-copy-clause-machine g c = λ state stands.
     let s = opened c.args.self.now _ state c.self.view_is stands in
     let clean = none_of c.failed.result c.self.inside.journal.torn c.failed.ensures c.if-failed.false in
     let at = some_at c.self.inside.books state.keys c.args.key c.in-Some.record.now s.keys (search rules) in
-    ((up_state _ _ _ s.torn clean, is_some_of _ at.0 at.1), stands)
+    ((up_state _ _ s.torn clean, is_some_of _ at.0 at.1), stands)
 
 pub returns-in_default-prepare-clause-machine : goal.returns-in_default-prepare-clause-machine
 returns-in_default-prepare-clause-machine g c = λ state stands.
     let s = opened c.args.self.now _ state c.self.view_is stands in
     let clean = none_of c.failed.result c.self.inside.journal.torn c.failed.ensures c.if-failed.false in
     let at = some_at c.self.inside.books state.keys c.args.key c.in-Some.record.now s.keys (search rules) in (
-      (up_state _ _ _ s.torn clean, is_some_of _ at.0 at.1),
+      (up_state _ _ s.torn clean, is_some_of _ at.0 at.1),
       whole _ _ (record {
         genesis = s.genesis;
         keys = c.in_default-prepare.ensures.err state.keys s.keys;
@@ -65,7 +67,7 @@ pub returns-in-Err-clause-machine : goal.returns-in-Err-clause-machine
 returns-in-Err-clause-machine g c = λ state stands.
     let s = opened c.args.self.now _ state c.self.view_is stands in
     let clean = none_of c.failed.result c.self.inside.journal.torn c.failed.ensures c.if-failed.false in
-    let up = up_state _ _ _ s.torn clean in
+    let up = up_state _ _ s.torn clean in
     let at = some_at c.self.inside.books state.keys c.args.key c.in-Some.record.now s.keys (search rules) in
     let book : Book = c.in-Ok.book in
     let book_is : book ≡ pruning_of at.0 = c.in-Ok.ensures ∙ c.pruning_law.ensures c.in-Some.record.now at.0 at.2 in
@@ -102,7 +104,7 @@ pub returns-clause-machine : goal.returns-clause-machine
 returns-clause-machine g c = λ state stands.
     let s = opened c.args.self.now _ state c.self.view_is stands in
     let clean = none_of c.failed.result c.self.inside.journal.torn c.failed.ensures c.if-failed.false in
-    let up = up_state _ _ _ s.torn clean in
+    let up = up_state _ _ s.torn clean in
     let at = some_at c.self.inside.books state.keys c.args.key c.in-Some.record.now s.keys (search rules) in
     let book : Book = c.in-Ok.book in
     let book_is : book ≡ pruning_of at.0 = c.in-Ok.ensures ∙ c.pruning_law.ensures c.in-Some.record.now at.0 at.2 in
@@ -130,3 +132,7 @@ returns-clause-machine g c = λ state stands.
 
 pub take_back-requires : goal.take_back-requires
 take_back-requires g c = (c.self.inside.books, c.prepared_law.ensures _ _ _ _ c.in-Ok-prepare.ensures.prepared)
+
+pub returns-clause-moved : goal.returns-clause-moved
+returns-clause-moved g c =
+    desk_moved g.D.Disk.moment g.D.Disk.leaves g.D.Disk.faults c.args.self.now c.self.inside.journal c.write_book.new.journal c.self.inside.genesis.0 c.self.invariant.3.root (ap journal_of c.self.view_is) c.write_book.ensures.moved
