@@ -1,0 +1,5 @@
+use Rattle.duty_loop.proofs.PlacedLemmas.{due_placed}
+use Rattle.duty_loop.proofs.laws.due_law.Goals as goal
+
+pub returns : goal.returns
+returns c = record { places = due_placed }

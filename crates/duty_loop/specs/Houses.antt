@@ -1,0 +1,90 @@
+-- What the parts of a turn make of the desk, the signing service, the nodes and the output.
+use Rattle.std.specs.Prelude.{◌≡◌, ℕ, true, List, Option, Some, None, Result, Ok, Err, OnOk}
+use Rattle.desk_machine.specs.declared.call.DeskCall.{DeskCall}
+use Rattle.desk_machine.specs.declared.call.DeskReply.{DeskReply}
+use Rattle.desk_machine.specs.declared.call.DeskReply.TheVariants as reply
+use Rattle.client_calls.specs.Seats.{SignerSeen}
+use Rattle.node_fallback.specs.Seen.{Seen}
+use Rattle.edge_clock.specs.Clocks.{IsNow}
+use Rattle.call_plans.specs.Plans.{Follows}
+use Rattle.call_plans.specs.Paths.{Carries, Path}
+use Rattle.duty_schedule.specs.declared.rows.Duty.{Duty}
+use Rattle.duty_plans.specs.declared.result.DutyResult.{DutyResult}
+use Rattle.duty_plans.specs.declared.setup.DutySetup.{DutySetup}
+use Rattle.duty_plans.specs.declared.work.SlotWork.{SlotWork}
+use Rattle.duty_plans.specs.Hands.{Free}
+use Rattle.duty_plans.specs.Plans.{slot_plan}
+use Rattle.duty_plans.specs.Seats.{at_seat}
+use Rattle.duty_plans.specs.Seats as duties
+use Rattle.duty_plans.specs.Steps.{DutyStep}
+use Rattle.duty_plans.specs.Steps as duty_steps
+use Rattle.duty_asks.specs.Quiet.{done_value}
+use Rattle.duty_asks.specs.Placed.{HoldsPlaced}
+use Rattle.duty_asks.specs.declared.ask.Stop.{Stop}
+use Rattle.duty_asks.specs.declared.ask.Stop.TheVariants as stop
+use Rattle.duty_turns.specs.Standing.{Standing}
+use Rattle.duty_turns.specs.Turns.{NextPlan, PartPlan, first_standing, turns_plan}
+use Rattle.duty_turns.specs.TurnSteps.{Does, Fits, House, SinkSeen, in_house}
+use Rattle.duty_turns.specs.declared.held.Held.{Held}
+use Rattle.duty_turns.specs.declared.held.DutyEnd.{DutyEnd}
+use Rattle.duty_turns.specs.declared.held.DutyEnd.TheVariants as end
+
+-- something is held, in which each vote has its place
+abbrev pub IsHolding : Held → Type 0
+IsHolding held = (s : Standing) × HoldsPlaced held s
+
+-- no grant is in hand
+abbrev pub house : {K : Type 0} → K → SignerSeen → List Seen → SinkSeen → House K
+house desk signer nodes out = in_house (at_seat desk Free signer nodes) out
+
+-- what a turn gives: this stands then, or the loop ends; None: memory ran out
+abbrev pub next_value : Standing → Result (Unit {0}) DutyEnd → Option (Result Standing DutyEnd)
+next_value s (Ok done) = Some (Ok s)
+next_value s (Err end.Disk) = Some (Err end.Disk)
+next_value s (Err end.Write) = Some (Err end.Write)
+next_value s (Err end.OutOfMemory) = None
+
+-- why the loop ends where a part of a turn stopped
+abbrev pub end_of : Stop → DutyEnd
+end_of stop.Write = end.Write
+end_of stop.OutOfMemory = end.OutOfMemory
+
+-- the replies of a desk that was asked whether its disk failed
+abbrev pub IsFailed : DeskReply → Type 0
+IsFailed (reply.HasFailed failed) = Unit {0}
+IsFailed r = ⊥
+
+abbrev pub end_by : DeskReply → Result (Unit {0}) DutyEnd
+end_by (reply.HasFailed true) = Err end.Disk
+end_by r = Ok tt
+
+-- a turn, or what is left of it, was carried out
+pub record Turns {K : Type 0} (leads : K → List (DeskCall × DeskReply) → K → Type 0) (start : Option ℕ) (Holds : Standing → Type 0) (plan : NextPlan) (a b : House K) (result : Result (Unit {0}) DutyEnd) : Type 0 where
+  pub after : Standing
+  pub held : OnOk result (Holds after)
+  pub runs : Carries Fits (Does leads start) plan a b (next_value after result)
+
+-- what the loop gives; None: memory ran out
+abbrev pub end_value : Result (Unit {0}) DutyEnd → Option (Result (Unit {0}) DutyEnd)
+end_value (Ok done) = Some (Ok done)
+end_value (Err end.Disk) = Some (Err end.Disk)
+end_value (Err end.Write) = Some (Err end.Write)
+end_value (Err end.OutOfMemory) = None
+
+-- these duties were done, with a result each; None: memory ran out
+pub record WorksDone {K : Type 0} (leads : K → List (DeskCall × DeskReply) → K → Type 0) (work : SlotWork) (ds : List Duty) (d : K) (s : SignerSeen) (ns : List Seen) (e : K) (t : SignerSeen) (ms : List Seen) (results : Option (List DutyResult)) : Type 0 where
+  pub steps : List DutyStep
+  pub path : Path (duties.Does leads) (at_seat d Free s ns) steps (at_seat e Free t ms)
+  pub follows : Follows duty_steps.Fits (slot_plan work ds) steps results
+
+-- a part of a turn was carried out: this stands then
+pub record PartTurns {K : Type 0} (leads : K → List (DeskCall × DeskReply) → K → Type 0) (start : Option ℕ) (Holds : Standing → Type 0) (plan : PartPlan) (a b : House K) (result : Result (Unit {0}) Stop) : Type 0 where
+  pub after : Standing
+  pub held : OnOk result (Holds after)
+  pub runs : Carries Fits (Does leads start) plan a b (done_value after result)
+
+-- all turns were carried out, from the clock's moment on
+pub record RunsFrom {K : Type 0} (leads : K → List (DeskCall × DeskReply) → K → Type 0) (start : Option ℕ) (setup : DutySetup) (a b : House K) (value : Option (Result (Unit {0}) DutyEnd)) : Type 0 where
+  pub now : ℕ
+  pub is_now : IsNow start now
+  pub runs : Carries Fits (Does leads start) (turns_plan setup setup.slots (first_standing setup now)) a b value

@@ -1,0 +1,5 @@
+pub mod Missing
+pub mod Asked
+pub mod Houses
+pub mod Noting
+pub mod Guarding

@@ -1,0 +1,14 @@
+-- Epochs that are missing of some watch.
+use Rattle.std.specs.Prelude.{ℕ, ◌-◌, Bool, List, filter}
+use Rattle.std.specs.List.{list_any}
+use Rattle.edge_kit.specs.declared.bytes.PubKey.{PubKey}
+use Rattle.desk_machine.specs.declared.call.KeyStanding.{KeyStanding}
+use Rattle.duty_turns.specs.Turns.{counted, misses}
+
+-- some key misses it
+abbrev pub is_missed : ℕ → List (PubKey × KeyStanding) → Bool
+is_missed epoch listed = list_any (misses epoch) listed
+
+-- those from one on and below another, the lesser first
+abbrev pub missing_from : ℕ → ℕ → List (PubKey × KeyStanding) → List ℕ
+missing_from from now listed = filter (λ epoch. is_missed epoch listed) (counted from (now - from))

@@ -1,0 +1,16 @@
+//! The duty loop of a validator client: slot behind slot, what is due is learnt from the nodes and done.
+#![tactic(auto)]
+
+mod keys;
+mod laws;
+mod live;
+mod notes;
+mod run;
+mod turn;
+mod watch;
+mod work;
+
+pub use duty_turns::{DutyEnd, Held};
+pub use laws::{due_law, turns_law};
+pub use run::{first_held, run_duties};
+pub use turn::take_turn;

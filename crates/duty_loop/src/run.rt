@@ -1,0 +1,72 @@
+//! Turn behind turn.
+ghost use Rattle.std.specs.Prelude.{◌≡◌, ℕ};
+ghost use Rattle.edge_clock.specs.Clocks.{IsNow};
+ghost use Rattle.call_plans.specs.Paths.{Carries};
+ghost use Rattle.duty_plans.specs.Seats.{nodes_seen, signer_seen};
+ghost use Rattle.duty_turns.specs.Turns.{first_standing, turns_plan};
+ghost use Rattle.duty_turns.specs.TurnSteps.{Does, Fits, sink_seen};
+ghost use Rattle.duty_asks.specs.Placed.{HoldsPlaced};
+ghost use Rattle.duty_loop.specs.Houses.{RunsFrom, end_value, house};
+
+use crate::turn::take_turn;
+use desk_machine::DeskCalls;
+use duty_plans::DutySetup;
+use duty_schedule::Schedule;
+use duty_turns::{DutyEnd, Held, slot_of};
+use edge_clock::Clock;
+use edge_kit::Sink;
+use node_calls::Node;
+use node_fallback::Nodes;
+use signer_link::Signer;
+use std::alloc::Global;
+use std::collections::BTreeMap;
+use std::sync::Wait;
+
+/// Takes the turns of a duty loop, so many as the setup says, beginning at the clock's slot: in each the nodes are
+/// asked what is due for the desk's active keys, and that is done, each duty under a grant of the desk. What became
+/// of each is a line of the output. A slot whose time is over when its turn comes is passed over.
+///
+/// # Errors
+///
+/// `DutyEnd::Disk` where the desk says that its disk failed, `DutyEnd::Write` only where the output's count of
+/// faults rose, `DutyEnd::OutOfMemory` where memory was wanted: then the first few calls of the turn are done, each
+/// whole, and no grant is open.
+pub fn run_duties<T: Wait, K: DeskCalls, S: Signer, N: Node + Drop, C: Clock, O: Sink>(
+    rt: &T,
+    alloc: Global,
+    setup: &DutySetup,
+    clock: &C,
+    desk: &mut K,
+    signer: &mut S,
+    nodes: &mut Nodes<N>,
+    out: &mut O,
+) -> Result<(), DutyEnd>
+    requires ready { K.ready desk.old }
+    ensures ready { K.ready desk.new }
+    ensures runs { RunsFrom K.leads (C.start clock.now) setup.now
+        (house desk.old (signer_seen S.told S.faults S.denials signer.old) (nodes_seen N.told N.faults nodes.old) (sink_seen O.held O.faults out.old))
+        (house desk.new (signer_seen S.told S.faults S.denials signer.new) (nodes_seen N.told N.faults nodes.new) (sink_seen O.held O.faults out.new)) (end_value result) }
+{
+    let mut held = first_held(alloc, setup, clock.now());
+    'turns: for _turn in 0..setup.slots {
+        match take_turn(rt, alloc, setup, clock, &mut held, desk, signer, nodes, out) {
+            Ok(()) => {}
+            Err(end) => return Err(end),
+        }
+    }
+    Ok(())
+}
+
+/// What is held before the first turn of a duty loop that begins at this moment: nothing was asked yet, the fork is
+/// the setup's, and the first slot is the moment's, 0 before genesis. Takes no memory.
+pub fn first_held(alloc: Global, setup: &DutySetup, now: u64) -> Held
+    ensures { HoldsPlaced result (first_standing setup.now now) }
+{
+    Held {
+        slot: slot_of(setup.genesis_time, now),
+        fork: setup.fork,
+        indices: BTreeMap::new(alloc),
+        schedule: Schedule::new(alloc),
+        active: None,
+    }
+}
