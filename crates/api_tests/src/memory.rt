@@ -1,0 +1,72 @@
+//! Replies where memory runs out in what is done.
+use crate::exchange::play;
+use crate::outside::{desk, did, signer};
+use edge_kit::PubKey;
+use signer_link::{DeleteReply, ImportReply, PlainRequest, SignReply, SignRequest, Signer};
+use slash_defs::Granted;
+use std::test::Fail;
+
+/// A signer that wants memory at each call.
+#[derive(Clone, Copy, Drop)]
+struct Exhausted;
+
+impl Signer for Exhausted {
+    ghost use Rattle.std.specs.Prelude.{None};
+
+    ghost told = { λ _. None };
+
+    ghost faults = { λ _. 0 };
+
+    ghost denials = { λ _. 0 };
+
+    fn sign<G: Granted>(&mut self, _request: &SignRequest, _grant: &G) -> SignReply {
+        SignReply::OutOfMemory
+    }
+
+    fn sign_plain<G: Granted>(&mut self, _request: &PlainRequest, _grant: &G) -> SignReply {
+        SignReply::OutOfMemory
+    }
+
+    fn import(&mut self, _key: &PubKey, _keystore: &str, _password: &str) -> ImportReply {
+        ImportReply::OutOfMemory
+    }
+
+    fn delete(&mut self, _key: &PubKey) -> DeleteReply {
+        DeleteReply::OutOfMemory
+    }
+}
+
+const TAKEN_IN: &str =
+    r#"+ POST {"keystores":["{'pubkey':'<K1>'}"],"passwords":["x"],"slashing_protection":"<file>{'pubkey':'<K1>','signed_blocks':[{'slot':'5'}]}</file>"}
+= HTTP/1.1 503 Service Unavailable|Content-Type: application/json|Content-Length: 27|Connection: close||{"message":"out of memory"}
++ GET
+< 200 OK|{"data":[]}
++ DELETE {"pubkeys":["<K1>"]}
+< 200 OK|{"data":[{"message":"","status":"not_active"}],"slashing_protection":"<file>{'pubkey':'<K1>','signed_attestations':[],'signed_blocks':[{'slot':'5'}]}</file>"}"#;
+
+const TAKEN_IN_AGAIN: &str =
+    r#"+ POST {"keystores":["{'pubkey':'<K1>'}"],"passwords":["x"],"slashing_protection":"<file>{'pubkey':'<K1>','signed_blocks':[{'slot':'5'}]}</file>"}
+< 200 OK|{"data":[{"message":"","status":"imported"}]}"#;
+
+const GIVEN_UP: &str = r#"+ DELETE {"pubkeys":["<K1>"]}
+! 503 Service Unavailable|out of memory
++ GET
+< 200 OK|{"data":[]}"#;
+
+const GIVEN_UP_AGAIN: &str = r#"+ DELETE {"pubkeys":["<K1>"]}
+< 200 OK|{"data":[{"message":"","status":"deleted"}],"slashing_protection":"<file>{'pubkey':'<K1>','signed_attestations':[],'signed_blocks':[{'slot':'5'}]}</file>"}"#;
+
+#[test]
+fn what_was_done_before_memory_ran_out_stays_done(rt: HostRuntime) -> Result<(), Fail> {
+    let alloc = rt.alloc();
+    let mut desk = desk(&rt, alloc, None)?;
+    let mut signer = signer(alloc, None)?;
+    play(&rt, alloc, TAKEN_IN, &mut desk, &mut Exhausted)?;
+    play(&rt, alloc, TAKEN_IN_AGAIN, &mut desk, &mut signer)?;
+    play(&rt, alloc, GIVEN_UP, &mut desk, &mut Exhausted)?;
+    play(&rt, alloc, GIVEN_UP_AGAIN, &mut desk, &mut signer)?;
+    let events = "0 merged 1|0 merged 1|7 activated <K1>|7 close begun <K1>|7 closed <K1> 1 0|";
+    let is_done = did(alloc, &desk, events)?;
+    assert!(rt; is_done);
+    Ok(())
+}

@@ -1,0 +1,106 @@
+//! What stands for the outside of a key manager.
+use check_sign::Desk;
+use edge_kit::{Disks, Link, MemDisk, MemLink, Root};
+use keymanager_api::{Served, serve_connection};
+use run_doubles::{is_text, words_of};
+use signer_link::{MemSigner, Signer};
+use std::alloc::{AllocError, Global};
+use std::process::Abort;
+use std::test::Fail;
+
+/// The token that is wanted.
+pub const TOKEN: &str = "TOKEN";
+
+/// The epoch of each request.
+pub const NOW: u64 = 7;
+
+/// Room for each reply of these tests.
+pub const ROOM: usize = 65_536;
+
+/// How many calls of the disk open a desk that keeps no key.
+pub const OPENING: u64 = 9;
+
+/// A desk that keeps no key, whose disk stops at a call, if one is given.
+pub fn desk<T: Abort>(
+    rt: &T,
+    alloc: Global,
+    stop: Option<u64>,
+) -> Result<Desk<MemDisk>, AllocError> {
+    let disks = Disks {
+        first: MemDisk::new(alloc, Vec::new(alloc), Vec::new(alloc), stop)?,
+        second: MemDisk::new(alloc, Vec::new(alloc), Vec::new(alloc), None)?,
+    };
+    match Desk::open(alloc, disks, Root([0; 32]), false, 0) {
+        Ok(desk) => Ok(desk),
+        Err(_) => rt.panic("not opened"),
+    }
+}
+
+/// Whether the events of a desk are these: each ends with `|`, and begins with its moment.
+pub fn did(alloc: Global, desk: &Desk<MemDisk>, events: &str) -> Result<bool, AllocError> {
+    let words = words_of(alloc, desk.events())?;
+    let events = in_lines(alloc, events, "\n")?;
+    is_text(alloc, words.as_bytes(), events.as_str())
+}
+
+/// Whether a desk has done nothing since it was opened, and its disk neither.
+pub fn is_untouched(desk: Desk<MemDisk>) -> bool {
+    let is_idle = desk.events().is_empty() && !desk.failed();
+    let (disks, _) = desk.end();
+    is_idle && disks.first.calls() == OPENING
+}
+
+/// A signer that holds every key, whose call of this number fails, if one is given.
+pub fn signer(alloc: Global, failing: Option<u64>) -> Result<MemSigner, AllocError> {
+    let failing = match failing {
+        Some(call) => vec![in alloc; call]?,
+        None => Vec::new(alloc),
+    };
+    Ok(MemSigner::new(alloc, Vec::new(alloc), failing))
+}
+
+/// The text with this end in the place of each `|`.
+pub fn in_lines(alloc: Global, text: &str, end: &str) -> Result<String, AllocError> {
+    let mut lines = String::new(alloc);
+    for c in text.chars() {
+        match c {
+            '|' => lines.push_str(end)?,
+            other => lines.push(other)?,
+        }
+    }
+    Ok(lines)
+}
+
+/// A link that is connected, on which the client says these bytes, with room for so many bytes sent, and whose call of
+/// this number fails. The call 0 connected it.
+fn connected(
+    alloc: Global,
+    said: &[u8],
+    room: usize,
+    failing: Option<u64>,
+) -> Result<MemLink, Fail> {
+    let conversations = vec![in alloc; Vec::from_slice(alloc, said)?]?;
+    let failing = match failing {
+        Some(call) => vec![in alloc; call]?,
+        None => Vec::new(alloc),
+    };
+    let mut link = MemLink::new(alloc, conversations, room, failing)?;
+    match link.connect() {
+        Ok(()) => Ok(link),
+        Err(_) => Err(Fail::new("not connected")),
+    }
+}
+
+/// Serves such a connection, and gives what was sent and what became of it.
+pub fn serve<S: Signer>(
+    alloc: Global,
+    said: &[u8],
+    room: usize,
+    failing: Option<u64>,
+    desk: &mut Desk<MemDisk>,
+    signer: &mut S,
+) -> Result<(Vec<u8>, Served), Fail> {
+    let mut link = connected(alloc, said, room, failing)?;
+    let served = serve_connection(alloc, &mut link, TOKEN, NOW, desk, signer);
+    Ok((link.into_sent(), served))
+}
