@@ -3,11 +3,11 @@ use crate::outside::{ROOM, desk, did, in_lines, is_untouched, serve, signer};
 use check_sign::Desk;
 use edge_kit::MemDisk;
 use keymanager_api::Served;
-use run_doubles::filled;
 use signer_link::Signer;
 use std::alloc::{AllocError, Global};
 use std::process::Abort;
 use std::test::Fail;
+use test_texts::filled;
 
 /// A request of the keystores with the token: a method and, behind a space, a body.
 pub fn request(alloc: Global, text: &str) -> Result<String, AllocError> {

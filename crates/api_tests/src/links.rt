@@ -4,10 +4,10 @@ use crate::outside::{NOW, ROOM, TOKEN, desk, did, is_untouched, serve, signer};
 use http::Method;
 use http_wire::{Field, Request};
 use keymanager_api::{Served, answer};
-use run_doubles::filled;
 use std::alloc::{AllocError, Global};
 use std::process::Abort;
 use std::test::Fail;
+use test_texts::filled;
 
 /// The head of the reply to a list of no keys.
 const HEAD: &str =

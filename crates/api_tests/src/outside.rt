@@ -2,11 +2,11 @@
 use check_sign::Desk;
 use edge_kit::{Disks, Link, MemDisk, MemLink, Root};
 use keymanager_api::{Served, serve_connection};
-use run_doubles::{is_text, words_of};
 use signer_link::{MemSigner, Signer};
 use std::alloc::{AllocError, Global};
 use std::process::Abort;
 use std::test::Fail;
+use test_texts::{is_text, words_of};
 
 /// The token that is wanted.
 pub const TOKEN: &str = "TOKEN";

@@ -2,10 +2,10 @@
 use crate::exchange::play;
 use crate::outside::{desk, did, in_lines};
 use edge_kit::MemLink;
-use run_doubles::{filled, is_text};
 use service_url::ServiceUrl;
 use std::alloc::Global;
 use std::test::Fail;
+use test_texts::{filled, is_text};
 use web3_signer::Web3Signer;
 
 /// A signing service that says these responses, one on each line.

@@ -9,7 +9,7 @@ use Rattle.record_replay.specs.Replaying.{ItemsStand}
 use Rattle.check_sign.specs.Contents.{Contents}
 use Rattle.desk_machine.specs.States.{State, lasting}
 use Rattle.check_sign.specs.Standing.{DeskStands, PayloadsStand}
-use Rattle.desk_machine.specs.Written.{frame_size, HasRoomFor, written}
+use Rattle.desk_machine.specs.Written.{Overfills, Writes, frame_size, HasRoomFor, IsOver, IsWritten, written}
 use Rattle.desk_machine.specs.Machine.{IsUp, Proceeds, MayFail, MayWant, IsTooMuch, lasting_after, torn_first, latest_after}
 use Rattle.check_sign.specs.Writing.{Wrote, refusal_of}
 use Rattle.desk_machine.specs.declared.call.DeskCall.{DeskCall}
@@ -35,12 +35,12 @@ pub by_reply : {D : Type 0} (faults : D → ℕ) (old new : Journaled D) (items 
     → PayloadsStand old.payloads (lasting state) → old.size ≡ state.size → old.size ≡ journal_size old.payloads → old.torn ≡ None → IsUp state
     → desk.payloads ≡ new.payloads → desk.size ≡ new.size → desk.torn ≡ new.torn
     → Proceeds state c → written state c ≡ items
-    → ItemsStand (items_in old.payloads ++ items) (lasting_after state c).keys (lasting_after state c).states → (lasting_after state c).size ≡ state.size + frame_size items
+    → ItemsStand (items_in old.payloads ++ items) (lasting_after state c).keys (lasting_after state c).states → (lasting_after state c).size ≡ state.size + frame_size items → (lasting_after state c).generation ≡ state.generation → (IsWritten state.size (written state c) → Writes state c) → ((s w : ℕ) → IsOver state.size (written state c) s w → Overfills state c s w)
     → (MayFail state c → R reply.Disk) → (MayWant state c → R reply.OutOfMemory) → ((s w : ℕ) → IsTooMuch state c s w → R (reply.Full s w))
     → A reply.Disk ≡ record state { latest = latest_after state.latest c; torn = torn_first state.torn (lasting_after state c) } → A reply.OutOfMemory ≡ record state { latest = latest_after state.latest c; torn = state.torn }
     → ((s w : ℕ) → A (reply.Full s w) ≡ record state { latest = latest_after state.latest c; torn = state.torn })
     → Rest desk (record state { latest = latest_after state.latest c; torn = state.torn })
     → R r × DeskStands desk (A r)
-by_reply faults old new items desk state c r f R A is wrote stand size journal clean up payloads_are size_is torn_is proceeds writes more grows disk memory full on_disk on_memory on_full rest =
+by_reply faults old new items desk state c r f R A is wrote stand size journal clean up payloads_are size_is torn_is proceeds writes more grows same fits over disk memory full on_disk on_memory on_full rest =
     let P : DeskReply → Type 0 = λ x. R x × DeskStands desk (A x) in
-    subst P (sym is) (by_fault faults old new items desk state c f R A wrote stand size journal clean up payloads_are size_is torn_is proceeds writes more grows disk memory full on_disk on_memory on_full rest)
+    subst P (sym is) (by_fault faults old new items desk state c f R A wrote stand size journal clean up payloads_are size_is torn_is proceeds writes more grows same fits over disk memory full on_disk on_memory on_full rest)

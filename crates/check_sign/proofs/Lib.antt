@@ -1,3 +1,5 @@
+pub mod CompactLemmas
+pub mod CompactSteps
 pub mod DeskLemmas
 pub mod ExportLemmas
 pub mod FaultLemmas
@@ -8,4 +10,5 @@ pub mod MarkLemmas
 pub mod OpenLemmas
 pub mod ProposalLemmas
 pub mod ReadLemmas
+pub mod SnapshotLemmas
 pub mod StepLemmas

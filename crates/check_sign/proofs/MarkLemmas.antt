@@ -138,6 +138,6 @@ begun_closing desk state key states events s is items = record {
   latest = s.latest;
   watches = s.watches;
   size = s.size;
-  payloads = record { items = items; size = s.payloads.size };
+  payloads = record { items = items; size = s.payloads.size; generation = s.payloads.generation };
   torn = s.torn;
 }

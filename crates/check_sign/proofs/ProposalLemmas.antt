@@ -45,7 +45,7 @@ use Rattle.desk_machine.specs.Written.{frame_size, HasRoomFor, proposal_items}
 use Rattle.desk_machine.specs.States.{State, IsAllowed, is_active, key_state, lasting}
 use Rattle.check_sign.specs.Standing.{DeskStands, PayloadsStand}
 use Rattle.desk_machine.specs.Grants.{open_grants}
-use Rattle.check_sign.specs.Writing.{Moved, Wrote, journal_of, refusal_of}
+use Rattle.check_sign.specs.Writing.{KeepsJournal, Moved, Wrote, journal_of, refusal_of}
 use Rattle.desk_machine.specs.declared.call.DeskCall.TheVariants as call
 use Rattle.desk_machine.specs.declared.call.DeskReply.{DeskReply}
 use Rattle.desk_machine.specs.declared.call.DeskReply.TheVariants as reply
@@ -202,7 +202,7 @@ proposal_fault faults old new desk state key m now past f r at active passes all
     let writes : proposal_items (kept_of state.keys key) key m ≡ proposal_items (Some past) key m = ap (λ o. proposal_items o key m) at in
     subst T (sym is) (by_fault faults old new (proposal_items (Some past) key m) desk state (call.Propose key m now) f R A wrote payloads size journal clean up payloads_are size_is torn_is
     ((active, some_is (kept_of state.keys key) past (λ p. Passes p m) at passes), allowed) writes (proposed (items_in old.payloads) state.keys state.states key m past payloads.items at own)
-    (ap (λ i. state.size + frame_size i) writes) (λ h. h) (λ h. h) (λ s w h. h) refl refl (λ s w. refl) rest)
+    (ap (λ i. state.size + frame_size i) writes) refl (λ h. h) (λ s w h. h) (λ h. h) (λ h. h) (λ s w h. h) refl refl (λ s w. refl) rest)
 
 pub proposal_granted : {D : Type 0} (faults : D → ℕ) (old new : Journaled D) (desk : Contents) (state : State) (key : PubKey) (m : Message) (now : ℕ) (past : Past) (grant : OpenGrant)
     → kept_of state.keys key ≡ Some past → kept_of state.states key ≡ Some Active → Passes past m → IsAllowed state key → Wrote faults old (proposal_items (Some past) key m) new (Ok tt)
@@ -217,7 +217,7 @@ proposal_granted faults old new desk state key m now past grant at active passes
     let whats : List JournalItem → Type 0 = λ i. HasRoomFor state.size i in (
       ((up, ((active, some_is (kept_of state.keys key) past (λ p. Passes p m) at passes), allowed), subst whats (sym writes) (subst sizes size wrote.0)), is),
       grown faults old new items desk state (after state (call.Propose key m now) (reply.Granted grant)) wrote size journal payloads_are size_is torn_is
-          (proposed (items_in old.payloads) state.keys state.states key m past payloads.items at own) (ap (λ i. state.size + frame_size i) writes) up rest,
+          (proposed (items_in old.payloads) state.keys state.states key m past payloads.items at own) (ap (λ i. state.size + frame_size i) writes) payloads.generation up rest,
     )
 
 -- ---- the disk of a call that failed
@@ -279,17 +279,17 @@ closing_fault faults old new desk state key f r proceeds wrote payloads size jou
     let A : DeskReply → State = λ x. after state (call.FinishClose key) x in
     let T : DeskReply → Type 0 = λ x. R x × DeskStands desk (A x) in
     subst T (sym is) (by_fault faults old new (item.Close key ∷ []) desk state (call.FinishClose key) f R A wrote payloads size journal clean up payloads_are size_is torn_is
-    proceeds refl closed refl (λ h. h) (λ h. h) (λ s w h. h) refl refl (λ s w. refl) rest)
+    proceeds refl closed refl refl (λ h. h) (λ s w h. h) (λ h. h) (λ h. h) (λ s w h. h) refl refl (λ s w. refl) rest)
 
 pub closing_done : {D : Type 0} (faults : D → ℕ) (old new : Journaled D) (desk : Contents) (state : State) (key : PubKey) (parts : Parts) (past : Past) (book : Book) → Proceeds state (call.FinishClose key) → Wrote faults old (item.Close key ∷ []) new (Ok tt)
-    → old.size ≡ state.size → old.size ≡ journal_size old.payloads → IsUp state → ItemsStand (items_in old.payloads ++ item.Close key ∷ []) state.keys (with_kept state.states key Closed)
+    → PayloadsStand old.payloads (lasting state) → old.size ≡ state.size → old.size ≡ journal_size old.payloads → IsUp state → ItemsStand (items_in old.payloads ++ item.Close key ∷ []) state.keys (with_kept state.states key Closed)
     → desk.payloads ≡ new.payloads → desk.size ≡ new.size → desk.torn ≡ new.torn → Rest desk (after state (call.FinishClose key) (reply.Closed book))
     → kept_of state.keys key ≡ Some past → Stands parts past → book ≡ export_of parts
     → Reply state (call.FinishClose key) (reply.Closed book) × DeskStands desk (after state (call.FinishClose key) (reply.Closed book))
-closing_done faults old new desk state key parts past book proceeds wrote size journal up closed payloads_are size_is torn_is rest at stands value =
+closing_done faults old new desk state key parts past book proceeds wrote payloads size journal up closed payloads_are size_is torn_is rest at stands value =
     let sizes : ℕ → Type 0 = λ n. HasRoomFor n (item.Close key ∷ []) in (
       ((up, proceeds, subst sizes size wrote.0), some_is (kept_of state.keys key) past (λ p. IsExport p book) at (record { parts = parts; stands = stands; value = value })),
-      grown faults old new (item.Close key ∷ []) desk state (after state (call.FinishClose key) (reply.Closed book)) wrote size journal payloads_are size_is torn_is closed refl up rest,
+      grown faults old new (item.Close key ∷ []) desk state (after state (call.FinishClose key) (reply.Closed book)) wrote size journal payloads_are size_is torn_is closed refl payloads.generation up rest,
     )
 
 -- ---- the journal of a desk is its own, whose root is the desk's
@@ -305,4 +305,11 @@ pub desk_moved : {D : Type 0} (moment : D → ℕ) (leaves : D → ℕ → List 
 desk_moved {D} moment leaves faults before old new root at same moved =
     let O : Journaled D → Type 0 = λ j. Moved moment leaves faults j (with_root new root) in
     let N : Journaled D → Type 0 = λ j. Moved moment leaves faults old j in
-    subst O (rooted old root at ∙ same) (subst N (rooted new root (moved.root ∙ at)) moved)
+    subst O (rooted old root at ∙ same) (subst N (rooted new root (moved.keeps.root ∙ at)) moved)
+
+pub desk_keeps : {D : Type 0} (moment : D → ℕ) (leaves : D → ℕ → List ℕ → Type 0) (faults : D → ℕ) (before : Seen D) (old new : Journaled D) (root : List ℕ) → old.root ≡ root → with_root old root ≡ journal_of before
+    → KeepsJournal moment leaves faults old new → KeepsJournal moment leaves faults (journal_of before) (with_root new root)
+desk_keeps {D} moment leaves faults before old new root at same keeps =
+    let O : Journaled D → Type 0 = λ j. KeepsJournal moment leaves faults j (with_root new root) in
+    let N : Journaled D → Type 0 = λ j. KeepsJournal moment leaves faults old j in
+    subst O (rooted old root at ∙ same) (subst N (rooted new root (keeps.root ∙ at)) keeps)

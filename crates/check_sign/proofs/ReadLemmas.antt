@@ -121,10 +121,11 @@ last : (states : List (PubKey × KeyState)) → lasting_states (lasting_states s
 last [] = refl
 last (s ∷ states) = ap (λ x. (s.0, x) ∷ lasting_states (lasting_states states)) (lasts s.1) ∙ ap (λ l. (s.0, lasting_state s.1) ∷ l) (last states)
 
-stand_on : (payloads : List (List ℕ)) (l : Lasting) → PayloadsStand payloads l → PayloadsStand payloads (record { keys = l.keys; states = lasting_states l.states; size = l.size })
+stand_on : (payloads : List (List ℕ)) (l : Lasting) → PayloadsStand payloads l → PayloadsStand payloads (record { keys = l.keys; states = lasting_states l.states; size = l.size; generation = l.generation })
 stand_on payloads l s = record {
   items = record { named = s.items.named; each = s.items.each; states = s.items.states ∙ sym (last l.states) };
   size = s.size;
+  generation = s.generation;
 }
 
 -- a desk without grants stands for what lasts, reopened

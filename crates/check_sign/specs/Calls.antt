@@ -26,11 +26,13 @@ use Rattle.desk_machine.specs.declared.call.DeskCall.{DeskCall}
 use Rattle.desk_machine.specs.declared.call.DeskCall.TheVariants as call
 use Rattle.desk_machine.specs.declared.call.DeskReply.{DeskReply}
 use Rattle.desk_machine.specs.declared.call.DeskReply.TheVariants as reply
-use Rattle.record_journal.specs.TwoDisks.{FaultsLater, EitherRose}
+use Rattle.record_journal.specs.TwoDisks.{FaultsLater, EitherRose, flip}
+use Rattle.record_journal.specs.Journals.{journal_size}
+use Rattle.check_sign.specs.Compacting.{IsOwnCompaction}
 use Rattle.check_sign.specs.Contents.{Contents, Seen, disks_in}
 use Rattle.check_sign.specs.Crashes.{LeavesFiles, LeftNow}
 use Rattle.check_sign.specs.Standing.{DeskStands, MayOpen}
-use Rattle.check_sign.specs.Writing.{Moved, journal_of, payloads_of}
+use Rattle.check_sign.specs.Writing.{KeepsJournal, journal_of, payloads_of}
 
 -- whichever state the desk stood for, the machine may give this reply, and the desk stands for the state after it
 abbrev pub IsStep : Contents → DeskCall → DeskReply → Contents → Type 0
@@ -98,8 +100,8 @@ pub record IsOwnGrant (old : Contents) (key : PubKey) (m : Message) (new : Conte
   pub added : Takes TakesMessage roomier new.keys key m
   pub states : new.states ≡ old.states
 
--- the same of leave, of what a watch bars, and of what is told: the kept keys in order, each with its state and as its watch
--- stands; and whether the disk has failed
+-- the same of leave, of what a watch bars, of what is told: the kept keys in order, each with its state and as its watch stands;
+-- whether the disk has failed; and the size of the journal's payloads; and of a compaction
 abbrev pub IsOwn : Contents → DeskCall → DeskReply → Contents → Type 0
 IsOwn old (call.Propose key m now) (reply.Granted grant) new = IsOwnGrant old key m new
 IsOwn old (call.Propose key m now) (reply.Live epoch) new = IsOwnBar old key (reply.Live epoch)
@@ -110,24 +112,33 @@ IsOwn old (call.Allow key now) (reply.Watching first second) new = IsOwnBar old 
 IsOwn old call.Keys (reply.Keys listed) new = (map {B = PubKey × KeyState} (λ l. (l.0, state_in l.1)) listed ≡ map {B = PubKey × KeyState} (λ key. (key, key_state old.states key)) (keys_of old.keys)) × (new.keys ≡ old.keys) × (new.states ≡ old.states)
     × ((w : Watching) → WatchesStand old.watches w → listed ≡ map {B = PubKey × KeyStanding} (λ key. (key, key_standing (key_state old.states key) (standing_of w key))) (keys_of old.keys))
 IsOwn old call.HasFailed (reply.HasFailed failed) new = failed ≡ is_some old.torn
+IsOwn old call.Size (reply.Size size) new = (size ≡ old.size) × (size ≡ journal_size old.payloads)
+IsOwn old call.Compact r new = IsOwnCompaction old r new
 IsOwn old c r new = Unit {0}
 
 -- each image of the one disk beside each of the other opens to what the desk stands for
 abbrev pub LeavesDesk : {D : Type 0} → (D → ℕ) → (D → ℕ → List ℕ → Type 0) → Disks D → Contents → Type 0
 LeavesDesk moment leaves disks desk = (state : State) → DeskStands desk state → LeftNow moment leaves disks (MayOpen desk.genesis state)
 
+-- One disk alone is written: that of the current file, which stays the current one; but by a compaction the other one, whose file
+-- becomes the current one where it succeeds. By a compaction that is refused none is, unless the other disk failed in it.
+abbrev pub WritesOne : {D : Type 0} → DeskCall → DeskReply → Seen D → Seen D → Type 0
+WritesOne call.Compact (reply.Compacted before after) old new = (new.other ≡ old.current) × (new.place ≡ flip old.place)
+WritesOne call.Compact reply.Disk old new = (new.current ≡ old.current) × (new.place ≡ old.place) × (IsSome old.contents.torn → new.other ≡ old.other)
+WritesOne call.Compact r old new = (new.current ≡ old.current) × (new.other ≡ old.other) × (new.place ≡ old.place)
+WritesOne c r old new = (new.other ≡ old.other) × (new.place ≡ old.place)
+
 -- One call: a step of the machine. A crash at any moment of it leaves two files that open to what lasts of the state before or of
 -- the state after, and from now on of the latter. No disk's count of faults has fallen, and the desk fails, or answers so for the
--- first time, only where one rose. The other disk is the same, and the current file stays it. What is said of the journal's payloads holds even where the desk stands for no state.
+-- first time, only where one rose.
 pub record IsCallOf {D : Type 0} (moment : D → ℕ) (leaves : D → ℕ → List ℕ → Type 0) (faults : D → ℕ) (old new : Seen D) (c : DeskCall) (r : DeskReply) : Type 0 where
   pub machine : IsStep old.contents c r new.contents
   pub counted : Counted old.contents c r new.contents
   pub own : IsOwn old.contents c r new.contents
-  pub journal : Moved moment leaves faults (journal_of old) (journal_of new)
+  pub journal : KeepsJournal moment leaves faults (journal_of old) (journal_of new)
   pub moments : (state : State) → DeskStands old.contents state → LeavesFiles moment leaves (disks_in old) (disks_in new) (λ files. MayOpen old.contents.genesis state files ⊎ MayOpen old.contents.genesis (after state c r) files)
   pub left : LeavesDesk moment leaves (disks_in new) new.contents
   pub later : FaultsLater faults (disks_in old) (disks_in new)
   pub fails : old.contents.torn ≡ None → IsSome new.contents.torn → EitherRose faults (disks_in old) (disks_in new)
   pub rose : r ≡ reply.Disk → old.contents.torn ≡ None → EitherRose faults (disks_in old) (disks_in new)
-  pub other : new.other ≡ old.other
-  pub place : new.place ≡ old.place
+  pub disks : WritesOne c r old new

@@ -1,6 +1,8 @@
 pub mod Contents
 pub mod Crashes
 pub mod Standing
+pub mod DeskBatches
+pub mod Compacting
 pub mod Exporting
 pub mod Calls
 pub mod Images

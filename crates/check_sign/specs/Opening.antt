@@ -11,6 +11,7 @@ use Rattle.record_journal.specs.Opened.{ReadPair, FaultIs, KeepsOrRead, OpeningL
 use Rattle.protect_record.specs.Parts.{Parts}
 use Rattle.record_join.specs.Keys.{kept_of}
 use Rattle.record_join.specs.BooksPasts.{key_limit}
+use Rattle.record_journal.specs.Journals.{journal_size}
 use Rattle.record_replay.specs.Items.{items_in, named_keys, states_in}
 use Rattle.record_replay.specs.Replaying.{IsReplayed}
 use Rattle.record_journal.specs.declared.open.OpenFault.TheVariants as journal_fault
@@ -56,6 +57,7 @@ pub record IsOpened {D : Type 0} (shows : D → List ℕ → Type 0) (disks : Di
   pub read : ReadPair shows disks.first disks.second (Reads genesis.0 desk.payloads)
   pub brought_back : IsBroughtBack desk
   pub stands : (l : Lasting) → PayloadsStand desk.payloads l → DeskStands desk (reopened genesis l watch now)
+  pub size : desk.size ≡ journal_size desk.payloads
   pub genesis_is : desk.genesis ≡ genesis
   pub none_open : desk.grants ≡ []
   pub none_given : desk.next ≡ 0

@@ -2,6 +2,7 @@
 use Rattle.std.specs.Prelude.{◌≡◌, ◌⊎◌, ℕ, List, Option, None, Some, IsSomeAnd}
 use Rattle.edge_kit.specs.declared.bytes.Root.{Root}
 use Rattle.record_join.specs.BooksPasts.{BooksStand}
+use Rattle.journal_frames.specs.Frames.{generation_of}
 use Rattle.record_journal.specs.Pairs.{Reads}
 use Rattle.record_journal.specs.Journals.{journal_size}
 use Rattle.record_replay.specs.Items.{items_in}
@@ -15,6 +16,7 @@ use Rattle.check_sign.specs.Crashes.{Files}
 pub record PayloadsStand (payloads : List (List ℕ)) (l : Lasting) : Type 0 where
   pub items : ItemsStand (items_in payloads) l.keys l.states
   pub size : l.size ≡ journal_size payloads
+  pub generation : l.generation ≡ generation_of payloads
 
 -- the payloads that a torn call would have left stand for what it would have made of that
 abbrev pub TornStands : Option (List (List ℕ)) → Option Lasting → Type 0

@@ -39,17 +39,20 @@ Wrote faults old items new (Err Disk) = IsWritten old.size items × IsRead items
 Wrote faults old items new (Err OutOfMemory) = new ≡ old
 Wrote faults old items new (Err (Full size wanted)) = IsOver old.size items size wanted × (new ≡ old)
 
--- only the disk of the current file is written, and it stays the current one; a crash at any moment leaves what was there before or
--- what is there now, and from now on the latter; what was whole is torn
--- only where a disk's count of faults rose
-pub record Moved {D : Type 0} (moment : D → ℕ) (leaves : D → ℕ → List ℕ → Type 0) (faults : D → ℕ) (old new : Journaled D) : Type 0 where
+-- A crash at any moment leaves what was there before or what is there now, and from now on the latter; and what was whole is torn
+-- only where a disk's count of faults rose.
+pub record KeepsJournal {D : Type 0} (moment : D → ℕ) (leaves : D → ℕ → List ℕ → Type 0) (faults : D → ℕ) (old new : Journaled D) : Type 0 where
   pub moments : LeavesPairs moment leaves (disks_of old) (disks_of new) (λ a b. MayRead old a b ⊎ MayRead new a b)
   pub left : LeftPair moment leaves (disks_of new) (MayRead new)
   pub root : new.root ≡ old.root
-  pub other : new.other ≡ old.other
-  pub place : new.place ≡ old.place
   pub later : FaultsLater faults (disks_of old) (disks_of new)
   pub fails : old.torn ≡ None → IsSome new.torn → EitherRose faults (disks_of old) (disks_of new)
+
+-- beside that, only the disk of the current file is written, and it stays the current one
+pub record Moved {D : Type 0} (moment : D → ℕ) (leaves : D → ℕ → List ℕ → Type 0) (faults : D → ℕ) (old new : Journaled D) : Type 0 where
+  pub keeps : KeepsJournal moment leaves faults old new
+  pub other : new.other ≡ old.other
+  pub place : new.place ≡ old.place
 
 -- what is true of a desk's journal between calls
 pub record HoldsJournal {D : Type 0} (moment : D → ℕ) (leaves : D → ℕ → List ℕ → Type 0) (genesis : Root) (journal : Journaled D) : Type 0 where

@@ -2,6 +2,7 @@
 ghost use Rattle.std.specs.Prelude.{◌≡◌, ◌≤◌, Contains, is_some};
 ghost use Rattle.record_join.specs.BooksPasts.{EachOnce};
 ghost use Rattle.desk_machine.specs.Machine.{moment_limit};
+ghost use Rattle.record_journal.specs.Journals.{journal_size};
 ghost use Rattle.check_sign.specs.Calls.{IsCallOf};
 
 use crate::desk::Desk;
@@ -114,6 +115,25 @@ impl<D: Disk> Desk<D> {
         ensures { IsCallOf D.moment D.leaves D.faults self.old self.new (DeskCall.Keys) result }
     {
         self.call(DeskCall::Keys)
+    }
+
+    /// Compacts the journal: writes what is kept behind the next generation into the file that isn't current, and
+    /// makes it current. Tells the sizes in bytes of the file that was current and of the one that is now. At each
+    /// moment a stop leaves what is kept. Refused by `Disk` where the disk failed, by `LastGeneration` exactly where
+    /// the current file has the generation 2^64 - 1, and by `OutOfMemory`, `Full` with a size of 0 exactly where the
+    /// file would have more than 2^40 bytes, and `Disk` in this order.
+    pub fn compact(&mut self) -> DeskReply
+        ensures { IsCallOf D.moment D.leaves D.faults self.old self.new (DeskCall.Compact) result }
+    {
+        self.call(DeskCall::Compact)
+    }
+
+    /// The size in bytes of the journal's current file, up to and with its closed gate. Takes no memory.
+    pub fn size(&self) -> u64
+        ensures size { result ≡ self.now.contents.size }
+        ensures payloads { result ≡ journal_size self.now.contents.payloads }
+    {
+        self.journal.size()
     }
 
     /// Whether the disk has failed since the desk was opened. Takes no memory.

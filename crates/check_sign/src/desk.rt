@@ -6,8 +6,8 @@ ghost use Rattle.record_journal.specs.TwoDisks.{LeftPair, EitherRose};
 ghost use Rattle.check_sign.specs.Contents.{disks_in};
 ghost use Rattle.record_join.specs.Keys.{kept_of};
 ghost use Rattle.desk_machine.specs.Machine.{MayCall};
-ghost use Rattle.check_sign.specs.Calls.{IsCallOf, IsOwn, IsStep, Counted, LeavesDesk};
-ghost use Rattle.check_sign.specs.Writing.{Moved, journal_of};
+ghost use Rattle.check_sign.specs.Calls.{IsCallOf, IsOwn, IsStep, Counted, LeavesDesk, WritesOne};
+ghost use Rattle.check_sign.specs.Writing.{KeepsJournal, Moved, journal_of};
 
 use crate::room::note;
 use desk_machine::{
@@ -89,7 +89,8 @@ impl<D: Disk> Desk<D> {
         ensures counted { Counted self.old.contents (call) result self.new.contents }
         ensures own { IsOwn self.old.contents (call) result self.new.contents }
         ensures rose { result ≡ DeskReply.Disk → self.old.contents.torn ≡ None → EitherRose D.faults (disks_in self.old) (disks_in self.new) }
-        ensures moved { Moved D.moment D.leaves D.faults (journal_of self.old) (journal_of self.new) }
+        ensures keeps { KeepsJournal D.moment D.leaves D.faults (journal_of self.old) (journal_of self.new) }
+        ensures disks { WritesOne (call) result self.old self.new }
     {
         match call {
             DeskCall::Merge { file } => self.merge_file(file),
@@ -112,6 +113,8 @@ impl<D: Disk> Desk<D> {
             DeskCall::Prune { key } => self.prune_key(key),
             DeskCall::Keys => self.list_states(),
             DeskCall::HasFailed => self.tell_failed(),
+            DeskCall::Size => self.tell_size(),
+            DeskCall::Compact => self.compact_journal(),
         }
     }
 

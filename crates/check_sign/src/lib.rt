@@ -4,6 +4,7 @@
 mod calls;
 mod calls_by;
 mod closing;
+mod compacting;
 mod desk;
 mod exporting;
 mod leave;

@@ -32,7 +32,7 @@ impl<D: Disk> Desk<D> {
     ///
     /// # Errors
     ///
-    /// The journal's own (`Disk` only where the disk's count of faults rose in this call), and `TooManyKeys`
+    /// The journal's own (`Disk` only where a disk's count of faults rose in this call), and `TooManyKeys`
     /// exactly where the journal names more than 65,536 keys.
     pub fn open(
         alloc: Global,

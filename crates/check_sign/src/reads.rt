@@ -60,4 +60,15 @@ impl<D: Disk> Desk<D> {
     {
         DeskReply::HasFailed(self.journal.failed())
     }
+
+    /// How many bytes the current file of the journal has.
+    pub(crate) fn tell_size(&mut self) -> DeskReply
+        ensures machine { IsStep self.old.contents (DeskCall.Size) result self.new.contents }
+        ensures counted { Counted self.old.contents (DeskCall.Size) result self.new.contents }
+        ensures own { IsOwn self.old.contents (DeskCall.Size) result self.new.contents }
+        ensures rose { result ≡ DeskReply.Disk → self.old.contents.torn ≡ None → EitherRose D.faults (disks_in self.old) (disks_in self.new) }
+        ensures moved { Moved D.moment D.leaves D.faults (journal_of self.old) (journal_of self.new) }
+    {
+        DeskReply::Size(self.journal.size())
+    }
 }

@@ -43,6 +43,8 @@ quiet_call gs (call.Export keys) r h = refl
 quiet_call gs (call.Prune key) r h = refl
 quiet_call gs call.Keys r h = refl
 quiet_call gs call.HasFailed r h = refl
+quiet_call gs call.Size r h = refl
+quiet_call gs call.Compact r h = refl
 
 -- calls to close a key give no grant
 quiet_busy : (key : PubKey) (gs : List OpenGrant) (made : List (DeskCall × DeskReply)) → AllBusy (call.FinishClose key) made → given gs made ≡ gs

@@ -1,5 +1,6 @@
 pub mod Watches
 pub mod States
+pub mod Snapshots
 pub mod Grants
 pub mod Handing
 pub mod Written

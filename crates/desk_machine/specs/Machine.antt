@@ -1,5 +1,5 @@
 -- The desk as a machine: which replies it may give, and the state after a reply.
-use Rattle.std.specs.Prelude.{◌≡◌, ◌≢◌, ℕ, ◌+◌, ◌<◌, ◌≤◌, ◌⊎◌, max, is_some, length, map, List, [], ◌∷◌, ◌++◌, Contains, Option, Some, None, IsSome, IsSomeAnd}
+use Rattle.std.specs.Prelude.{◌≡◌, ◌≢◌, ℕ, ◌+◌, ◌-◌, ◌^◌, ◌<◌, ◌≤◌, ◌⊎◌, max, is_some, length, map, List, [], ◌∷◌, ◌++◌, Contains, Option, Some, None, IsSome, IsSomeAnd}
 use Rattle.std.specs.Map.{keys_of}
 use Rattle.edge_kit.specs.declared.bytes.PubKey.{PubKey}
 use Rattle.slash_defs.specs.declared.message.Message.{Message}
@@ -20,7 +20,8 @@ use Rattle.desk_machine.specs.States.{State, Lasting, lasting, past_of, key_stat
 use Rattle.desk_machine.specs.Watches.{Watching, standing_of, with_begun, with_told}
 use Rattle.desk_machine.specs.Grants.{open_grants, without}
 use Rattle.desk_machine.specs.Handing.{Exports, IsExport}
-use Rattle.desk_machine.specs.Written.{HasRoomFor, IsOver, IsWritten, frame_size, proposal_items, prune_items, written}
+use Rattle.desk_machine.specs.Snapshots.{snapshot_size}
+use Rattle.desk_machine.specs.Written.{Fits, Overfills, Writes, frame_size, proposal_items, prune_items}
 use Rattle.desk_machine.specs.declared.open_grant.OpenGrant.{OpenGrant}
 use Rattle.desk_machine.specs.declared.call.KeyStanding.{KeyStanding}
 use Rattle.desk_machine.specs.declared.call.DeskCall.{DeskCall}
@@ -31,6 +32,10 @@ use Rattle.desk_machine.specs.declared.call.DeskReply.TheVariants as reply
 -- the greatest moment, an epoch
 abbrev pub moment_limit : ℕ
 moment_limit = moments.moment_limit
+
+-- the greatest generation that a file may have
+abbrev pub last_generation : ℕ
+last_generation = 2 ^ 64 - 1
 
 -- what a call takes for granted: a moment within the limit, a grant that is open at this desk, a file that lists each key once
 abbrev pub MayCall : List OpenGrant → DeskCall → Type 0
@@ -46,6 +51,8 @@ MayCall grants (call.Export keys) = Unit {0}
 MayCall grants (call.Prune key) = Unit {0}
 MayCall grants call.Keys = Unit {0}
 MayCall grants call.HasFailed = Unit {0}
+MayCall grants call.Size = Unit {0}
+MayCall grants call.Compact = Unit {0}
 
 abbrev pub grant_for : State → PubKey → Message → OpenGrant
 grant_for state key m = record { number = state.next; key = key; message = Some m }
@@ -97,20 +104,22 @@ Proceeds state (call.Export keys) = Unit {0}
 Proceeds state (call.Prune key) = IsSome (past_of state key)
 Proceeds state call.Keys = Unit {0}
 Proceeds state call.HasFailed = Unit {0}
+Proceeds state call.Size = Unit {0}
+Proceeds state call.Compact = state.generation < last_generation
 
 -- a call that writes succeeds: no disk has failed, no refusal holds, and what it writes fits
 abbrev pub Succeeds : State → DeskCall → Type 0
-Succeeds state c = IsUp state × Proceeds state c × HasRoomFor state.size (written state c)
+Succeeds state c = IsUp state × Proceeds state c × Fits state c
 
 -- it may want memory, be too much for the journal, or fail by the disk, now or since an earlier call
 abbrev pub MayWant : State → DeskCall → Type 0
 MayWant state c = IsUp state × Proceeds state c
 
 abbrev pub IsTooMuch : State → DeskCall → ℕ → ℕ → Type 0
-IsTooMuch state c size wanted = IsUp state × Proceeds state c × IsOver state.size (written state c) size wanted
+IsTooMuch state c size wanted = IsUp state × Proceeds state c × Overfills state c size wanted
 
 abbrev pub MayFail : State → DeskCall → Type 0
-MayFail state c = IsSome state.torn ⊎ (IsUp state × Proceeds state c × IsWritten state.size (written state c))
+MayFail state c = IsSome state.torn ⊎ (IsUp state × Proceeds state c × Writes state c)
 
 -- what bars a key from signing, whatever is to be signed: the first of these that holds
 abbrev pub IsBarred : State → PubKey → DeskReply → Type 0
@@ -185,6 +194,12 @@ Reply state (call.Prune key) (reply.Pruned book) = Succeeds state (call.Prune ke
 Reply state call.Keys (reply.Keys listed) = listed ≡ key_standings state
 Reply state call.Keys reply.OutOfMemory = Unit {0}
 Reply state call.HasFailed (reply.HasFailed failed) = failed ≡ is_some state.torn
+Reply state call.Size (reply.Size size) = size ≡ state.size
+Reply state call.Compact reply.Disk = MayFail state call.Compact
+Reply state call.Compact reply.LastGeneration = IsUp state × (state.generation ≡ last_generation)
+Reply state call.Compact reply.OutOfMemory = MayWant state call.Compact
+Reply state call.Compact (reply.Full size wanted) = IsTooMuch state call.Compact size wanted
+Reply state call.Compact (reply.Compacted before after) = Succeeds state call.Compact × (before ≡ state.size) × (after ≡ snapshot_size state)
 Reply state c r = ⊥
 
 -- ---- the state after a reply
@@ -204,18 +219,20 @@ pruned_keys keys key (Some past) = with_file keys ((key, pruning_of past) ∷ []
 
 -- what lasts after the success of a call
 abbrev pub lasting_after : State → DeskCall → Lasting
-lasting_after state (call.Merge file) = record { keys = with_file state.keys file.books; states = state.states; size = state.size + frame_size (file_items (canonical file).books) }
-lasting_after state (call.Activate key now) = record { keys = with_known state.keys key; states = with_key state.states key Active; size = state.size + frame_size (item.Activate key ∷ []) }
-lasting_after state (call.Propose key m now) = record { keys = own_grown state.keys key m; states = state.states; size = state.size + frame_size (proposal_items (past_of state key) key m) }
-lasting_after state (call.BeginClose key) = record { keys = state.keys; states = with_kept state.states key Closing; size = state.size }
-lasting_after state (call.FinishClose key) = record { keys = state.keys; states = with_kept state.states key Closed; size = state.size + frame_size (item.Close key ∷ []) }
-lasting_after state (call.Prune key) = record { keys = pruned_keys state.keys key (past_of state key); states = state.states; size = state.size + frame_size (prune_items key (past_of state key)) }
+lasting_after state (call.Merge file) = record { keys = with_file state.keys file.books; states = state.states; size = state.size + frame_size (file_items (canonical file).books); generation = state.generation }
+lasting_after state (call.Activate key now) = record { keys = with_known state.keys key; states = with_key state.states key Active; size = state.size + frame_size (item.Activate key ∷ []); generation = state.generation }
+lasting_after state (call.Propose key m now) = record { keys = own_grown state.keys key m; states = state.states; size = state.size + frame_size (proposal_items (past_of state key) key m); generation = state.generation }
+lasting_after state (call.BeginClose key) = record { keys = state.keys; states = with_kept state.states key Closing; size = state.size; generation = state.generation }
+lasting_after state (call.FinishClose key) = record { keys = state.keys; states = with_kept state.states key Closed; size = state.size + frame_size (item.Close key ∷ []); generation = state.generation }
+lasting_after state (call.Prune key) = record { keys = pruned_keys state.keys key (past_of state key); states = state.states; size = state.size + frame_size (prune_items key (past_of state key)); generation = state.generation }
 lasting_after state (call.Allow key now) = lasting state
 lasting_after state (call.Answer key epoch live now) = lasting state
 lasting_after state (call.Settle grant outcome) = lasting state
 lasting_after state (call.Export keys) = lasting state
 lasting_after state call.Keys = lasting state
 lasting_after state call.HasFailed = lasting state
+lasting_after state call.Size = lasting state
+lasting_after state call.Compact = record { keys = state.keys; states = state.states; size = snapshot_size state; generation = state.generation + 1 }
 
 -- the watches after a call that succeeded: a key that becomes active is watched anew, from the latest moment on; and what is told of a
 -- key joins its watch, at the moment at which it is told
@@ -231,7 +248,7 @@ torn_first (Some first) l = Some first
 
 -- the state with what lasts after a call, at its moment
 abbrev pub changed : State → DeskCall → State
-changed state c = record state { keys = (lasting_after state c).keys; states = (lasting_after state c).states; size = (lasting_after state c).size; latest = latest_after state.latest c; watching = watching_after state c }
+changed state c = record state { keys = (lasting_after state c).keys; states = (lasting_after state c).states; size = (lasting_after state c).size; generation = (lasting_after state c).generation; latest = latest_after state.latest c; watching = watching_after state c }
 
 -- the state after a reply; after a refusal only the latest moment may differ, but that a fault of the disk tears the call
 abbrev pub after : State → DeskCall → DeskReply → State
@@ -244,5 +261,6 @@ after state (call.Settle grant outcome) reply.Settled = record state { grants = 
 after state (call.BeginClose key) reply.CloseBegun = changed state (call.BeginClose key)
 after state (call.FinishClose key) (reply.Closed book) = changed state (call.FinishClose key)
 after state (call.Prune key) (reply.Pruned book) = changed state (call.Prune key)
+after state call.Compact (reply.Compacted before size) = changed state call.Compact
 after state c reply.Disk = record state { latest = latest_after state.latest c; torn = torn_first state.torn (lasting_after state c) }
 after state c r = record state { latest = latest_after state.latest c }

@@ -26,4 +26,5 @@ noted latest (call.Settle grant outcome) reply.Settled = record { event = event.
 noted latest (call.BeginClose key) reply.CloseBegun = record { event = event.CloseBegun key; moment = latest } ∷ []
 noted latest (call.FinishClose key) (reply.Closed book) = record { event = event.Closed key book; moment = latest } ∷ []
 noted latest (call.Prune key) (reply.Pruned book) = record { event = event.Pruned key book; moment = latest } ∷ []
+noted latest call.Compact (reply.Compacted before after) = record { event = event.Compacted before after; moment = latest } ∷ []
 noted latest c r = []

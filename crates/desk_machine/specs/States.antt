@@ -16,12 +16,13 @@ use Rattle.desk_machine.specs.declared.open_grant.OpenGrant.{OpenGrant}
 use Rattle.desk_machine.specs.declared.call.KeyStanding.{KeyStanding}
 use Rattle.desk_machine.specs.declared.call.KeyStanding.TheVariants as standing
 
--- what outlasts a stop: each kept key with its past, in key order; the state of each that was activated or closed; and the
--- size of the journal in bytes
+-- what outlasts a stop: each kept key with its past, in key order; the state of each that was activated or closed; and of the
+-- journal's current file the size in bytes and the generation, which rises by one with each compaction
 pub record Lasting : Type 0 where
   pub keys : List (PubKey × Past)
   pub states : List (PubKey × KeyState)
   pub size : ℕ
+  pub generation : ℕ
 
 -- beside that, the chain's genesis root; the open grants and the number of the next; the latest moment; the watches of the keys,
 -- and whether keys are watched; and, where a fault of the disk tore a call, what would have outlasted its Ok: such a desk has failed
@@ -34,14 +35,15 @@ pub record State : Type 0 where
   pub latest : ℕ
   pub watching : Watching
   pub size : ℕ
+  pub generation : ℕ
   pub torn : Option Lasting
 
 abbrev pub lasting : State → Lasting
-lasting state = record { keys = state.keys; states = state.states; size = state.size }
+lasting state = record { keys = state.keys; states = state.states; size = state.size; generation = state.generation }
 
 -- nothing is kept, in a journal of its header alone
 abbrev pub nothing_lasts : Lasting
-nothing_lasts = record { keys = []; states = []; size = 42 }
+nothing_lasts = record { keys = []; states = []; size = 42; generation = 0 }
 
 -- the state of a desk that is opened, at this moment, over what lasted: no grant is open, a closing key is active, and the watch
 -- of each active key begins now
@@ -55,6 +57,7 @@ reopened genesis l watch now = record {
   latest = now;
   watching = fresh_watching watch now;
   size = l.size;
+  generation = l.generation;
   torn = None;
 }
 

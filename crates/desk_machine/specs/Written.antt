@@ -11,6 +11,7 @@ use Rattle.record_join.specs.Repeats.{repeats}
 use Rattle.record_replay.specs.Batches.{book_items, file_items, message_item}
 use Rattle.record_replay.specs.Pruning.{pruning_of}
 use Rattle.desk_machine.specs.States.{State, past_of}
+use Rattle.desk_machine.specs.Snapshots.{snapshot_size}
 use Rattle.desk_machine.specs.declared.call.DeskCall.{DeskCall}
 use Rattle.desk_machine.specs.declared.call.DeskCall.TheVariants as call
 
@@ -24,7 +25,7 @@ abbrev pub prune_items : PubKey → Option Past → List JournalItem
 prune_items key None = []
 prune_items key (Some past) = book_items (key, pruning_of past)
 
--- what a call writes where it succeeds; a file without keys writes nothing
+-- the batch that a call adds to the journal where it succeeds; a file without keys adds nothing, and a compaction begins a file anew
 abbrev pub written : State → DeskCall → List JournalItem
 written state (call.Merge file) = file_items (canonical file).books
 written state (call.Activate key now) = item.Activate key ∷ []
@@ -38,6 +39,8 @@ written state (call.Export keys) = []
 written state (call.Prune key) = prune_items key (past_of state key)
 written state call.Keys = []
 written state call.HasFailed = []
+written state call.Size = []
+written state call.Compact = []
 
 -- how many bytes a batch adds to the journal: its own, and 5 of its frame
 abbrev pub frame_size : List JournalItem → ℕ
@@ -59,3 +62,20 @@ IsOver size (i ∷ items) have wanted =
 abbrev pub IsWritten : ℕ → List JournalItem → Type 0
 IsWritten size [] = ⊥
 IsWritten size (i ∷ items) = HasRoomFor size (i ∷ items)
+
+-- ---- of a call
+
+-- what a call writes fits
+abbrev pub Fits : State → DeskCall → Type 0
+Fits state call.Compact = snapshot_size state ≤ 2 ^ 40
+Fits state c = HasRoomFor state.size (written state c)
+
+-- what it writes doesn't fit into a journal of so many bytes, to which it would add so many
+abbrev pub Overfills : State → DeskCall → ℕ → ℕ → Type 0
+Overfills state call.Compact have wanted = (have ≡ 0) × (wanted ≡ snapshot_size state) × (2 ^ 40 < wanted)
+Overfills state c have wanted = IsOver state.size (written state c) have wanted
+
+-- it writes, and what it writes fits
+abbrev pub Writes : State → DeskCall → Type 0
+Writes state call.Compact = snapshot_size state ≤ 2 ^ 40
+Writes state c = IsWritten state.size (written state c)

@@ -117,6 +117,10 @@ pub enum DeskCall {
     Keys,
     /// Asks whether the disk has failed since the desk was opened.
     HasFailed,
+    /// Asks how many bytes the current file of the journal has.
+    Size,
+    /// Writes what the desk keeps into the file that isn't current, and makes it the current one.
+    Compact,
 }
 
 /// A reply of the desk.
@@ -147,6 +151,10 @@ pub enum DeskReply {
     Keys(KeyStandings),
     /// Whether the disk has failed.
     HasFailed(bool),
+    /// The size in bytes of the current file, up to and with its closed gate.
+    Size(u64),
+    /// The journal is compacted: the sizes in bytes of the file that was current and of the one that is now.
+    Compacted { before: u64, after: u64 },
     /// The file is of a chain with another root of genesis validators.
     GenesisDiffers { kept: Root, given: Root },
     /// No past is kept of the key.
@@ -168,8 +176,11 @@ pub enum DeskReply {
     Refused(Verdict),
     /// `have` keys are kept, and with the `new` ones there would be more than 65,536.
     TooManyKeys { have: u64, new: u64 },
+    /// The current file has the generation 2^64 - 1, behind which there is none. The desk is as before.
+    LastGeneration,
     /// The batch has more than 2^32 - 1 bytes, or the journal of `size` bytes would have more than 2^40 with
-    /// the `wanted` ones. But for the latest moment, the desk is as before.
+    /// the `wanted` ones; a compacted file begins anew, with a `size` of 0. But for the latest moment, the desk
+    /// is as before.
     Full { size: u64, wanted: u64 },
     /// The disk failed, in this call or in an earlier one since the desk was opened. The desk grants nothing
     /// more until it is opened again.

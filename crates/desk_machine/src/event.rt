@@ -50,6 +50,11 @@ pub enum Event {
         key: PubKey,
         book: Book,
     },
+    /// The journal was compacted: the sizes in bytes of the file that was current and of the one that is now.
+    Compacted {
+        before: u64,
+        after: u64,
+    },
 }
 
 /// An event with its moment, the greatest epoch that the desk had been told by then.

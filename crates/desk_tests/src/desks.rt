@@ -10,11 +10,11 @@ use std::alloc::{AllocError, Global};
 use std::process::Abort;
 use std::test::Fail;
 
-const KEY: PubKey = PubKey([0x11; 48]);
+pub const KEY: PubKey = PubKey([0x11; 48]);
 
 const GENESIS: Root = Root([0; 32]);
 
-const RA: Root = Root([0xaa; 32]);
+pub const RA: Root = Root([0xaa; 32]);
 
 const RB: Root = Root([0xbb; 32]);
 
@@ -27,7 +27,7 @@ fn disks_of(alloc: Global, bytes: &[u8], stop: Option<u64>) -> Result<Disks<MemD
 }
 
 /// Opens a desk.
-fn opened<T: Abort>(rt: &T, alloc: Global, disks: Disks<MemDisk>) -> Desk<MemDisk> {
+pub fn opened<T: Abort>(rt: &T, alloc: Global, disks: Disks<MemDisk>) -> Desk<MemDisk> {
     match Desk::open(alloc, disks, GENESIS, false, 0) {
         Ok(desk) => desk,
         Err(_) => rt.panic("not opened"),
@@ -35,7 +35,7 @@ fn opened<T: Abort>(rt: &T, alloc: Global, disks: Disks<MemDisk>) -> Desk<MemDis
 }
 
 /// Opens a desk over empty disks.
-fn begun<T: Abort>(rt: &T, alloc: Global) -> Result<Desk<MemDisk>, AllocError>
+pub fn begun<T: Abort>(rt: &T, alloc: Global) -> Result<Desk<MemDisk>, AllocError>
     ensures { IfOk result (λ desk. StandsForOne desk.contents) }
 {
     let disks = Disks {
@@ -49,7 +49,7 @@ fn begun<T: Abort>(rt: &T, alloc: Global) -> Result<Desk<MemDisk>, AllocError>
 }
 
 /// Makes the key active.
-fn activate<T: Abort>(rt: &T, desk: &mut Desk<MemDisk>)
+pub fn activate<T: Abort>(rt: &T, desk: &mut Desk<MemDisk>)
     requires { StandsForOne desk.old.contents }
     ensures { StandsForOne desk.new.contents }
 {
@@ -60,7 +60,7 @@ fn activate<T: Abort>(rt: &T, desk: &mut Desk<MemDisk>)
 }
 
 /// The key's vote.
-fn vote(source: u64, target: u64, root: Root) -> Message {
+pub fn vote(source: u64, target: u64, root: Root) -> Message {
     Message::Vote {
         source,
         target,
@@ -69,7 +69,7 @@ fn vote(source: u64, target: u64, root: Root) -> Message {
 }
 
 /// Asks for leave to sign a message, which is given.
-fn granted<T: Abort>(rt: &T, desk: &mut Desk<MemDisk>, message: Message) -> Grant
+pub fn granted<T: Abort>(rt: &T, desk: &mut Desk<MemDisk>, message: Message) -> Grant
     ensures stands { StandsForOne desk.old.contents → StandsForOne desk.new.contents }
     ensures is_open { Contains desk.new.contents.grants result }
 {
@@ -126,7 +126,7 @@ fn closed<T: Abort>(rt: &T, desk: &mut Desk<MemDisk>) -> Book {
 }
 
 /// The first of the kept keys with how it stands.
-fn first_standing<T: Abort>(rt: &T, desk: &mut Desk<MemDisk>) -> Option<(PubKey, KeyStanding)> {
+pub fn first_standing<T: Abort>(rt: &T, desk: &mut Desk<MemDisk>) -> Option<(PubKey, KeyStanding)> {
     match desk.keys() {
         DeskReply::Keys(listed) => listed.as_slice().first().copied(),
         _ => rt.panic("no keys"),
@@ -252,19 +252,19 @@ fn stopped<T: Abort>(
     Ok(first)
 }
 
-/// Whether a desk that is opened over an image grants another vote of the target, and not for a double vote. The
+/// Whether a desk that is opened over these disks grants another vote of the target, and not for a double vote. The
 /// vote of the stopped proposal is granted, whether it is there or not.
-fn grants_another<T: Abort>(rt: &T, alloc: Global, image: &[u8]) -> Result<bool, AllocError> {
-    let mut desk = opened(rt, alloc, disks_of(alloc, image, None)?);
+pub fn grants_another<T: Abort>(rt: &T, alloc: Global, disks: Disks<MemDisk>) -> bool {
+    let mut desk = opened(rt, alloc, disks);
     match desk.propose(KEY, vote(1, 2, RB), 0) {
         DeskReply::Granted(grant) => {
             desk.settle(grant, Outcome::Dropped);
-            Ok(true)
+            true
         }
         DeskReply::Refused(Verdict::DoubleVote(_)) => {
             let grant = granted(rt, &mut desk, vote(1, 2, RA));
             desk.settle(grant, Outcome::Dropped);
-            Ok(false)
+            false
         }
         _ => rt.panic("neither granted nor a double vote"),
     }
@@ -282,7 +282,8 @@ fn a_vote_outlasts_a_stop_once_its_gate_is_written(rt: HostRuntime) -> Result<()
             let stop = opening.saturating_add(call);
             let image = stopped(&rt, alloc, disk.bytes(), stop)?.image(alloc, crash)?;
             let is_there = call >= 2 && crash == Crash::Written;
-            let grants = grants_another(&rt, alloc, image.as_slice())?;
+            let disks = disks_of(alloc, image.as_slice(), None)?;
+            let grants = grants_another(&rt, alloc, disks);
             assert_eq!(rt; grants, !is_there, "call {call}, {crash:?}");
         }
     }

@@ -2,4 +2,6 @@
 #![tactic(auto)]
 
 #[cfg(test)]
+mod compactions;
+#[cfg(test)]
 mod desks;

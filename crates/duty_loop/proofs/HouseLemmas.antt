@@ -1,5 +1,5 @@
 -- What a turn calls, one step before others.
-use Rattle.std.proofs.Common.{◌≡◌, ℕ, List, [], ◌∷◌, ◌++◌, Option, Some, None, Result, Ok, Err, true, false, refl, sym, ◌∙◌, ap, subst}
+use Rattle.std.proofs.Common.{◌≡◌, ℕ, List, [], ◌∷◌, ◌++◌, Option, Some, None, Result, Ok, Err, true, false, refl, sym, ap, subst}
 use Rattle.std.specs.Prelude.{OnOk}
 use Rattle.desk_machine.specs.Grants.{IsGrantFor}
 use Rattle.desk_machine.specs.Kinds.{IsKind}
@@ -13,7 +13,7 @@ use Rattle.node_calls.specs.declared.answer.Answer.{Answer}
 use Rattle.node_calls.specs.declared.answer.NodeFault.{NodeFault}
 use Rattle.node_fallback.specs.Refreshing.{AreAskedFirst, AreFlagged}
 use Rattle.node_fallback.specs.Seen.{Seen}
-use Rattle.call_plans.specs.Plans.{Plan, Done, Stop, Ask as Step, Follows, bind}
+use Rattle.call_plans.specs.Plans.{Plan, Done, Stop, Ask as Step}
 use Rattle.call_plans.specs.Paths.{Carries, Comes, Path}
 use Rattle.call_plans.proofs.PathLemmas.{carries_step, carries_end, carries_on, carries_short, path_on}
 use Rattle.call_plans.proofs.PlanLemmas.{reaches_on}
@@ -26,14 +26,12 @@ use Rattle.duty_plans.specs.declared.result.DutyResult.{DutyResult}
 use Rattle.duty_plans.specs.declared.work.SlotWork.{SlotWork}
 use Rattle.duty_plans.specs.Seats.{at_seat}
 use Rattle.duty_turns.specs.Standing.{Standing}
-use Rattle.duty_turns.specs.Turns.{NextPlan, PartPlan, calls, looks_up, on_standing, refreshes, then_on, waits, works}
-use Rattle.duty_turns.specs.TurnSteps.{Does, Fits, HasTaken, House, IsPiece, LooksUp, Due, Own, Owned, Refreshed, Refreshes, SinkSeen, TurnPlan, TurnReply, TurnStep, Waits, Woke, Worked, Works, Writes, Wrote, in_house}
-use Rattle.duty_turns.specs.declared.held.DutyEnd.{DutyEnd}
-use Rattle.duty_turns.specs.declared.held.DutyEnd.TheVariants as end
-use Rattle.duty_asks.specs.Quiet.{Outside, Parts, QuietDoes, done_value, outside, stop_value}
+use Rattle.duty_turns.specs.Turns.{PartPlan, calls, looks_up, on_standing, refreshes, then_on, waits, works}
+use Rattle.duty_turns.specs.TurnSteps.{Does, Fits, HasTaken, House, IsPiece, LooksUp, Due, Own, Owned, Refreshed, Refreshes, SinkSeen, TurnPlan, TurnReply, TurnStep, Waits, Woke, Worked, Works, Writes, Wrote}
+use Rattle.duty_asks.specs.Quiet.{Outside, Parts, QuietDoes, done_value, stop_value}
 use Rattle.duty_asks.specs.declared.ask.Stop.{Stop as Stopped}
 use Rattle.duty_asks.specs.declared.ask.Stop.TheVariants as stop
-use Rattle.duty_loop.specs.Houses.{PartTurns, Turns, WorksDone, house, next_value}
+use Rattle.duty_loop.specs.Houses.{PartTurns, WorksDone, house}
 
 -- up to what is left, and then up to what is left of that
 pub comes_more : {S C R X : Type 0} (fits : C → R → Type 0) (does : S → C × R → S → Type 0) (a b c : S) (p q r : Plan C R X) → Comes fits does p q a b → Comes fits does q r b c → Comes fits does p r a c

@@ -6,3 +6,4 @@ pub mod PlacedLemmas
 pub mod GuardingLemmas
 pub mod TurnLemmas
 pub mod RunLemmas
+pub mod ShortenLemmas

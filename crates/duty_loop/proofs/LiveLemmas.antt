@@ -1,5 +1,5 @@
 -- What is noted of liveness.
-use Rattle.std.proofs.Common.{◌≡◌, ◌==◌, ℕ, ◌+◌, ◌<◌, ◌≤◌, ◌∙◌, List, [], ◌∷◌, length, drop, get_or, Option, Some, None, Result, Ok, Err, Bool, true, false, refl, sym, ap, subst, arith}
+use Rattle.std.proofs.Common.{◌≡◌, ◌==◌, ℕ, ◌+◌, ◌<◌, ◌≤◌, ◌∙◌, List, [], ◌∷◌, length, drop, get_or, Option, Some, None, Result, Ok, Bool, true, false, refl, sym, ap, subst, arith}
 use Rattle.std.proofs.lemmas.Bool.{eqb-true}
 use Rattle.std.proofs.lemmas.List.{at_drop_more, at_drop_all}
 use Rattle.edge_kit.specs.declared.bytes.PubKey.{PubKey}
@@ -23,10 +23,10 @@ use Rattle.call_plans.specs.Paths.{Carries, Comes}
 use Rattle.call_plans.proofs.PathLemmas.{comes_run, comes_end, comes_none, comes_on, comes_cut, carries_cut, carries_end}
 use Rattle.duty_turns.specs.Standing.{Standing, indices_of}
 use Rattle.duty_turns.specs.Times.{epoch_of}
-use Rattle.duty_turns.specs.Turns.{PartPlan, asks, calls, epoch_plan, epochs_plan, lived_plan, liveness_plan, missing_epochs, missing_keys, noted, notes_of, notes_plan, on_standing, then_on, watch_plan}
+use Rattle.duty_turns.specs.Turns.{PartPlan, asks, calls, epoch_plan, epochs_plan, lived_plan, liveness_plan, missing_epochs, missing_keys, noted, notes_of, notes_plan, on_standing, watch_plan}
 use Rattle.duty_turns.specs.TurnSteps.{Does, Fits, House, SinkSeen}
 use Rattle.node_fallback.specs.Seen.{Seen}
-use Rattle.duty_asks.specs.Quiet.{CameSo, Outside, TellsNone, done_value, outside, stop_value}
+use Rattle.duty_asks.specs.Quiet.{CameSo, Outside, TellsNone, done_value, stop_value}
 use Rattle.duty_asks.specs.declared.ask.Asked.{Asked}
 use Rattle.duty_asks.specs.declared.ask.Asked.TheVariants as asked
 use Rattle.duty_asks.specs.declared.ask.Stop.{Stop}
@@ -34,7 +34,7 @@ use Rattle.duty_asks.specs.declared.ask.Stop.TheVariants as stop
 use Rattle.duty_plans.specs.Hands.{Free, hand_given}
 use Rattle.duty_loop.specs.Houses.{house}
 use Rattle.duty_loop.specs.Missing.{is_missed, missing_from}
-use Rattle.duty_loop.proofs.MissingLemmas.{missing_all, missing_here, missing_none, missing_skip}
+use Rattle.duty_loop.proofs.MissingLemmas.{missing_all, missing_here, missing_skip}
 use Rattle.duty_loop.specs.Noting.{IsNoted, NotedOn, NotedSo, noted_by}
 use Rattle.duty_loop.proofs.HouseLemmas.{comes_more, quiet_comes, quiet_runs, turn_calls, turn_comes}
 

@@ -1,5 +1,5 @@
 -- Epochs that are missing of some watch, the lesser first.
-use Rattle.std.proofs.Common.{◌≡◌, ℕ, zero, suc, ◌+◌, ◌-◌, ◌<◌, ◌≤◌, List, [], ◌∷◌, Bool, true, false, refl, sym, ◌∙◌, ap, subst, arith}
+use Rattle.std.proofs.Common.{◌≡◌, ℕ, zero, suc, ◌+◌, ◌-◌, ◌<◌, ◌≤◌, List, [], ◌∷◌, true, false, refl, ◌∙◌, ap, subst, arith}
 use Rattle.std.specs.Prelude.{filter}
 use Rattle.edge_kit.specs.declared.bytes.PubKey.{PubKey}
 use Rattle.desk_machine.specs.declared.call.KeyStanding.{KeyStanding}

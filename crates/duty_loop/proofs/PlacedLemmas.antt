@@ -20,7 +20,6 @@ use Rattle.duty_schedule.specs.declared.rows.DutyRows.{DutyRows}
 use Rattle.duty_schedule.specs.declared.rows.DutyRows.TheVariants as kind
 use Rattle.duty_schedule.proofs.HeldLemmas.{answer_at, attesters_elsewhere, attesters_here, attesters_none, attesters_of_proposers, held-append, one_kind}
 use Rattle.duty_workers.specs.Hands as workers
-use Rattle.duty_turns.specs.Turns.{blocks_in, is_block, votes_in}
 use Rattle.duty_asks.specs.Placed.{are_placed, has_place, have_places}
 use Rattle.duty_asks.proofs.PlaceLemmas.{both_true}
 

@@ -1,13 +1,11 @@
 -- A turn, part behind part.
-use Rattle.std.proofs.Common.{◌≡◌, ℕ, ◌<◌, ◌≤◌, ◌++◌, List, [], ◌∷◌, Option, Some, None, Result, Ok, Err, Bool, true, false, refl, sym, ◌∙◌, ap, subst}
-use Rattle.std.specs.Prelude.{OnOk, option_map}
-use Rattle.std.specs.Result.{result_ok}
+use Rattle.std.proofs.Common.{◌≡◌, ℕ, ◌≤◌, ◌++◌, List, [], ◌∷◌, Option, Some, None, Result, Ok, Err, true, false, refl, sym, ◌∙◌, ap, subst}
+use Rattle.std.specs.Prelude.{OnOk}
 use Rattle.edge_kit.specs.declared.bytes.PubKey.{PubKey}
 use Rattle.sign_roots.specs.declared.domains.Domains.{Domains}
 use Rattle.edge_clock.specs.Clocks.{IsWaited}
 use Rattle.desk_machine.specs.Grants.{IsGrantFor}
 use Rattle.desk_machine.specs.Kinds.{IsKind}
-use Rattle.desk_machine.specs.declared.call.DeskCall.{DeskCall}
 use Rattle.desk_machine.specs.declared.call.DeskCall.TheVariants as call
 use Rattle.desk_machine.specs.declared.call.DeskReply.{DeskReply}
 use Rattle.desk_machine.specs.declared.call.DeskReply.TheVariants as reply
@@ -19,7 +17,6 @@ use Rattle.node_fallback.specs.Seen.{Seen}
 use Rattle.call_plans.specs.Plans.{Done, bind}
 use Rattle.call_plans.specs.Paths.{Carries}
 use Rattle.call_plans.proofs.PathLemmas.{carries_cut, carries_end, carries_on, carries_short}
-use Rattle.duty_schedule.specs.Answers.{TakenAnswer}
 use Rattle.duty_schedule.specs.Due.{IsDue}
 use Rattle.duty_schedule.specs.declared.rows.Duty.{Duty}
 use Rattle.duty_plans.specs.Hands.{Free, hand_given}
@@ -31,10 +28,10 @@ use Rattle.duty_plans.specs.declared.result.DutyResult.{DutyResult}
 use Rattle.duty_plans.specs.declared.setup.DutySetup.{DutySetup}
 use Rattle.duty_plans.specs.declared.work.SlotWork.{SlotWork}
 use Rattle.duty_turns.specs.Lines.{duty_lines}
-use Rattle.duty_turns.specs.Standing.{IsHeld, Standing}
+use Rattle.duty_turns.specs.Standing.{Standing}
 use Rattle.duty_turns.specs.Times.{epoch_of, next_slot, slot_of, slot_start, votes_start}
-use Rattle.duty_turns.specs.Turns.{NextPlan, PartPlan, active_of, asked_plan, at_slot, blocks_in, calls, close_plan, closed_plan, due_plan, failed_plan, listed_plan, looks_up, ready_plan, refreshes, turn_plan, votes_in, votes_plan, waits, with_active, woken_plan, work_of, works}
-use Rattle.duty_turns.specs.TurnSteps.{Does, Fits, House, SinkSeen, TurnPlan}
+use Rattle.duty_turns.specs.Turns.{NextPlan, PartPlan, active_of, asked_plan, at_slot, blocks_in, calls, close_plan, closed_plan, due_plan, failed_plan, listed_plan, ready_plan, refreshes, shortens, turn_plan, votes_in, votes_plan, waits, with_active, woken_plan, work_of, works}
+use Rattle.duty_turns.specs.TurnSteps.{Does, Fits, House, SinkSeen}
 use Rattle.duty_turns.specs.declared.held.DutyEnd.{DutyEnd}
 use Rattle.duty_turns.specs.declared.held.DutyEnd.TheVariants as end
 use Rattle.duty_turns.specs.declared.held.Held.{Held}
@@ -44,7 +41,7 @@ use Rattle.duty_asks.specs.declared.ask.Stop.{Stop}
 use Rattle.duty_asks.specs.declared.ask.Stop.TheVariants as stop
 use Rattle.duty_loop.specs.Houses.{IsFailed, PartTurns, Turns, WorksDone, end_by, end_of, house, next_value}
 use Rattle.duty_loop.proofs.HouseLemmas.{turn_calls, turn_looks, turn_refresh_cut, turn_refreshes, turn_waits, turn_works, turn_works_cut, turn_write_fails, turn_writes}
-use Rattle.duty_loop.proofs.TurnLemmas.{votes_late, votes_now, woken_late, woken_now}
+use Rattle.duty_loop.proofs.TurnLemmas.{votes_now}
 
 pub kept : {E P : Type 0} (r : Result (Unit {0}) E) → P → OnOk r P
 kept (Ok x) p = p
@@ -139,17 +136,17 @@ module _ {K : Type 0} (leads : Leads K) (none : NoneLed leads) (start : Option �
       }
 
   pub refreshed : (Holds : Standing → Type 0) (setup : DutySetup) (s : Standing) (d : K) (g : SignerSeen) (ns ms : List Seen) (o : SinkSeen) (b : House K) (reached later : ℕ) (result : Result (Unit {0}) DutyEnd)
-      → woken_plan setup s reached ≡ refreshes (calls call.Keys (listed_plan setup s)) → WithReplies (λ replies. AreFlagged ns replies ms)
-      → Turns leads start Holds (calls call.Keys (listed_plan setup s)) (house d g ms o) b result → Turns leads start Holds (woken_plan setup s reached) (house d g ns o) b result
+      → woken_plan setup s reached ≡ refreshes (shortens s (calls call.Keys (listed_plan setup s))) → WithReplies (λ replies. AreFlagged ns replies ms)
+      → Turns leads start Holds (shortens s (calls call.Keys (listed_plan setup s))) (house d g ms o) b result → Turns leads start Holds (woken_plan setup s reached) (house d g ns o) b result
   refreshed Holds setup s d g ns ms o b reached later result is flagged t =
-      let run = turn_refreshes leads none start d g ns ms o b flagged.0 (calls call.Keys (listed_plan setup s)) (next_value t.after result) flagged.1 t.runs in
+      let run = turn_refreshes leads none start d g ns ms o b flagged.0 (shortens s (calls call.Keys (listed_plan setup s))) (next_value t.after result) flagged.1 t.runs in
       record { after = t.after; held = t.held; runs = subst (λ (q : NextPlan). Carries Fits (Does leads start) q (house d g ns o) b (next_value t.after result)) (sym is) run }
 
   pub refreshed_short : (Holds : Standing → Type 0) (setup : DutySetup) (s : Standing) (d : K) (g : SignerSeen) (ns ms : List Seen) (o : SinkSeen) (reached : ℕ)
-      → woken_plan setup s reached ≡ refreshes (calls call.Keys (listed_plan setup s)) → WithReplies (λ replies. AreAskedFirst ns replies ms)
+      → woken_plan setup s reached ≡ refreshes (shortens s (calls call.Keys (listed_plan setup s))) → WithReplies (λ replies. AreAskedFirst ns replies ms)
       → Turns leads start Holds (woken_plan setup s reached) (house d g ns o) (house d g ms o) (Err end.OutOfMemory)
   refreshed_short Holds setup s d g ns ms o reached is asked =
-      let run = turn_refresh_cut leads none start d g ns ms o asked.0 (calls call.Keys (listed_plan setup s)) asked.1 in
+      let run = turn_refresh_cut leads none start d g ns ms o asked.0 (shortens s (calls call.Keys (listed_plan setup s))) asked.1 in
       record { after = s; held = tt; runs = subst (λ (q : NextPlan). Carries Fits (Does leads start) q (house d g ns o) (house d g ms o) None) (sym is) run }
 
   pub listed_goes : (Holds : Standing → Type 0) (setup : DutySetup) (s : Standing) (d e : K) (g : SignerSeen) (ns : List Seen) (o : SinkSeen) (b : House K) (r : DeskReply) (listed slice : List (PubKey × KeyStanding)) (result : Result (Unit {0}) DutyEnd)

@@ -1,5 +1,5 @@
 -- What turns call of the desk, the signing service and the nodes, duty behind duty.
-use Rattle.std.specs.Prelude.{◌≡◌, List, [], ◌∷◌, flat_map}
+use Rattle.std.specs.Prelude.{List, [], ◌∷◌, flat_map}
 use Rattle.desk_machine.specs.declared.call.DeskCall.{DeskCall}
 use Rattle.desk_machine.specs.declared.call.DeskReply.{DeskReply}
 use Rattle.duty_plans.specs.Guards.{PostedGranted, PostsGuarded, SignsGuarded}

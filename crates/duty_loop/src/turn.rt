@@ -1,14 +1,16 @@
 //! One turn.
-ghost use Rattle.std.specs.Prelude.{◌≡◌, ℕ, OnOk, Option, Some};
+ghost use Rattle.std.specs.Prelude.{◌≡◌, ℕ, List, OnOk, Option, Some};
 ghost use Rattle.client_calls.specs.Seats.{SignerSeen};
 ghost use Rattle.desk_machine.specs.declared.call.DeskCall.TheVariants as call;
 ghost use Rattle.desk_machine.specs.declared.call.DeskReply.TheVariants as reply;
+ghost use Rattle.node_fallback.specs.Seen.{Seen};
 ghost use Rattle.duty_plans.specs.Seats.{nodes_seen, signer_seen};
 ghost use Rattle.duty_turns.specs.Standing.{Standing};
-ghost use Rattle.duty_turns.specs.Turns.{calls, duties_plan, listed_plan, ready_plan, renewed_plan, then_on, turn_plan, watch_plan, woken_plan};
-ghost use Rattle.duty_turns.specs.TurnSteps.{sink_seen};
+ghost use Rattle.duty_turns.specs.Turns.{NextPlan, calls, duties_plan, listed_plan, ready_plan, renewed_plan, shortens, sized, then_on, turn_plan, watch_plan, woken_plan};
+ghost use Rattle.duty_turns.specs.TurnSteps.{SinkSeen, sink_seen};
 ghost use Rattle.duty_asks.specs.Placed.{HoldsPlaced};
 ghost use Rattle.duty_loop.specs.Houses.{IsHolding, PartTurns, Turns, end_of, house};
+ghost use Rattle.duty_loop.specs.Shortening.{IsCompaction, ShortenedOn, compacted_by};
 
 use crate::keys::active_of;
 use crate::watch::watch;
@@ -16,20 +18,24 @@ use crate::work::{close, do_due};
 use desk_machine::{DeskCall, DeskCalls, DeskReply, KeyStanding};
 use duty_asks::{Stop, ask_duties};
 use duty_plans::DutySetup;
-use duty_turns::{DutyEnd, Held, slot_of, slot_start};
+use duty_turns::{DutyEnd, Held, is_first_slot, slot_of, slot_start};
 use edge_clock::Clock;
 use edge_kit::{Items, PubKey, Sink};
 use node_calls::Node;
 use node_fallback::Nodes;
 use signer_link::Signer;
-use std::alloc::Global;
+use std::alloc::{AllocError, Global};
 use std::sync::Wait;
+
+/// How many bytes a journal may have without being compacted at an epoch's first slot.
+const SIZE_LIMIT: u64 = 1_073_741_824;
 
 /// Takes one turn: waits for the start of the held slot, asks the nodes what is due for the desk's active keys, and
 /// does it, blocks at once and votes a third into the slot (consensus-specs, `SECONDS_PER_SLOT`, `INTERVALS_PER_SLOT`).
 /// What became of each duty is a line of the output, which is written behind the last of them. Then the next turn is
 /// the next slot's. Where a wait is over in a later slot, the duties that are left are dropped, and the next turn is
-/// that slot's.
+/// that slot's. At an epoch's first slot, before the desk is asked for its keys, a journal of more than 1,073,741,824
+/// bytes is compacted; whatever the desk replies, the turn goes on, but for want of memory.
 ///
 /// # Errors
 ///
@@ -90,7 +96,81 @@ fn begin<T: Wait, K: DeskCalls, S: Signer, N: Node + Drop, C: Clock, O: Sink>(
     let Ok(()) = nodes.refresh() else {
         return Err(DutyEnd::OutOfMemory);
     };
+    shorten(rt, alloc, setup, clock, held, desk, signer, nodes, out)
+}
+
+/// Has a journal that has grown compacted at an epoch's first slot, and goes on with the desk's keys.
+fn shorten<T: Wait, K: DeskCalls, S: Signer, N: Node + Drop, C: Clock, O: Sink>(
+    rt: &T,
+    alloc: Global,
+    setup: &DutySetup,
+    clock: &C,
+    held: &mut Held,
+    desk: &mut K,
+    signer: &mut S,
+    nodes: &mut Nodes<N>,
+    out: &mut O,
+) -> Result<(), DutyEnd>
+    requires ready { K.ready desk.old }
+    requires held { IsHolding held.old }
+    ensures ready { K.ready desk.new }
+    ensures runs { (s : Standing) → HoldsPlaced held.old s → Turns K.leads (C.start clock.now) (HoldsPlaced held.new) (shortens s (calls call.Keys (listed_plan setup.now s)))
+        (house desk.old (signer_seen S.told S.faults S.denials signer.old) (nodes_seen N.told N.faults nodes.old) (sink_seen O.held O.faults out.old))
+        (house desk.new (signer_seen S.told S.faults S.denials signer.new) (nodes_seen N.told N.faults nodes.new) (sink_seen O.held O.faults out.new)) result }
+{
+    let Ok(()) = compact_grown(held.slot, desk) else {
+        return Err(DutyEnd::OutOfMemory);
+    };
     list_keys(rt, alloc, setup, clock, held, desk, signer, nodes, out)
+}
+
+/// Has a journal that has grown compacted, if this slot is an epoch's first.
+fn compact_grown<K: DeskCalls>(slot: u64, desk: &mut K) -> Result<(), AllocError>
+    requires ready { K.ready desk.old }
+    ensures ready { K.ready desk.new }
+    ensures shortened { (start : Option ℕ) (signer : SignerSeen) (nodes : List Seen) (out : SinkSeen) (s : Standing) (next : NextPlan) → slot ≡ s.slot → ShortenedOn K.leads start (shortens s next) next
+        (house desk.old signer nodes out) (house desk.new signer nodes out) result }
+{
+    if !is_first_slot(slot) {
+        return Ok(());
+    }
+    match desk.call(DeskCall::Size) {
+        DeskReply::Size(size) => compact_above(size, desk),
+        _ => unreachable!(),
+    }
+}
+
+/// Has a journal of so many bytes compacted, if that is more than the limit. Whatever the desk replies, the turn goes
+/// on, but for want of memory.
+fn compact_above<K: DeskCalls>(size: u64, desk: &mut K) -> Result<(), AllocError>
+    requires ready { K.ready desk.old }
+    ensures ready { K.ready desk.new }
+    ensures shortened { (start : Option ℕ) (signer : SignerSeen) (nodes : List Seen) (out : SinkSeen) (next : NextPlan) → ShortenedOn K.leads start (sized (reply.Size size) next) next
+        (house desk.old signer nodes out) (house desk.new signer nodes out) result }
+{
+    if size <= SIZE_LIMIT {
+        return Ok(());
+    }
+    let reply = desk.call(DeskCall::Compact);
+    compacted_by(reply)
+}
+
+/// Whether memory ran out at a compaction. A disk that failed is asked for at the turn's end.
+fn compacted_by(reply: DeskReply) -> Result<(), AllocError>
+    requires { IsCompaction reply }
+    ensures { result ≡ compacted_by reply }
+{
+    match reply {
+        DeskReply::Compacted {
+            before: _,
+            after: _,
+        }
+        | DeskReply::Full { size: _, wanted: _ }
+        | DeskReply::LastGeneration
+        | DeskReply::Disk => Ok(()),
+        DeskReply::OutOfMemory => Err(AllocError),
+        _ => unreachable!(),
+    }
 }
 
 /// Asks the desk for its keys, and goes on with them.

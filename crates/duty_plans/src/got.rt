@@ -46,6 +46,11 @@ pub fn grant_in(reply: DeskReply) -> Got<Grant>
         DeskReply::Merged { keys: _ } | DeskReply::Active | DeskReply::Already => Got::Nothing,
         DeskReply::Noted | DeskReply::Settled | DeskReply::CloseBegun => Got::Nothing,
         DeskReply::AlreadyClosing | DeskReply::HasFailed(_) => Got::Nothing,
+        DeskReply::Size(_) | DeskReply::LastGeneration => Got::Nothing,
+        DeskReply::Compacted {
+            before: _,
+            after: _,
+        } => Got::Nothing,
         DeskReply::Closed(_book) => Got::Nothing,
         DeskReply::Exported(_file) => Got::Nothing,
         DeskReply::Pruned(_book) => Got::Nothing,

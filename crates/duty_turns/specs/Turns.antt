@@ -287,13 +287,29 @@ abbrev pub listed_plan : DutySetup → Standing → DeskReply → NextPlan
 listed_plan setup s (reply.Keys listed) = bind (asked_plan setup listed (active_of listed) s) (ready_plan setup (active_of listed))
 listed_plan setup s r = Stop
 
--- at its slot's start the nodes are refreshed and the desk is asked for its keys; later than the slot its duties are dropped, and the
--- next turn is that later slot
+-- a journal of more bytes is compacted at an epoch's first slot
+abbrev pub size_limit : ℕ
+size_limit = 1073741824
+
+-- whatever became of the compaction, the turn goes on; but memory that is wanted stops it
+abbrev pub compacted : {X : Type 0} → DeskReply → TurnPlan X → TurnPlan X
+compacted reply.OutOfMemory next = Stop
+compacted r next = next
+
+abbrev pub sized : {X : Type 0} → DeskReply → TurnPlan X → TurnPlan X
+sized (reply.Size size) next = if nat_lt size_limit size then calls call.Compact (λ r. compacted r next) else next
+sized r next = Stop
+
+abbrev pub shortens : {X : Type 0} → Standing → TurnPlan X → TurnPlan X
+shortens s next = if is_first_slot s.slot then calls call.Size (λ r. sized r next) else next
+
+-- at its slot's start the nodes are refreshed, a journal that has grown is compacted where the slot is an epoch's first, and the desk is
+-- asked for its keys; later than the slot its duties are dropped, and the next turn is that later slot
 abbrev pub woken_plan : DutySetup → Standing → ℕ → NextPlan
 woken_plan setup s reached =
     if nat_lt s.slot (slot_of setup.genesis_time reached)
     then close_plan s.slot [] [] (at_slot (slot_of setup.genesis_time reached) s)
-    else refreshes (calls call.Keys (listed_plan setup s))
+    else refreshes (shortens s (calls call.Keys (listed_plan setup s)))
 
 abbrev pub turn_plan : DutySetup → Standing → NextPlan
 turn_plan setup s = waits (slot_start setup.genesis_time s.slot) (woken_plan setup s)

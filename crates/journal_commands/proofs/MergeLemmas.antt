@@ -11,9 +11,9 @@ use Rattle.check_sign.specs.Images.{Leaves, OpensByCall}
 use Rattle.check_sign.proofs.ImageLemmas.{called, still, weaker}
 use Rattle.program_end.specs.declared.status.Status.{Status}
 use Rattle.journal_commands.specs.Views.{View}
-use Rattle.journal_commands.specs.Openings.{EachImage}
+use Rattle.journal_commands.specs.Openings.{EachImage, WritesCurrent}
 use Rattle.journal_commands.specs.Merging.{DeskMergeEnds, MergeEnds, OpensByMerge}
-use Rattle.journal_commands.proofs.OpeningLemmas.{Fares, Handed, fares_call, each_image, fares_same, had_desk}
+use Rattle.journal_commands.proofs.OpeningLemmas.{Fares, Handed, fares_call, each_image, fares_same, had_desk, writes_none}
 
 module _ {D : Type 0} (moment : D → ℕ) (leaves : D → ℕ → List ℕ → Type 0) (faults : D → ℕ) (before now : View) (opened ended : Seen D) (result : Status) where
   abbrev Ends : Type 0
@@ -24,6 +24,12 @@ module _ {D : Type 0} (moment : D → ℕ) (leaves : D → ℕ → List ℕ → 
   merge_fares (inl e) = fares_same faults opened ended e.uncalled
   merge_fares (inr (inl e)) = fares_same faults opened ended e.uncalled
   merge_fares (inr (inr e)) = fares_call moment leaves faults opened ended (call.Merge e.file) e.reply_is e.called
+
+  -- a merge is no compaction
+  pub merge_writes : Ends → WritesCurrent opened ended
+  merge_writes (inl e) = writes_none opened ended e.uncalled
+  merge_writes (inr (inl e)) = writes_none opened ended e.uncalled
+  merge_writes (inr (inr e)) = record { other = e.called.disks.0; place = e.called.disks.1 }
 
   same_leaves : ended ≡ opened → Leaves moment leaves (OpensByMerge opened.contents.genesis before now) opened ended
   same_leaves same =
@@ -49,6 +55,6 @@ pub merge_ended : {D : Type 0} (shows : D → List ℕ → Type 0) (moment : D �
 merge_ended shows moment leaves faults genesis first last before now events result opened ended opening ends handed =
     let run = merge_leaves moment leaves faults before now opened ended result genesis opening.opened.genesis_is ends in
     inr (had_desk moment leaves faults shows genesis false first last events
-    (λ o e. DeskMergeEnds moment leaves faults before now o e result × EachImage shows moment leaves genesis first last (OpensByMerge genesis before now) o) opened ended opening
-    (ends, each_image moment leaves faults shows genesis false first last (OpensByMerge genesis before now) opened ended opening run handed.disks)
+    (λ o e. DeskMergeEnds moment leaves faults before now o e result × EachImage shows moment leaves genesis first last (OpensByMerge genesis before now) o × WritesCurrent o e) opened ended opening
+    (ends, each_image moment leaves faults shows genesis false first last (OpensByMerge genesis before now) opened ended opening run handed.disks, merge_writes moment leaves faults before now opened ended result ends)
     (merge_fares moment leaves faults before now opened ended result ends) (run opening.left).left handed)

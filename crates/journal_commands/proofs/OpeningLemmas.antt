@@ -16,7 +16,7 @@ use Rattle.check_sign.specs.Opening.{Opening}
 use Rattle.check_sign.proofs.FaultLemmas.{either_back, later_none, later_on}
 use Rattle.command_line.specs.declared.planned.Plan.{Plan}
 use Rattle.command_line.specs.declared.planned.Plan.TheVariants as plan
-use Rattle.journal_commands.specs.Openings.{EachImage, HadDesk, OpenedLeaves}
+use Rattle.journal_commands.specs.Openings.{EachImage, HadDesk, OpenedLeaves, WritesCurrent}
 
 -- the chain of a plan, if it has one
 abbrev pub root_of : Root → Plan → Root
@@ -26,11 +26,9 @@ root_of none (plan.Show genesis journal) = genesis
 root_of none (plan.Rehearse number size) = none
 root_of none (plan.Shown text) = none
 
--- what a command made of a desk: its chain, its other disk and which file is current are the same, and it has failed only where a disk's count of faults rose
+-- what a command made of a desk: its chain is the same, and it has failed only where a disk's count of faults rose
 pub record Fares {D : Type 0} (faults : D → ℕ) (old new : Seen D) : Type 0 where
   pub genesis : new.contents.genesis ≡ old.contents.genesis
-  pub other : new.other ≡ old.other
-  pub place : new.place ≡ old.place
   pub later : FaultsLater faults (disks_in old) (disks_in new)
   pub fails : old.contents.torn ≡ None → IsSome new.contents.torn → EitherRose faults (disks_in old) (disks_in new)
 
@@ -47,11 +45,16 @@ not_both (Some x) A none some = let bad : Some x ≡ None = none in absurd cc
 pub fares_same : {D : Type 0} (faults : D → ℕ) (old new : Seen D) → new ≡ old → Fares faults old new
 fares_same {D} faults old new same =
     let F : Seen D → Type 0 = λ desk. Fares faults old desk in
-    subst F (sym same) (record { genesis = refl; other = refl; place = refl; later = later_none faults (disks_in old); fails = λ none some. not_both old.contents.torn (EitherRose faults (disks_in old) (disks_in old)) none some })
+    subst F (sym same) (record { genesis = refl; later = later_none faults (disks_in old); fails = λ none some. not_both old.contents.torn (EitherRose faults (disks_in old) (disks_in old)) none some })
+
+pub writes_none : {D : Type 0} (old new : Seen D) → new ≡ old → WritesCurrent old new
+writes_none {D} old new same =
+    let W : Seen D → Type 0 = λ desk. WritesCurrent old desk in
+    subst W (sym same) (record { other = refl; place = refl })
 
 module _ {D : Type 0} (moment : D → ℕ) (leaves : D → ℕ → List ℕ → Type 0) (faults : D → ℕ) where
   pub fares_call : (old new : Seen D) (c : DeskCall) (r : DeskReply) → IsCallOf moment leaves faults old new c r → Fares faults old new
-  fares_call old new c r call = record { genesis = call.counted.genesis; other = call.other; place = call.place; later = call.later; fails = call.fails }
+  fares_call old new c r call = record { genesis = call.counted.genesis; later = call.later; fails = call.fails }
 
   pub had_desk : (shows : D → List ℕ → Type 0) (genesis : Root) (watch : Bool) (before now : Disks D) (events : List DeskEvent) (Ends : Seen D → Seen D → Type 0) (opened ended : Seen D)
       → Opening shows moment leaves faults before genesis watch 0 opened → Ends opened ended → Fares faults opened ended → LeavesDesk moment leaves (disks_in ended) ended.contents → Handed ended now events
@@ -65,8 +68,6 @@ module _ {D : Type 0} (moment : D → ℕ) (leaves : D → ℕ → List ℕ → 
         ended = ended;
         opening = opening;
         ends = ends;
-        other = fares.other;
-        place = fares.place;
         desk = record {
           disks = handed.disks;
           noted = handed.noted;

@@ -26,7 +26,7 @@ use Rattle.check_sign.specs.Images.{Leaves, OpensByCall}
 use Rattle.check_sign.proofs.ImageLemmas.{called, weaker}
 use Rattle.program_end.specs.declared.status.Status.{Status}
 use Rattle.journal_commands.specs.Views.{Output}
-use Rattle.journal_commands.specs.Openings.{EachImage}
+use Rattle.journal_commands.specs.Openings.{EachImage, WritesCurrent}
 use Rattle.journal_commands.specs.Showing.{DeskShowEnds, ShowEnds, WritesLines, kept_text, listed_text, show_text}
 use Rattle.journal_commands.proofs.OpeningLemmas.{Handed, each_image, fares_call, had_desk}
 
@@ -114,6 +114,6 @@ pub show_ended : {D : Type 0} (shows : D → List ℕ → Type 0) (moment : D �
 show_ended shows moment leaves faults genesis first last before now events result opened ended opening ends handed =
     let run = show_leaves moment leaves faults opened ended genesis opening.opened.genesis_is ends.reply_is ends.called in
     inr (had_desk moment leaves faults shows genesis false first last events
-    (λ o e. DeskShowEnds moment leaves faults before now o e result × EachImage shows moment leaves genesis first last (MayOpen genesis) o) opened ended opening
-    (ends, each_image moment leaves faults shows genesis false first last (MayOpen genesis) opened ended opening run handed.disks)
+    (λ o e. DeskShowEnds moment leaves faults before now o e result × EachImage shows moment leaves genesis first last (MayOpen genesis) o × WritesCurrent o e) opened ended opening
+    (ends, each_image moment leaves faults shows genesis false first last (MayOpen genesis) opened ended opening run handed.disks, record { other = ends.called.disks.0; place = ends.called.disks.1 })
     (fares_call moment leaves faults opened ended call.Keys ends.reply_is ends.called) ends.called.left handed)

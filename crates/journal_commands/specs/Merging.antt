@@ -25,7 +25,7 @@ use Rattle.program_end.specs.declared.status.Status.TheVariants as status
 use Rattle.command_line.specs.declared.planned.Plan.{Plan}
 use Rattle.command_line.specs.declared.planned.Plan.TheVariants as plan
 use Rattle.journal_commands.specs.Views.{Output, View, ClosedBy, EndsBy, Unwritten}
-use Rattle.journal_commands.specs.Openings.{EachImage, HadDesk, NotOpened}
+use Rattle.journal_commands.specs.Openings.{EachImage, HadDesk, NotOpened, WritesCurrent}
 use Rattle.journal_commands.specs.Whole.{WholeStops}
 use Rattle.journal_commands.specs.declared.whole.WholeFault.{WholeFault}
 use Rattle.journal_commands.specs.declared.whole.WholeFault.TheVariants as whole_fault
@@ -113,12 +113,12 @@ pub record Unread (before now : View) : Type 0 where
   pub left : now.left ≡ before.left
   pub failed : now.failed ≡ before.failed
 
--- how a merge ends: no desk was opened and nothing was read, or one was
+-- how a merge ends: no desk was opened and nothing was read; or one was, and only the disk of its current file was written since then
 abbrev pub MergeEnds : {D : Type 0} → (D → List ℕ → Type 0) → (D → ℕ) → (D → ℕ → List ℕ → Type 0) → (D → ℕ) → Root → Disks D → Disks D → View → View → List DeskEvent → Status → Type 0
 MergeEnds shows moment leaves faults genesis disks_before disks_now before now events result =
     (NotOpened shows moment leaves faults genesis disks_before disks_now before.out now.out events result × Unread before now)
     ⊎ HadDesk shows moment leaves faults genesis false disks_before disks_now events
-    (λ opened ended. DeskMergeEnds moment leaves faults before now opened ended result × EachImage shows moment leaves genesis disks_before disks_now (OpensByMerge genesis before now) opened)
+    (λ opened ended. DeskMergeEnds moment leaves faults before now opened ended result × EachImage shows moment leaves genesis disks_before disks_now (OpensByMerge genesis before now) opened × WritesCurrent opened ended)
 
 -- a merge in which nothing failed, of an input within the file's limit, is done, or ends for want of memory, by what the journal
 -- holds, or by what the file holds

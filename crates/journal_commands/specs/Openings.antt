@@ -58,14 +58,16 @@ pub record OpenedLeaves {D : Type 0} (shows : D → List ℕ → Type 0) (moment
 abbrev pub EachImage : {D : Type 0} → (D → List ℕ → Type 0) → (D → ℕ) → (D → ℕ → List ℕ → Type 0) → Root → Disks D → Disks D → (State → Files → Type 0) → Seen D → Type 0
 EachImage shows moment leaves genesis disks_before disks_now May opened = (state : State) → DeskStands opened.contents state → OpenedLeaves shows moment leaves genesis disks_before disks_now (May state) opened
 
--- A desk was opened, at epoch 0, its keys watched or not, and ended. Since it was opened only the disk of the current file was
--- written.
+-- between these two only the disk of the current file was written, and it stays the current one
+pub record WritesCurrent {D : Type 0} (opened ended : Seen D) : Type 0 where
+  pub other : ended.other ≡ opened.other
+  pub place : ended.place ≡ opened.place
+
+-- a desk was opened, at epoch 0, its keys watched or not, and ended
 pub record HadDesk {D : Type 0} (shows : D → List ℕ → Type 0) (moment : D → ℕ) (leaves : D → ℕ → List ℕ → Type 0) (faults : D → ℕ) (genesis : Root) (watch : Bool)
     (disks_before disks_now : Disks D) (events : List DeskEvent) (Ends : Seen D → Seen D → Type 0) : Type 0 where
   pub opened : Seen D
   pub ended : Seen D
   pub opening : Opening shows moment leaves faults disks_before genesis watch 0 opened
   pub ends : Ends opened ended
-  pub other : ended.other ≡ opened.other
-  pub place : ended.place ≡ opened.place
   pub desk : DeskEnded moment leaves faults genesis disks_before disks_now ended events

@@ -26,7 +26,7 @@ use Rattle.program_end.specs.declared.status.Status.TheVariants as status
 use Rattle.command_line.specs.declared.planned.Plan.{Plan}
 use Rattle.command_line.specs.declared.planned.Plan.TheVariants as plan
 use Rattle.journal_commands.specs.Views.{Output}
-use Rattle.journal_commands.specs.Openings.{EachImage, HadDesk, NotOpened}
+use Rattle.journal_commands.specs.Openings.{EachImage, HadDesk, NotOpened, WritesCurrent}
 
 -- the plan is a showing's
 abbrev pub IsShow : Plan → Type 0
@@ -106,12 +106,12 @@ pub record DeskShowEnds {D : Type 0} (moment : D → ℕ) (leaves : D → ℕ �
   pub done_or_short : (result ≡ status.Done) ⊎ IsCutShort before now result
   pub writes : WritesLines (show_text ended.contents) before now result
 
--- how a showing ends: no desk was opened, or one was
+-- how a showing ends: no desk was opened; or one was, and only the disk of its current file was written since then
 abbrev pub ShowEnds : {D : Type 0} → (D → List ℕ → Type 0) → (D → ℕ) → (D → ℕ → List ℕ → Type 0) → (D → ℕ) → Root → Disks D → Disks D → Output → Output → List DeskEvent → Status → Type 0
 ShowEnds shows moment leaves faults genesis disks_before disks_now before now events result =
     NotOpened shows moment leaves faults genesis disks_before disks_now before now events result
     ⊎ HadDesk shows moment leaves faults genesis false disks_before disks_now events
-    (λ opened ended. DeskShowEnds moment leaves faults before now opened ended result × EachImage shows moment leaves genesis disks_before disks_now (MayOpen genesis) opened)
+    (λ opened ended. DeskShowEnds moment leaves faults before now opened ended result × EachImage shows moment leaves genesis disks_before disks_now (MayOpen genesis) opened × WritesCurrent opened ended)
 
 -- a showing in which nothing failed is done, or ends for want of memory or by what the journal holds
 abbrev pub IsShowComplete : Status → Type 0

@@ -80,20 +80,18 @@ fn show_desk<D: Disk, O: Sink>(alloc: Global, desk: &mut Desk<D>, out: &mut O) -
         | DeskReply::Unknown
         | DeskReply::NotActive
         | DeskReply::Closing
+        | DeskReply::LastGeneration
         | DeskReply::Disk => unreachable!(),
         DeskReply::Merged { keys: _ } => unreachable!(),
         DeskReply::GenesisDiffers { kept: _, given: _ } => unreachable!(),
         DeskReply::Live { epoch: _ } | DeskReply::Busy { grants: _ } => unreachable!(),
-        DeskReply::Watching {
-            first: _,
-            second: _,
-        } => unreachable!(),
+        DeskReply::Watching { .. } | DeskReply::Compacted { .. } => unreachable!(),
         DeskReply::TooManyKeys { have: _, new: _ } => unreachable!(),
         DeskReply::Full { size: _, wanted: _ } => unreachable!(),
         DeskReply::Closed(_) => unreachable!(),
         DeskReply::Exported(_) => unreachable!(),
         DeskReply::Pruned(_) => unreachable!(),
-        DeskReply::HasFailed(_) | DeskReply::NotClosing(_) => unreachable!(),
+        DeskReply::HasFailed(_) | DeskReply::NotClosing(_) | DeskReply::Size(_) => unreachable!(),
         DeskReply::Refused(_) => unreachable!(),
     };
     match show_keys(alloc, desk, listed.as_slice(), out) {

@@ -142,15 +142,15 @@ fn merge_file<D: Disk, O: Sink>(
         | DeskReply::AlreadyClosing
         | DeskReply::Unknown
         | DeskReply::NotActive
+        | DeskReply::LastGeneration
         | DeskReply::Closing => unreachable!(),
-        DeskReply::Live { .. } | DeskReply::Watching { .. } | DeskReply::Busy { .. } => {
-            unreachable!()
-        }
+        DeskReply::Live { .. } | DeskReply::Watching { .. } => unreachable!(),
+        DeskReply::Busy { .. } | DeskReply::Compacted { .. } => unreachable!(),
         DeskReply::Closed(_) => unreachable!(),
         DeskReply::Exported(_) => unreachable!(),
         DeskReply::Pruned(_) => unreachable!(),
         DeskReply::Keys(_) => unreachable!(),
-        DeskReply::HasFailed(_) | DeskReply::NotClosing(_) => unreachable!(),
+        DeskReply::HasFailed(_) | DeskReply::NotClosing(_) | DeskReply::Size(_) => unreachable!(),
         DeskReply::Refused(_) => unreachable!(),
     }
 }

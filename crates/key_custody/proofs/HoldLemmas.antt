@@ -110,6 +110,8 @@ grew_lasting a (call.FinishClose k) = grew_self a.keys
 grew_lasting a (call.Export keys) = grew_self a.keys
 grew_lasting a call.Keys = grew_self a.keys
 grew_lasting a call.HasFailed = grew_self a.keys
+grew_lasting a call.Size = grew_self a.keys
+grew_lasting a call.Compact = grew_self a.keys
 
 -- ---- an active key
 
@@ -156,6 +158,8 @@ active_lasting a key (call.FinishClose k) can apart h =
 active_lasting a key (call.Export keys) can apart h = h
 active_lasting a key call.Keys can apart h = h
 active_lasting a key call.HasFailed can apart h = h
+active_lasting a key call.Size can apart h = h
+active_lasting a key call.Compact can apart h = h
 
 -- ---- what a call leaves of keys and states
 
@@ -202,18 +206,21 @@ leaves a (call.Answer k e l now) reply.Noted ok = as_before a (call.Answer k e l
 leaves a (call.Settle g o) reply.Settled ok = as_before a (call.Settle g o) (after a (call.Settle g o) reply.Settled) refl refl refl
 leaves a (call.BeginClose k) reply.CloseBegun ok = is_done a (call.BeginClose k) (after a (call.BeginClose k) reply.CloseBegun) ok.1 refl refl refl
 leaves a (call.FinishClose k) (reply.Closed book) ok = is_done a (call.FinishClose k) (after a (call.FinishClose k) (reply.Closed book)) ok.0.1.1 refl refl refl
+leaves a call.Compact (reply.Compacted before size) ok = is_done a call.Compact (after a call.Compact (reply.Compacted before size)) tt refl refl refl
 leaves a (call.Merge file) reply.Disk ok = is_torn a (call.Merge file) (after a (call.Merge file) reply.Disk) (λ e. tt) refl refl refl
 leaves a (call.Activate k now) reply.Disk ok = is_torn a (call.Activate k now) (after a (call.Activate k now) reply.Disk) (λ e. tt) refl refl refl
 leaves a (call.Propose k m now) reply.Disk ok = is_torn a (call.Propose k m now) (after a (call.Propose k m now) reply.Disk) (λ e. tt) refl refl refl
 leaves a (call.Allow k now) reply.Disk ok = is_torn a (call.Allow k now) (after a (call.Allow k now) reply.Disk) (λ e. tt) refl refl refl
 leaves a (call.FinishClose k) reply.Disk ok = is_torn a (call.FinishClose k) (after a (call.FinishClose k) reply.Disk) (fails_closing a k ok) refl refl refl
 leaves a (call.Prune k) reply.Disk ok = is_torn a (call.Prune k) (after a (call.Prune k) reply.Disk) (λ e. tt) refl refl refl
+leaves a call.Compact reply.Disk ok = is_torn a call.Compact (after a call.Compact reply.Disk) (λ e. tt) refl refl refl
 leaves a (call.Answer k e l now) reply.Disk ok = absurd ok
 leaves a (call.Settle g o) reply.Disk ok = absurd ok
 leaves a (call.BeginClose k) reply.Disk ok = absurd ok
 leaves a (call.Export keys) reply.Disk ok = absurd ok
 leaves a call.Keys reply.Disk ok = absurd ok
 leaves a call.HasFailed reply.Disk ok = absurd ok
+leaves a call.Size reply.Disk ok = absurd ok
 leaves a c r ok = as_before a c (after a c r) refl refl refl
 
 -- ---- a key that was taken in, since the pasts were these
@@ -431,6 +438,8 @@ whole_lasting a (call.FinishClose k) can w = whole_kept a.keys a.states k Closed
 whole_lasting a (call.Export keys) can w = w
 whole_lasting a call.Keys can w = w
 whole_lasting a call.HasFailed can w = w
+whole_lasting a call.Size can w = w
+whole_lasting a call.Compact can w = w
 
 abbrev pub WholeTorn : Option Lasting → Type 0
 WholeTorn None = Unit {0}

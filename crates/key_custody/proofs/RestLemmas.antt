@@ -95,6 +95,7 @@ rests_after a key (call.BeginClose k) reply.CloseBegun ok apart h =
     (rests_with_kept key k a.states Closing (some_there (kept_of a.states k) Active ok.1) (λ e. not_active key a.states h.0 (subst (λ (q : PubKey). kept_of a.states q ≡ Some Active) e ok.1)) h.0, h.1)
 rests_after a key (call.FinishClose k) (reply.Closed book) ok apart h = (closes_rest a key k h ok.0.1.1, h.1)
 rests_after a key (call.Prune k) (reply.Pruned book) ok apart h = h
+rests_after a key call.Compact (reply.Compacted before size) ok apart h = h
 rests_after a key (call.Merge file) reply.Disk ok apart h = (h.0, torn_rests key a.torn (lasting_after a (call.Merge file)) h.1 (λ e. h.0))
 rests_after a key (call.Activate k now) reply.Disk ok apart h = (h.0, torn_rests key a.torn (lasting_after a (call.Activate k now)) h.1 (λ e. rests_with_key key k a.states Active apart h.0))
 rests_after a key (call.Propose k m now) reply.Disk ok apart h = (h.0, torn_rests key a.torn (lasting_after a (call.Propose k m now)) h.1 (λ e. h.0))
@@ -105,12 +106,14 @@ rests_after a key (call.FinishClose k) reply.Disk ok apart h =
       fails (inl some) = inl some
       fails (inr x) = inr (x.0, x.1)
 rests_after a key (call.Prune k) reply.Disk ok apart h = (h.0, torn_rests key a.torn (lasting_after a (call.Prune k)) h.1 (λ e. h.0))
+rests_after a key call.Compact reply.Disk ok apart h = (h.0, torn_rests key a.torn (lasting_after a call.Compact) h.1 (λ e. h.0))
 rests_after a key (call.Answer k e l now) reply.Disk ok apart h = absurd ok
 rests_after a key (call.Settle g o) reply.Disk ok apart h = absurd ok
 rests_after a key (call.BeginClose k) reply.Disk ok apart h = absurd ok
 rests_after a key (call.Export keys) reply.Disk ok apart h = absurd ok
 rests_after a key call.Keys reply.Disk ok apart h = absurd ok
 rests_after a key call.HasFailed reply.Disk ok apart h = absurd ok
+rests_after a key call.Size reply.Disk ok apart h = absurd ok
 rests_after a key c r ok apart h = h
 
 -- ---- through a stop
@@ -181,17 +184,20 @@ past_after a key o (call.Answer k e l now) reply.Noted ok apart kept h p = p
 past_after a key o (call.Settle g u) reply.Settled ok apart kept h p = p
 past_after a key o (call.BeginClose k) reply.CloseBegun ok apart kept h p = p
 past_after a key o (call.FinishClose k) (reply.Closed book) ok apart kept h p = p
+past_after a key o call.Compact (reply.Compacted before size) ok apart kept h p = p
 past_after a key o (call.Activate k now) reply.Disk ok apart kept h p = (p.0, torn_past key o a.torn (lasting_after a (call.Activate k now)) p.1 (λ e. known_same key k a.keys apart ∙ p.0))
 past_after a key o (call.Propose k m now) reply.Disk ok apart kept h p =
     (p.0, torn_past key o a.torn (lasting_after a (call.Propose k m now)) p.1 (λ e. grown_same a key k m h (failed_proceeds a (call.Propose k m now) ok e).0.0 ∙ p.0))
 past_after a key o (call.Allow k now) reply.Disk ok apart kept h p = (p.0, torn_past key o a.torn (lasting_after a (call.Allow k now)) p.1 (λ e. p.0))
 past_after a key o (call.FinishClose k) reply.Disk ok apart kept h p = (p.0, torn_past key o a.torn (lasting_after a (call.FinishClose k)) p.1 (λ e. p.0))
+past_after a key o call.Compact reply.Disk ok apart kept h p = (p.0, torn_past key o a.torn (lasting_after a call.Compact) p.1 (λ e. p.0))
 past_after a key o (call.Answer k e l now) reply.Disk ok apart kept h p = absurd ok
 past_after a key o (call.Settle g u) reply.Disk ok apart kept h p = absurd ok
 past_after a key o (call.BeginClose k) reply.Disk ok apart kept h p = absurd ok
 past_after a key o (call.Export keys) reply.Disk ok apart kept h p = absurd ok
 past_after a key o call.Keys reply.Disk ok apart kept h p = absurd ok
 past_after a key o call.HasFailed reply.Disk ok apart kept h p = absurd ok
+past_after a key o call.Size reply.Disk ok apart kept h p = absurd ok
 past_after a key o c r ok apart kept h p = p
 
 past_lasts : (a : State) (key : PubKey) (o : Option Past) (l : Lasting) → MayLast a l → PastIs key o a → kept_of l.keys key ≡ o
@@ -219,6 +225,7 @@ genesis_after a (call.Settle g u) reply.Settled = refl
 genesis_after a (call.BeginClose k) reply.CloseBegun = refl
 genesis_after a (call.FinishClose k) (reply.Closed book) = refl
 genesis_after a (call.Prune k) (reply.Pruned book) = refl
+genesis_after a call.Compact (reply.Compacted before size) = refl
 genesis_after a c reply.Disk = refl
 genesis_after a c r = refl
 

@@ -84,6 +84,11 @@ fn read(reply: DeskReply) -> Replied
         DeskReply::Granted(_grant) => unreachable!(),
         DeskReply::Pruned(_book) => Replied::Nothing,
         DeskReply::Noted | DeskReply::Settled | DeskReply::HasFailed(_) => Replied::Nothing,
+        DeskReply::Size(_) | DeskReply::LastGeneration => Replied::Nothing,
+        DeskReply::Compacted {
+            before: _,
+            after: _,
+        } => Replied::Nothing,
         DeskReply::Live { epoch: _ } => Replied::Nothing,
         DeskReply::Watching {
             first: _,

@@ -19,6 +19,7 @@ use Rattle.slash_defs.specs.declared.entry.VoteEntry.{VoteEntry}
 use Rattle.slash_defs.specs.declared.book.Book.{Book}
 use Rattle.slash_defs.specs.FileOrder.{block_cmp, vote_cmp, blocks_total, votes_total, exact_blocks, exact_votes}
 use Rattle.protect_record.specs.declared.floors.Floors.{Floors}
+use Rattle.protect_record.specs.Gathering.{SameEntries}
 use Rattle.protect_record.specs.Order.{IsInOrder}
 use Rattle.protect_record.specs.Parts.{Parts}
 use Rattle.protect_record.specs.Pasts.{Past, IsPastBlock, IsPastVote}
@@ -29,7 +30,7 @@ use Rattle.protect_record.proofs.LiveLemmas.{block_decides, vote_decides}
 use Rattle.protect_record.proofs.MemberLemmas.{contains_first, contains_later, contains_cases, contains_none}
 use Rattle.protect_record.proofs.UniteLemmas.{dropped, same_in_order}
 use Rattle.interchange_io.proofs.OnceLemmas.{sorted_all}
-use Rattle.record_replay.specs.Pruning.{own_blocks, own_votes, past_blocks, past_votes, pruning_of}
+use Rattle.record_replay.specs.Pruning.{own_blocks, own_votes, past_blocks, past_votes, pruning_of, record_of}
 
 -- ---- elements that are inserted in order, each once
 
@@ -155,6 +156,9 @@ blocks_kept parts past stands = kept_same block_cmp blocks_total exact_blocks (I
 votes_kept : (parts : Parts) (past : Past) → Stands parts past → parts.votes ≡ filter (λ e. not (is_dead_vote (floors_of past.books) e)) (fold (insert_key vote_cmp) [] (past_votes past))
 votes_kept parts past stands = kept_same vote_cmp votes_total exact_votes (IsPastVote past) (IsDeadVote (floors_of past.books)) (is_dead_vote (floors_of past.books)) (vote_decides (floors_of past.books)) (past_votes past) parts.votes
     (λ e. (past_vote_to past e, past_vote_from past e)) stands.votes_in_order (λ e. subst (λ (f : Floors). Contains parts.votes e ↔ (IsPastVote past e × ¬ (IsDeadVote f e))) stands.floors (stands.votes e))
+
+pub record_same : (parts : Parts) (past : Past) → Stands parts past → SameEntries parts (record_of past)
+record_same parts past stands = record { floors = stands.floors; blocks = blocks_kept parts past stands; votes = votes_kept parts past stands }
 
 -- the book that prunes a record of these floors and entries
 pruned_from : Floors → List BlockEntry → List VoteEntry → Book

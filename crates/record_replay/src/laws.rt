@@ -4,11 +4,12 @@ ghost use Rattle.edge_kit.specs.declared.bytes.PubKey.{PubKey};
 ghost use Rattle.slash_defs.specs.declared.book.Book.{Book};
 ghost use Rattle.slash_defs.specs.declared.book.File.{File};
 ghost use Rattle.slash_defs.specs.declared.message.Message.{Message};
+ghost use Rattle.protect_record.specs.Gathering.{SameEntries};
 ghost use Rattle.protect_record.specs.Parts.{Parts};
 ghost use Rattle.protect_record.specs.Pasts.{Past};
 ghost use Rattle.protect_record.specs.Standing.{Stands};
 ghost use Rattle.protect_record.specs.Exporting.{prune_book};
-ghost use Rattle.record_replay.specs.Pruning.{pruning_of};
+ghost use Rattle.record_replay.specs.Pruning.{pruning_of, record_of};
 ghost use Rattle.interchange_io.specs.WrittenOrder.{canonical};
 ghost use Rattle.record_codec.specs.declared.item.JournalItem.{JournalItem};
 ghost use Rattle.record_codec.specs.declared.item.JournalItem.TheVariants as item;
@@ -37,6 +38,11 @@ pub fn replay_laws()
         → EachOnce file.books → ItemsStand (items ++ file_items (canonical file).books) (with_file keys file.books) states }
     ensures gained { (items : List JournalItem) (keys : List (PubKey × Past)) (states : List (PubKey × KeyState)) (key : PubKey) (book : Book) → ItemsStand items keys states
         → ItemsStand (items ++ book_items (key, book)) (with_file keys ((key, book) ∷ [])) states }
+{}
+
+/// A record that stands for a past has the floors and the entries of the past's own record.
+pub fn record_law()
+    ensures { (parts : Parts) (past : Past) → Stands parts past → SameEntries parts (record_of past) }
 {}
 
 /// The book that prunes a record is the one of the past that it stands for.

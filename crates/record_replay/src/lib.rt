@@ -11,6 +11,6 @@ mod state;
 
 pub use batches::{book_items, file_items, message_item};
 pub use fault::ReplayFault;
-pub use laws::{pruning_law, replay_laws};
+pub use laws::{pruning_law, record_law, replay_laws};
 pub use payloads::{Replayed, replay};
 pub use state::KeyState;

@@ -62,6 +62,11 @@ pub(crate) fn read(reply: DeskReply) -> Result<Told, AllocError>
         DeskReply::HasFailed(_) | DeskReply::NotClosing(_) | DeskReply::Refused(_) => {
             Ok(Told::Other)
         }
+        DeskReply::Size(_) | DeskReply::LastGeneration => Ok(Told::Other),
+        DeskReply::Compacted {
+            before: _,
+            after: _,
+        } => Ok(Told::Other),
         DeskReply::GenesisDiffers { kept: _, given: _ } => Ok(Told::Other),
         DeskReply::Live { epoch: _ } | DeskReply::Busy { grants: _ } => Ok(Told::Other),
         DeskReply::Watching {

@@ -1,17 +1,14 @@
 //! Doubles for tests of whole runs: what stands for the outside, and sessions as they are told in scripts.
 #![tactic(auto)]
 
-mod events;
-mod marks;
 mod outside;
 mod plays;
 mod scripts;
 
-pub use events::words_of;
-pub use marks::{filled, is_text};
 pub use outside::{
     Ended, Faults, KeepingSigner, Unused, disks_after, disks_of, fresh_disks, no_faults, play,
     ready_signer, run,
 };
 pub use plays::{SESSION, came_to};
 pub use scripts::{Session, in_two, titled};
+pub use test_texts::{filled, is_text, words_of};

@@ -1,6 +1,4 @@
 //! What stands for the outside in a test.
-use crate::events::words_of;
-use crate::marks::{filled, is_text};
 use check_sign::Events;
 use edge_clock::MemClock;
 use edge_kit::{Disks, Door, MemDisk, MemSink, MemSource, PubKey, Sig};
@@ -11,6 +9,7 @@ use slash_defs::Granted;
 use std::alloc::{AllocError, Global};
 use std::sync::Wait;
 use std::thread::Threads;
+use test_texts::{filled, is_text, words_of};
 use validator_cli::{Node, Status, run_validator};
 
 /// What no command uses yet.
@@ -105,10 +104,15 @@ pub fn fresh_disks(alloc: Global) -> Result<Disks<MemDisk>, AllocError> {
     disks_of(alloc, Vec::new(alloc), Vec::new(alloc))
 }
 
-/// Disks that never fail, over what a run left.
+/// Disks that never fail, over what a run left on both.
 pub fn disks_after<S>(alloc: Global, ended: &Ended<S>) -> Result<Disks<MemDisk>, AllocError> {
-    let bytes = ended.disks.first.bytes().to_vec(alloc)?;
-    disks_of(alloc, bytes, Vec::new(alloc))
+    let Disks { first, second } = &ended.disks;
+    let first = first.bytes().to_vec(alloc)?;
+    let second = second.bytes().to_vec(alloc)?;
+    Ok(Disks {
+        first: MemDisk::new(alloc, first, Vec::new(alloc), None)?,
+        second: MemDisk::new(alloc, second, Vec::new(alloc), None)?,
+    })
 }
 
 /// What a run leaves.

@@ -101,6 +101,10 @@ answer_data (answer.Exported file) =
     object (member (codes "answer") (string (codes "exported")) (member (codes "file") (string (file_text file)) no_members))
 answer_data answer.Pruned = done (codes "pruned")
 answer_data answer.Noted = done (codes "noted")
+answer_data (answer.Compacted before after) =
+    object (member (codes "after") (string (decimal after))
+    (member (codes "answer") (string (codes "compacted"))
+    (member (codes "before") (string (decimal before)) no_members)))
 answer_data (answer.BadRequest m) = with_member (member_name m) (codes "bad_request")
 answer_data (answer.BadFile f) = fault_data f
 answer_data (answer.GenesisDiffers kept given) =
@@ -118,6 +122,7 @@ answer_data (answer.Full size wanted) =
     (member (codes "reason") (string (codes "full"))
     (member (codes "size") (string (decimal size))
     (member (codes "wanted") (string (decimal wanted)) no_members))))
+answer_data answer.LastGeneration = with_reason (codes "last_generation")
 answer_data answer.Disk = with_reason (codes "disk")
 answer_data answer.Unknown = with_reason (codes "unknown")
 answer_data answer.NotActive = with_reason (codes "not_active")

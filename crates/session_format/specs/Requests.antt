@@ -192,6 +192,7 @@ by_op domains (Some name) d = if bytes_eq name (codes "merge") then merge_at d
     else if bytes_eq name (codes "export") then export_at d
     else if bytes_eq name (codes "prune") then prune_at d
     else if bytes_eq name (codes "live") then live_at d
+    else if bytes_eq name (codes "compact") then Ok op.Compact
     else Err member.Op
 
 abbrev pub op_in : Domains → Data → Result Op Member

@@ -7,7 +7,7 @@ use crate::cause::Cause;
 use crate::member::Member;
 use crate::request::Keys;
 use crate::values::{
-    exported, fault_value, full, genesis_differs, live, merged, signed, too_many_keys,
+    compacted, exported, fault_value, full, genesis_differs, live, merged, signed, too_many_keys,
     verdict_value, watching, with_name,
 };
 use custody_format::{busy_value, deleted_value, imported_value, listed_value, not_closing_value};
@@ -44,6 +44,9 @@ pub enum Answer {
     Pruned,
     /// What was told of the key is noted.
     Noted,
+    /// What the desk keeps is written into the journal's other file, which is the current one now: the sizes in bytes of
+    /// the file that was current before, and of this one.
+    Compacted { before: u64, after: u64 },
     /// A member of the line is absent or has no reading. Nothing was done.
     BadRequest(Member),
     /// The text is no interchange file. Nothing was done.
@@ -52,8 +55,11 @@ pub enum Answer {
     GenesisDiffers { kept: Root, given: Root },
     /// There would be too many keys. Nothing was done.
     TooManyKeys { have: u64, new: u64 },
-    /// The journal has no room: its size in bytes, and how many more were wanted. Nothing was done.
+    /// The journal has no room: its size in bytes, and how many more were wanted; of a compaction 0, and how many
+    /// bytes the other file would have. Nothing was done.
     Full { size: u64, wanted: u64 },
+    /// The journal is in its last generation, and cannot be compacted. Nothing was done.
+    LastGeneration,
     /// The disk failed, for this line or an earlier one.
     Disk,
     /// No past is kept of the key.
@@ -99,11 +105,15 @@ impl Answer {
             Answer::Exported(file) => exported(alloc, file),
             Answer::Pruned => json!(in alloc; {"answer": "pruned"}),
             Answer::Noted => json!(in alloc; {"answer": "noted"}),
+            Answer::Compacted { before, after } => compacted(alloc, *before, *after),
             Answer::BadRequest(member) => with_name(alloc, member.name(), "bad_request"),
             Answer::BadFile(fault) => fault_value(alloc, fault),
             Answer::GenesisDiffers { kept, given } => genesis_differs(alloc, kept, given),
             Answer::TooManyKeys { have, new } => too_many_keys(alloc, *have, *new),
             Answer::Full { size, wanted } => full(alloc, *size, *wanted),
+            Answer::LastGeneration => {
+                json!(in alloc; {"answer": "refused", "reason": "last_generation"})
+            }
             Answer::Disk => json!(in alloc; {"answer": "refused", "reason": "disk"}),
             Answer::Unknown => json!(in alloc; {"answer": "refused", "reason": "unknown"}),
             Answer::NotActive => json!(in alloc; {"answer": "refused", "reason": "not_active"}),

@@ -127,6 +127,8 @@ fn op_of(alloc: Global, domains: &Domains, value: &Value) -> Result<Op, Unread>
         prune_of(value)
     } else if op == "live" {
         live_of(value)
+    } else if op == "compact" {
+        Ok(Op::Compact)
     } else {
         Err(Unread::Member(Member::Op))
     }

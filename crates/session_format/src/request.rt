@@ -55,6 +55,8 @@ pub enum Op {
         of: u64,
         is_live: bool,
     },
+    /// To write what the desk keeps into the journal's other file, and go on in that.
+    Compact,
 }
 
 /// The request of a line: what it asks for, and the moment, an epoch, where it names one.

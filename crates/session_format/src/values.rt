@@ -36,6 +36,15 @@ pub(crate) fn exported(alloc: Global, file: &File) -> Result<Value, AllocError>
     json!(in alloc; {"answer": "exported", "file": file.as_str()})
 }
 
+/// The sizes of the journal's current file before it was compacted, and after.
+pub(crate) fn compacted(alloc: Global, before: u64, after: u64) -> Result<Value, AllocError>
+    ensures { IfOk result (λ v. view v ≡ answer_data (Answer.Compacted before after)) }
+{
+    let before = before.to_string(alloc)?;
+    let after = after.to_string(alloc)?;
+    json!(in alloc; {"after": after.as_str(), "answer": "compacted", "before": before.as_str()})
+}
+
 /// The chain that is kept, and the one that was given.
 pub(crate) fn genesis_differs(alloc: Global, kept: &Root, given: &Root) -> Result<Value, AllocError>
     ensures { IfOk result (λ v. view v ≡ answer_data (Answer.GenesisDiffers kept.now given.now)) }

@@ -96,6 +96,7 @@ complete_op state domains kept now (op.Live key epoch live) steps a f can = tt
 complete_op state domains kept now (op.Import file keystores) steps a f can = tt
 complete_op state domains kept now (op.Delete keys) steps a f can = tt
 complete_op state domains kept now op.List steps a f can = tt
+complete_op state domains kept now op.Compact steps a f can = tt
 
 complete_turn : (state : State) (domains : Domains) (kept : List PubKey) (latest : ℕ) (q : Result Request Member) (steps : List ClientStep) (a : Answer) → Follows Fits (line_plan domains kept latest q) steps (Some a) → CanMake state (desk_calls steps) → IsComplete state q a
 complete_turn state domains kept latest (Err m) steps a f can = tt

@@ -41,6 +41,8 @@ lasting_keeps state (call.Export keys) = keeps_all state.keys
 lasting_keeps state (call.Prune key) = pruned_keeps state.keys key (past_of state key)
 lasting_keeps state call.Keys = keeps_all state.keys
 lasting_keeps state call.HasFailed = keeps_all state.keys
+lasting_keeps state call.Size = keeps_all state.keys
+lasting_keeps state call.Compact = keeps_all state.keys
 
 torn_after : (state : State) (c : DeskCall) (r : DeskReply) → ((after state c r).torn ≡ state.torn) ⊎ ((after state c r).torn ≡ torn_first state.torn (lasting_after state c))
 torn_after state (call.Merge file) (reply.Merged keys) = inl refl
@@ -52,6 +54,7 @@ torn_after state (call.Settle grant outcome) reply.Settled = inl refl
 torn_after state (call.BeginClose key) reply.CloseBegun = inl refl
 torn_after state (call.FinishClose key) (reply.Closed book) = inl refl
 torn_after state (call.Prune key) (reply.Pruned book) = inl refl
+torn_after state call.Compact (reply.Compacted before size) = inl refl
 torn_after state c reply.Disk = inr refl
 torn_after state c r = inl refl
 

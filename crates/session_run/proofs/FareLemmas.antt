@@ -17,8 +17,6 @@ module _ {D : Type 0} (faults : D → ℕ) where
     later = later_none faults (disks_in desk);
     fails = λ none some. not_both desk.contents.torn (EitherRose faults (disks_in desk) (disks_in desk)) none some;
     genesis = refl;
-    other = refl;
-    place = refl;
   }
 
   by_torn : (t : Option (List (List ℕ))) (x y z : Disks D) → (t ≡ None → EitherRose faults y z) → (IsSome t → EitherRose faults x y) → FaultsLater faults x y → FaultsLater faults y z → EitherRose faults x z
@@ -30,6 +28,4 @@ module _ {D : Type 0} (faults : D → ℕ) where
     later = later_on faults (disks_in old) (disks_in mid) (disks_in new) first.later second.later;
     fails = λ none some. by_torn mid.contents.torn (disks_in old) (disks_in mid) (disks_in new) (λ up. second.fails up some) (λ down. first.fails none down) first.later second.later;
     genesis = second.genesis ∙ first.genesis;
-    other = second.other ∙ first.other;
-    place = second.place ∙ first.place;
   }

@@ -157,6 +157,7 @@ keeps_call state (call.Answer key epoch live now) reply.Noted = keeps_all state.
 keeps_call state (call.Settle grant o) reply.Settled = keeps_all state.keys
 keeps_call state (call.BeginClose key) reply.CloseBegun = keeps_all state.keys
 keeps_call state (call.FinishClose key) (reply.Closed book) = keeps_all state.keys
+keeps_call state call.Compact (reply.Compacted before size) = keeps_all state.keys
 keeps_call state c reply.Disk = keeps_all state.keys
 keeps_call state c r = keeps_all state.keys
 

@@ -116,7 +116,8 @@ ops domains (Some name) d =
     (by_test ListsOnce (bytes_eq name (codes "vote")) (vote_at domains d) _ (then ListsOnce (key_at d) _ (λ key. votes_by domains key d (get (codes "attestation") d)))
     (by_test ListsOnce (bytes_eq name (codes "export")) (export_at d) _ (then ListsOnce (asked_keys (get (codes "pubkeys") d)) _ (λ keys. tt))
     (by_test ListsOnce (bytes_eq name (codes "prune")) (prune_at d) _ (then ListsOnce (key_at d) _ (λ key. tt))
-    (by_test ListsOnce (bytes_eq name (codes "live")) (live_at d) _ (lives d) tt)))))))))
+    (by_test ListsOnce (bytes_eq name (codes "live")) (live_at d) _ (lives d)
+    (by_test ListsOnce (bytes_eq name (codes "compact")) (Ok op.Compact) _ tt tt))))))))))
 
 -- ---- the moment
 

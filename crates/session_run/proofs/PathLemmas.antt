@@ -36,4 +36,4 @@ module _ {D : Type 0} (moment : D → ℕ) (leaves : D → ℕ → List ℕ → 
   pub path_fares : (a b : Seen D) (made : List (DeskCall × DeskReply)) → Path moment leaves faults a made b → DeskFares faults a b
   path_fares a b [] same = let P : Seen D → Type 0 = λ x. DeskFares faults a x in subst P (sym same) (fares_none faults a)
   path_fares a b (x ∷ made) p =
-      fares_on faults a p.0 b (record { later = p.1.later; fails = p.1.fails; genesis = p.1.counted.genesis; other = p.1.other; place = p.1.place }) (path_fares p.0 b made p.2)
+      fares_on faults a p.0 b (record { later = p.1.later; fails = p.1.fails; genesis = p.1.counted.genesis }) (path_fares p.0 b made p.2)

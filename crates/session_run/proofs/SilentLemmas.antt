@@ -74,6 +74,7 @@ activated_call state (call.Allow k now) (reply.Granted grant) key can off turned
 activated_call state (call.Answer k epoch live now) reply.Noted key can off turned = true_false (is_active (key_state state.states key)) turned off
 activated_call state (call.Settle grant o) reply.Settled key can off turned = true_false (is_active (key_state state.states key)) turned off
 activated_call state (call.Prune k) (reply.Pruned book) key can off turned = true_false (is_active (key_state state.states key)) turned off
+activated_call state call.Compact (reply.Compacted before size) key can off turned = true_false (is_active (key_state state.states key)) turned off
 activated_call state c reply.Disk key can off turned = true_false (is_active (key_state state.states key)) turned off
 activated_call state c r key can off turned = true_false (is_active (key_state state.states key)) turned off
 

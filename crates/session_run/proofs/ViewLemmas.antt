@@ -201,6 +201,7 @@ module _ (domains : Domains) (kept : List PubKey) (t : Turn) where
   op_view now (op.Export (Some keys)) f = inl (steps_asked Fits IsQuiet (calls (call.Export keys)) t.steps (Some t.answer) (quiet_calls (call.Export keys) tt) f)
   op_view now (op.Prune key) f = inl (steps_asked Fits IsQuiet (calls (call.Prune key)) t.steps (Some t.answer) (quiet_calls (call.Prune key) tt) f)
   op_view now (op.Live key epoch live) f = inl (steps_asked Fits IsQuiet (calls (call.Answer key epoch live now)) t.steps (Some t.answer) (quiet_calls (call.Answer key epoch live now) tt) f)
+  op_view now op.Compact f = inl (steps_asked Fits IsQuiet (calls call.Compact) t.steps (Some t.answer) (quiet_calls call.Compact tt) f)
   op_view now (op.Import file keystores) f =
       inl (steps_asked Fits IsQuiet (op_plan domains kept now (op.Import file keystores)) t.steps (Some t.answer) (asked_bind IsQuiet (import_plan file now keystores) (λ end. Done (import_answer end)) (quiet_import file now keystores) (λ end. tt)) f)
   op_view now (op.Delete keys) f =

@@ -30,14 +30,12 @@ use Rattle.session_run.specs.Turns.{Turn, IsPlanned}
 abbrev pub AtBench : Type 0 → Type 0
 AtBench D = Seat (Seen D)
 
--- how a desk with its disks fared: no count of faults has fallen, a desk that was up failed only where one rose, and the chain, the
--- other disk and which file is current are the same
+-- How a desk with its disks fared: no count of faults has fallen, a desk that was up failed only where one rose, and the chain is the
+-- same. Which disk is written and which file is current, each call says for itself.
 pub record DeskFares {D : Type 0} (faults : D → ℕ) (old new : Seen D) : Type 0 where
   pub later : FaultsLater faults (disks_in old) (disks_in new)
   pub fails : old.contents.torn ≡ None → IsSome new.contents.torn → EitherRose faults (disks_in old) (disks_in new)
   pub genesis : new.contents.genesis ≡ old.contents.genesis
-  pub other : new.other ≡ old.other
-  pub place : new.place ≡ old.place
 
 -- these steps led from the one bench to the other: the calls of its desk, each with all that holds of a call whether or not the desk
 -- stands for a state, and what the signer tells and counts

@@ -38,6 +38,7 @@ IsPlainCall (call.Activate key now) = Unit {0}
 IsPlainCall (call.Export keys) = Unit {0}
 IsPlainCall (call.Prune key) = Unit {0}
 IsPlainCall (call.Answer key epoch live now) = Unit {0}
+IsPlainCall call.Compact = Unit {0}
 IsPlainCall c = ⊥
 
 -- a grant or one of these replies comes to none of them
@@ -49,6 +50,7 @@ IsPlainReply reply.AlreadyClosing = ⊥
 IsPlainReply (reply.Closed book) = ⊥
 IsPlainReply (reply.Keys listed) = ⊥
 IsPlainReply (reply.HasFailed failed) = ⊥
+IsPlainReply (reply.Size size) = ⊥
 IsPlainReply (reply.NotClosing state) = ⊥
 IsPlainReply (reply.Busy grants) = ⊥
 IsPlainReply r = Unit {0}
@@ -61,10 +63,12 @@ answer_given reply.Already = Some answer.Active
 answer_given (reply.Exported file) = Some (answer.Exported file)
 answer_given (reply.Pruned book) = Some answer.Pruned
 answer_given reply.Noted = Some answer.Noted
+answer_given (reply.Compacted before after) = Some (answer.Compacted before after)
 answer_given reply.Unknown = Some answer.Unknown
 answer_given reply.NotActive = Some answer.NotActive
 answer_given reply.Closing = Some answer.Closing
 answer_given reply.Disk = Some answer.Disk
+answer_given reply.LastGeneration = Some answer.LastGeneration
 answer_given (reply.Full size wanted) = Some (answer.Full size wanted)
 answer_given (reply.GenesisDiffers kept given) = Some (answer.GenesisDiffers kept given)
 answer_given (reply.TooManyKeys have new) = Some (answer.TooManyKeys have new)
@@ -153,6 +157,7 @@ op_plan domains kept now (op.Prune key) = calls (call.Prune key)
 op_plan domains kept now (op.Live key epoch live) = calls (call.Answer key epoch live now)
 op_plan domains kept now (op.Import file keystores) = bind (import_plan file now keystores) (λ end. Done (import_answer end))
 op_plan domains kept now (op.Delete keys) = bind (deletion_plan keys) (λ d. Done (answer.Deleted d.statuses d.file))
+op_plan domains kept now op.Compact = calls call.Compact
 op_plan domains kept now op.List = bind list_plan (λ keys. Done (answer.Listed keys))
 
 -- the moment of a request: the greatest that was named, by an earlier line or this one

@@ -129,6 +129,7 @@ impl<D: Disk, S: Signer> Bench<D, S> {
                 };
                 self.ask(alloc, call)
             }
+            Op::Compact => self.ask(alloc, DeskCall::Compact),
             Op::Import { file, keystores } => self.import(alloc, file, &keystores, now),
             Op::Delete { keys } => self.delete(alloc, keys.as_slice()),
             Op::List => self.list(alloc),
@@ -254,10 +255,12 @@ fn plain_answer(reply: DeskReply) -> Option<Answer>
         DeskReply::Exported(file) => Some(Answer::Exported(file)),
         DeskReply::Pruned(_book) => Some(Answer::Pruned),
         DeskReply::Noted => Some(Answer::Noted),
+        DeskReply::Compacted { before, after } => Some(Answer::Compacted { before, after }),
         DeskReply::Unknown => Some(Answer::Unknown),
         DeskReply::NotActive => Some(Answer::NotActive),
         DeskReply::Closing => Some(Answer::Closing),
         DeskReply::Disk => Some(Answer::Disk),
+        DeskReply::LastGeneration => Some(Answer::LastGeneration),
         DeskReply::Full { size, wanted } => Some(Answer::Full { size, wanted }),
         DeskReply::GenesisDiffers { kept, given } => Some(Answer::GenesisDiffers { kept, given }),
         DeskReply::TooManyKeys { have, new } => Some(Answer::TooManyKeys { have, new }),
@@ -272,6 +275,7 @@ fn plain_answer(reply: DeskReply) -> Option<Answer>
         DeskReply::Busy { grants: _ } => unreachable!(),
         DeskReply::Keys(_listed) => unreachable!(),
         DeskReply::HasFailed(_) => unreachable!(),
+        DeskReply::Size(_) => unreachable!(),
         DeskReply::OutOfMemory => None,
     }
 }

@@ -41,7 +41,7 @@ pub at_bench : {D : Type 0} (b : AtBench D) (desk : Seen D) (told : Option (List
 at_bench b desk told failed denied d t f n = λ i. record { desk = d i; signer = record { told = t i; faults = f i; denials = n i } }
 
 fares_as : {D : Type 0} (faults : D → ℕ) (old new : Seen D) → DeskFares faults old new → Fares faults old new
-fares_as faults old new f = record { genesis = f.genesis; other = f.other; place = f.place; later = f.later; fails = f.fails }
+fares_as faults old new f = record { genesis = f.genesis; later = f.later; fails = f.fails }
 
 module _ {D : Type 0} (shows : D → List ℕ → Type 0) (moment : D → ℕ) (leaves : D → ℕ → List ℕ → Type 0) (faults : D → ℕ) (domains : Domains) (before now : Outside) (result : Status) (opened ended : Seen D) where
   abbrev pub Served : Status → Type 0

@@ -390,6 +390,8 @@ call_step before w c (call.Merge file) (reply.Merged keys) inv h law =
     answered before w c (call.Merge file) (after (w.desks c) (call.Merge file) (reply.Merged keys)) [] inv (changes_ok (w.desks c) (call.Merge file) (reply.Merged keys) tt h) h.0.0 refl refl refl refl (λ k. no_deeds w c k) refl (λ x. x) (λ k e. absurd (not_opening e))
 call_step before w c (call.Prune key) (reply.Pruned book) inv h law =
     answered before w c (call.Prune key) (after (w.desks c) (call.Prune key) (reply.Pruned book)) [] inv (changes_ok (w.desks c) (call.Prune key) (reply.Pruned book) tt h) h.0.0 refl refl refl refl (λ k. no_deeds w c k) refl (λ x. x) (λ k e. absurd (not_opening e))
+call_step before w c call.Compact (reply.Compacted old_size new_size) inv h law =
+    answered before w c call.Compact (after (w.desks c) call.Compact (reply.Compacted old_size new_size)) [] inv (changes_ok (w.desks c) call.Compact (reply.Compacted old_size new_size) tt h) h.0.0 refl refl refl refl (λ k. no_deeds w c k) refl (λ x. x) (λ k e. absurd (not_opening e))
 call_step before w c (call.Activate key now) reply.Active inv h law =
     answered before w c (call.Activate key now) (after (w.desks c) (call.Activate key now) reply.Active) (Activated c key ∷ []) inv (changes_ok (w.desks c) (call.Activate key now) reply.Active tt h) h.0 refl refl refl refl
     (λ k. opening_deed w c key k (is_at (key_cmp k) key) refl) refl (λ x. x) (λ k e. allowed before w c k inv (law k (opens_own key k (is_at (key_cmp k) key) refl e)))

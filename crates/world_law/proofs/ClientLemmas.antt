@@ -123,6 +123,7 @@ CanFail (call.Propose key m now) = Unit {0}
 CanFail (call.Allow key now) = Unit {0}
 CanFail (call.FinishClose key) = Unit {0}
 CanFail (call.Prune key) = Unit {0}
+CanFail call.Compact = Unit {0}
 CanFail c = ⊥
 
 -- each such call that proceeds
@@ -154,6 +155,7 @@ changes_proceeding state (call.FinishClose key) p w = record {
       subst P (sym same) (ap is_held p.1, ap is_held (found_changed state.states key Closed Closing p.1), λ g m says has is. none_open state.grants key p.2 g has is)
   at k false e = ap is_held (changed state.states key k Closed there ∙ rw (apart_back k key e) refl)
 changes_proceeding state (call.Prune key) p w = record { kept = pruned_keeps state.keys key (past_of state key); moved = λ k. refl }
+changes_proceeding state call.Compact p w = record { kept = keeps_all state.keys; moved = λ k. refl }
 changes_proceeding state c p w = absurd w
 
 -- ---- each call with its Ok
@@ -192,6 +194,8 @@ changes_ok state (call.Export keys) (reply.Exported file) ok h = changes_none st
 changes_ok state (call.Prune key) (reply.Pruned book) ok h = changes_proceeding state (call.Prune key) h.0.1 tt
 changes_ok state call.Keys (reply.Keys listed) ok h = changes_none state call.Keys (λ k. refl)
 changes_ok state call.HasFailed (reply.HasFailed failed) ok h = changes_none state call.HasFailed (λ k. refl)
+changes_ok state call.Size (reply.Size size) ok h = changes_none state call.Size (λ k. refl)
+changes_ok state call.Compact (reply.Compacted before after) ok h = changes_proceeding state call.Compact h.0.1 tt
 changes_ok state c r ok h = absurd ok
 
 -- ---- a call that the disk tore
@@ -204,6 +208,7 @@ failed state (call.Propose key m now) h = (h, tt)
 failed state (call.Allow key now) h = (h, tt)
 failed state (call.FinishClose key) h = (h, tt)
 failed state (call.Prune key) h = (h, tt)
+failed state call.Compact h = (h, tt)
 failed state c h = absurd h
 
 some_none : {X : Type 0} (o : Option X) → IsSome o → o ≡ None → ⊥

@@ -49,6 +49,7 @@ call_keeps state (call.Answer key epoch live now) reply.Noted = keeps_all state.
 call_keeps state (call.Settle grant o) reply.Settled = keeps_all state.keys
 call_keeps state (call.BeginClose key) reply.CloseBegun = keeps_all state.keys
 call_keeps state (call.FinishClose key) (reply.Closed book) = keeps_all state.keys
+call_keeps state call.Compact (reply.Compacted before size) = keeps_all state.keys
 call_keeps state c reply.Disk = keeps_all state.keys
 call_keeps state c r = keeps_all state.keys
 

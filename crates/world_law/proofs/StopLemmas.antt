@@ -21,7 +21,8 @@ use Rattle.desk_machine.specs.States.{State, Lasting, lasting, past_of}
 use Rattle.check_sign.specs.Standing.{DeskStands, MayOpen, Opens}
 use Rattle.desk_machine.specs.Handing.{IsExport}
 use Rattle.desk_machine.specs.Machine.{Reply, after, lasting_after, Succeeds, MayFail, grant_for, plain_grant_for, torn_first}
-use Rattle.desk_machine.specs.Written.{HasRoomFor, IsWritten, written}
+use Rattle.desk_machine.specs.Snapshots.{snapshot_size}
+use Rattle.desk_machine.specs.Written.{Fits, HasRoomFor, IsWritten, Writes, written}
 use Rattle.desk_machine.specs.declared.call.DeskCall.{DeskCall}
 use Rattle.desk_machine.specs.declared.call.DeskCall.TheVariants as call
 use Rattle.desk_machine.specs.declared.call.DeskReply.{DeskReply}
@@ -47,13 +48,14 @@ closing_lasts (a ∷ more) key e = at (is_at (key_cmp key) a.0) e (closing_lasts
   at false h rest = ap (λ l. (a.0, lasting_state a.1) ∷ l) (rest h)
 
 -- a file opens to what lasts by the states that outlast a stop alone
-opens_same : (genesis : Root) (file : Files) (l : Lasting) (states : List (PubKey × KeyState)) → lasting_states l.states ≡ lasting_states states → Opens genesis file l → Opens genesis file (record { keys = l.keys; states = states; size = l.size })
+opens_same : (genesis : Root) (file : Files) (l : Lasting) (states : List (PubKey × KeyState)) → lasting_states l.states ≡ lasting_states states → Opens genesis file l → Opens genesis file (record { keys = l.keys; states = states; size = l.size; generation = l.generation })
 opens_same genesis file l states e o = record {
   payloads = o.payloads;
   read = o.read;
   stand = record {
     items = record { named = o.stand.items.named; each = o.stand.items.each; states = o.stand.items.states ∙ e };
     size = o.stand.size;
+    generation = o.stand.generation;
   };
 }
 
@@ -84,6 +86,10 @@ room_of : (size : ℕ) (items : List JournalItem) → IsWritten size items → H
 room_of size [] w = absurd w
 room_of size (i ∷ items) w = w
 
+fits_of : (state : State) (c : DeskCall) → Writes state c → Fits state c
+fits_of state call.Compact w = w
+fits_of state c w = room_of state.size (written state c) w
+
 some_past : (o : Option Past) → IsSome o → (p : Past) × (o ≡ Some p)
 some_past None s = absurd (let bad : false ≡ true = s in cc)
 some_past (Some p) s = (p, refl)
@@ -104,6 +110,7 @@ succeeds_ok desk state (call.Prune key) stands w s =
     let P : Option Past → Type 0 = λ o. IsSomeAnd o (λ q. pruning_of past.0 ≡ pruning_of q) in
     let one : P (Some past.0) = refl in
     (reply.Pruned (pruning_of past.0), tt, (s, subst P (sym past.1) one))
+succeeds_ok desk state call.Compact stands w s = (reply.Compacted state.size (snapshot_size state), tt, (s, refl, refl))
 succeeds_ok desk state c stands w s = absurd w
 
 -- what a torn call may leave
@@ -115,7 +122,7 @@ torn_left genesis desk state c file stands h o = at state.torn refl where
 
   ok : state.torn ≡ None → MayFail state c → HasOk state c
   ok up (inl down) = absurd (let S : Option Lasting → Type 0 = λ t. IsSome t in let bad : false ≡ true = subst S up down in cc)
-  ok up (inr x) = succeeds_ok desk state c stands fault.1 (x.0, x.1, room_of state.size (written state c) x.2)
+  ok up (inr x) = succeeds_ok desk state c stands fault.1 (x.0, x.1, fits_of state c x.2)
 
   at : (t : Option Lasting) → state.torn ≡ t → IsOfStop genesis state (Some c) file
   at None up =
@@ -142,6 +149,7 @@ after_torn genesis desk state (call.Settle grant outcome) reply.Settled bytes st
 after_torn genesis desk state (call.BeginClose key) reply.CloseBegun bytes stands h t = torn_done genesis state (Some (call.BeginClose key)) bytes t
 after_torn genesis desk state (call.FinishClose key) (reply.Closed book) bytes stands h t = torn_done genesis state (Some (call.FinishClose key)) bytes t
 after_torn genesis desk state (call.Prune key) (reply.Pruned book) bytes stands h t = torn_done genesis state (Some (call.Prune key)) bytes t
+after_torn genesis desk state call.Compact (reply.Compacted before size) bytes stands h t = torn_done genesis state (Some call.Compact) bytes t
 after_torn genesis desk state c reply.Disk bytes stands h t = torn_left genesis desk state c bytes stands h t
 after_torn genesis desk state c r bytes stands h t = torn_done genesis state (Some c) bytes t
 
@@ -152,6 +160,7 @@ after_call genesis desk state (call.Propose key m now) (reply.Granted grant) byt
 after_call genesis desk state (call.BeginClose key) reply.CloseBegun bytes stands h (inl o) = undone genesis state (Some (call.BeginClose key)) bytes (opens_same genesis bytes (lasting_after state (call.BeginClose key)) state.states (closing_lasts state.states key h.1) o)
 after_call genesis desk state (call.FinishClose key) (reply.Closed book) bytes stands h (inl o) = call_done genesis state (call.FinishClose key) bytes h.0.0 (reply.Closed book, tt, h) o
 after_call genesis desk state (call.Prune key) (reply.Pruned book) bytes stands h (inl o) = call_done genesis state (call.Prune key) bytes h.0.0 (reply.Pruned book, tt, h) o
+after_call genesis desk state call.Compact (reply.Compacted before size) bytes stands h (inl o) = call_done genesis state call.Compact bytes h.0.0 (reply.Compacted before size, tt, h) o
 after_call genesis desk state (call.Allow key now) (reply.Granted grant) bytes stands h (inl o) = undone genesis state (Some (call.Allow key now)) bytes o
 after_call genesis desk state (call.Answer key epoch live now) reply.Noted bytes stands h (inl o) = undone genesis state (Some (call.Answer key epoch live now)) bytes o
 after_call genesis desk state (call.Settle grant outcome) reply.Settled bytes stands h (inl o) = undone genesis state (Some (call.Settle grant outcome)) bytes o

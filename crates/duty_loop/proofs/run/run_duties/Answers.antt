@@ -1,7 +1,3 @@
-use Rattle.std.proofs.Common.{◌≡◌, ◌-◌, subst, sym, arith}
-use Rattle.call_plans.proofs.PathLemmas.{comes_none}
-use Rattle.duty_turns.specs.Turns.{first_standing, turns_plan}
-use Rattle.duty_turns.specs.TurnSteps.{Does, Fits}
 use Rattle.duty_loop.proofs.TurnLemmas.{turns_begun, turns_over, turns_end, turns_go}
 use Rattle.duty_loop.proofs.run.run_duties.Goals as goal
 

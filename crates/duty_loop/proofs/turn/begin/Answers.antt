@@ -1,5 +1,4 @@
 use Rattle.std.proofs.Common.{◌<◌, ◌≤◌, [], refl, subst}
-use Rattle.duty_schedule.specs.declared.rows.Duty.{Duty}
 use Rattle.duty_turns.specs.Turns.{at_slot, woken_plan}
 use Rattle.duty_loop.proofs.RunLemmas.{closed_as, holds_at, refreshed, refreshed_short}
 use Rattle.duty_loop.proofs.TurnLemmas.{woken_late, woken_now}
@@ -20,4 +19,4 @@ returns-in_default-clause-runs g c = λ s h.
 pub returns-clause-runs : goal.returns-clause-runs
 returns-clause-runs g c = λ s h.
     refreshed g.K.DeskCalls.leads g.met.K.DeskCalls.leads_none (g.C.Clock.start c.args.clock.now) _ c.args.setup.now s _ _ _ _ _ _ c.args.reached c.slot_of-later.result _
-    (woken_now c.args.setup.now s c.args.reached c.slot_of-later.result c.slot_of-later.ensures (subst (λ n. c.slot_of-later.result ≤ n) h.is.slot c.if-slot-later.false)) c.in-Ok.ensures.flagged (c.list_keys.ensures.runs s h)
+    (woken_now c.args.setup.now s c.args.reached c.slot_of-later.result c.slot_of-later.ensures (subst (λ n. c.slot_of-later.result ≤ n) h.is.slot c.if-slot-later.false)) c.in-Ok.ensures.flagged (c.shorten.ensures.runs s h)

@@ -1,4 +1,3 @@
-use Rattle.std.specs.Prelude.{OnOk}
 use Rattle.std.proofs.lemmas.Result.{on_ok_weaker}
 use Rattle.duty_asks.specs.Placed.{HoldsPlaced}
 use Rattle.duty_loop.proofs.RunLemmas.{waited}

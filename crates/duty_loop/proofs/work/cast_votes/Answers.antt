@@ -1,4 +1,4 @@
-use Rattle.std.proofs.Common.{◌≡◌, ◌<◌, ◌≤◌, ◌∙◌, ◌++◌, List, true, refl, sym, ap, subst}
+use Rattle.std.proofs.Common.{◌≡◌, ◌<◌, ◌∙◌, ◌++◌, List, true, refl, sym, ap, subst}
 use Rattle.std.specs.Prelude.{not}
 use Rattle.duty_schedule.specs.declared.rows.Duty.{Duty}
 use Rattle.duty_turns.specs.Times.{next_slot}

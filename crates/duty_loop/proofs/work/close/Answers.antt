@@ -1,6 +1,5 @@
 use Rattle.call_plans.proofs.PathLemmas.{carries_cut}
 use Rattle.duty_turns.specs.TurnSteps.{Does, Fits}
-use Rattle.std.proofs.Common.{refl}
 use Rattle.std.specs.Prelude.{string_bytes}
 use Rattle.duty_loop.proofs.RunLemmas.{close_fails, closed}
 use Rattle.duty_loop.proofs.work.close.Goals as goal

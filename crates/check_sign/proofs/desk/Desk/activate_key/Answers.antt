@@ -118,7 +118,7 @@ returns-in-Err-clause-machine g c = λ state stands.
     (up_state _ state.torn s.torn clean) refl refl refl (
       idle_at c.state_of.result c.self.inside.states.entries state.states c.args.key c.state_of.ensures.value s.states c.in-Known.is,
       fits c.fits_one.result c.self.inside.books state.keys c.args.key c.fits_one.ensures (search rules) s.keys,
-    ) refl (c.replay_laws.ensures.activated (items_in c.self.inside.journal.payloads) state.keys state.states c.args.key s.payloads.items) refl (λ h. h) (λ h. h) (λ n w h. h) refl refl (λ n w. refl) (record {
+    ) refl (c.replay_laws.ensures.activated (items_in c.self.inside.journal.payloads) state.keys state.states c.args.key s.payloads.items) refl refl (λ h. h) (λ n w h. h) (λ h. h) (λ h. h) (λ n w h. h) refl refl (λ n w. refl) (record {
       genesis = s.genesis;
       keys = c.take_back-in-Err.ensures.stands c.self.inside.books state.keys c.in-Ok.ensures.fresh s.keys;
       states = c.unmark.ensures.same c.self.inside.states.entries c.in-Ok-mark_active.ensures.marked ∙ s.states;
@@ -158,7 +158,7 @@ returns-clause-machine g c = λ state stands.
         subst H s.size wrote.0,
       ),
       grown g.D.Disk.faults c.self.inside.journal c.write_items.new.journal items _ state _ wrote s.size c.self.invariant.3.size refl refl refl
-          (c.replay_laws.ensures.activated (items_in c.self.inside.journal.payloads) state.keys state.states c.args.key s.payloads.items) refl up (record {
+          (c.replay_laws.ensures.activated (items_in c.self.inside.journal.payloads) state.keys state.states c.args.key s.payloads.items) refl s.payloads.generation up (record {
             genesis = s.genesis;
             keys = c.in-Ok.ensures.known state.keys s.keys;
             states = c.in-Ok-mark_active.ensures.marked.now ∙ ap (λ l. with_key l c.args.key Active) s.states;

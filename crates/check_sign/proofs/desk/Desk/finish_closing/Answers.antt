@@ -106,7 +106,7 @@ returns-clause-machine g c = λ state stands.
     let proceeds = may_close _ state c.args.key c.in-Some.record.now c.state_of-state.result c.count_of-grants.result _ s (search rules) c.state_of-state.ensures.value closing c.count_of-grants.ensures refl c.if-grants-gt0.false in
     let noted = closing_at c.self.inside.states.entries c.self.inside.states.entries c.args.key refl (sym closing ∙ c.state_of-state.ensures.value) in
     let at = some_at c.self.inside.books state.keys c.args.key c.in-Some.record.now s.keys (search rules) in
-    closing_done g.D.Disk.faults c.self.inside.journal c.write_items.new.journal _ state c.args.key c.in-Some.record.now at.0 c.in-Ok.book proceeds c.in_default-write_items.ensures.wrote s.size c.self.invariant.3.size
+    closing_done g.D.Disk.faults c.self.inside.journal c.write_items.new.journal _ state c.args.key c.in-Some.record.now at.0 c.in-Ok.book proceeds c.in_default-write_items.ensures.wrote s.payloads s.size c.self.invariant.3.size
     (is_up _ state c.failed.result s c.failed.ensures c.if-failed.false) (c.replay_laws.ensures.closed _ state.keys state.states c.args.key s.payloads.items proceeds.0 (is_some_of _ Closing proceeds.1)) refl refl refl (record {
       genesis = s.genesis;
       keys = s.keys;

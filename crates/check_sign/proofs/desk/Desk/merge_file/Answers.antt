@@ -69,7 +69,7 @@ returns-in-Err-clause-machine g c = λ state stands.
     by_reply g.D.Disk.faults c.self.inside.journal c.write_file.new.journal (file_items (canonical c.args.file).books) _ state (call.Merge c.args.file) c.refusal.result c.in-Err.fault
     (λ r. Reply state (call.Merge c.args.file) r) (λ r. after state (call.Merge c.args.file) r)
     c.refusal.ensures c.in-Err.ensures.wrote s.payloads s.size c.self.invariant.3.size clean up refl refl refl (same ∙ s.genesis, within) refl
-    (c.replay_laws.ensures.merged (items_in c.self.inside.journal.payloads) state.keys state.states c.args.file s.payloads.items c.requires) refl
+    (c.replay_laws.ensures.merged (items_in c.self.inside.journal.payloads) state.keys state.states c.args.file s.payloads.items c.requires) refl refl (λ h. h) (λ a b h. h)
     (λ h. h) (λ h. h) (λ a b h. h) refl refl (λ a b. refl)
     (record {
       genesis = s.genesis;
@@ -105,7 +105,7 @@ returns-clause-machine g c = λ state stands.
       ((up, (same ∙ s.genesis, within), sized (file_items (canonical c.args.file).books) _ _ s.size c.in_default.ensures.wrote.0), c.len-keys.ensures),
       grown g.D.Disk.faults c.self.inside.journal c.write_file.new.journal (file_items (canonical c.args.file).books) _ state _
           c.in_default.ensures.wrote s.size c.self.invariant.3.size refl refl refl
-          (c.replay_laws.ensures.merged (items_in c.self.inside.journal.payloads) state.keys state.states c.args.file s.payloads.items c.requires) refl up
+          (c.replay_laws.ensures.merged (items_in c.self.inside.journal.payloads) state.keys state.states c.args.file s.payloads.items c.requires) refl s.payloads.generation up
           (record {
             genesis = s.genesis;
             keys = subst K (c.as_slice-2.ensures) (c.merge_prepared.ensures.stands c.self.inside.books c.in-Ok.fresh state.keys (subst R (c.as_slice.ensures ∙ sym c.as_slice-2.ensures) c.in-Ok.ensures.prepared) s.keys);

@@ -35,6 +35,7 @@ returns-clause-opened g c =
           size = c.in-Ok.ensures.size;
           torn = c.in-Ok.ensures.whole;
         }) c.payloads.ensures.payloads c.in-Ok-replay.ensures.stands;
+        size = c.in-Ok.ensures.size;
         genesis_is = refl;
         none_open = c.new-2.ensures.grants;
         none_given = c.new-2.ensures.next;

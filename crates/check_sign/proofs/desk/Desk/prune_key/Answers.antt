@@ -77,7 +77,7 @@ returns-in-Err-clause-machine g c = λ state stands.
     by_reply g.D.Disk.faults c.self.inside.journal c.write_book.new.journal (book_items (c.args.key, book)) _ state (call.Prune c.args.key) c.refusal.result c.in-Err.fault
     (λ r. Reply state (call.Prune c.args.key) r) (λ r. after state (call.Prune c.args.key) r)
     c.refusal.ensures c.in-Err.ensures.wrote s.payloads s.size c.self.invariant.3.size clean up refl refl refl (is_some_of _ at.0 at.1) writes
-    (subst I (sym keys_are) (c.replay_laws.ensures.gained (items_in c.self.inside.journal.payloads) state.keys state.states c.args.key book s.payloads.items)) (ap (λ i. state.size + frame_size i) writes)
+    (subst I (sym keys_are) (c.replay_laws.ensures.gained (items_in c.self.inside.journal.payloads) state.keys state.states c.args.key book s.payloads.items)) (ap (λ i. state.size + frame_size i) writes) refl (λ h. h) (λ a b h. h)
     (λ h. h) (λ h. h) (λ a b h. h) refl refl (λ a b. refl)
     (record {
       genesis = s.genesis;
@@ -118,7 +118,7 @@ returns-clause-machine g c = λ state stands.
       ((up, is_some_of _ at.0 at.1, subst H (sym writes) (sized (book_items (c.args.key, book)) _ _ s.size c.in_default-write_book.ensures.wrote.0)), some_is _ at.0 (λ past. book ≡ pruning_of past) at.1 book_is),
       grown g.D.Disk.faults c.self.inside.journal c.write_book.new.journal (book_items (c.args.key, book)) _ state _
           c.in_default-write_book.ensures.wrote s.size c.self.invariant.3.size refl refl refl
-          (subst I (sym keys_are) (c.replay_laws.ensures.gained (items_in c.self.inside.journal.payloads) state.keys state.states c.args.key book s.payloads.items)) (ap (λ i. state.size + frame_size i) writes) up
+          (subst I (sym keys_are) (c.replay_laws.ensures.gained (items_in c.self.inside.journal.payloads) state.keys state.states c.args.key book s.payloads.items)) (ap (λ i. state.size + frame_size i) writes) s.payloads.generation up
           (record {
             genesis = s.genesis;
             keys = subst K (sym keys_are) (subst L c.from_ref-2.ensures.value (c.merge_prepared.ensures.stands c.self.inside.books c.in-Ok-prepare.fresh state.keys (subst F (c.from_ref.ensures.value ∙ sym c.from_ref-2.ensures.value) c.in-Ok-prepare.ensures.prepared) s.keys));

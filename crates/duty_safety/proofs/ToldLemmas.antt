@@ -1,0 +1,251 @@
+-- A turn that drops nothing tells of all that was due.
+use Rattle.std.proofs.Common.{◌≡◌, ℕ, suc, Bool, true, false, List, [], ◌∷◌, ◌++◌, length, map, Option, Some, None, Ok, Err, refl, sym, ◌∙◌, ap, subst, arith, append_assoc}
+use Rattle.std.specs.Prelude.{nat_lt, if◌then◌else◌}
+use Rattle.std.proofs.lemmas.List.{length-append}
+use Rattle.edge_kit.specs.declared.bytes.PubKey.{PubKey}
+use Rattle.desk_machine.specs.declared.call.DeskCall.TheVariants as call
+use Rattle.desk_machine.specs.declared.call.DeskReply.{DeskReply}
+use Rattle.desk_machine.specs.declared.call.DeskReply.TheVariants as reply
+use Rattle.node_calls.specs.declared.answer.AttesterRow.{AttesterRow}
+use Rattle.node_calls.specs.declared.answer.ProposerRow.{ProposerRow}
+use Rattle.duty_schedule.specs.Answers.{TakenAnswer}
+use Rattle.duty_schedule.specs.Due.{IsDue}
+use Rattle.duty_schedule.specs.declared.rows.Duty.{Duty}
+use Rattle.duty_schedule.specs.declared.rows.Duty.TheVariants as duty
+use Rattle.call_plans.specs.Plans.{Ask as Step, Done, Stop, Follows}
+use Rattle.call_plans.proofs.PlanLemmas.{follows_split}
+use Rattle.duty_plans.proofs.SlotLemmas.{each_done}
+use Rattle.duty_plans.specs.Plans.{slot_plan}
+use Rattle.duty_plans.specs.Slots.{EachDone}
+use Rattle.duty_plans.specs.Steps.{Calls, DutyStep}
+use Rattle.duty_plans.specs.Steps as duties
+use Rattle.duty_plans.specs.declared.result.DutyResult.{DutyResult}
+use Rattle.duty_plans.specs.declared.setup.DutySetup.{DutySetup}
+use Rattle.duty_plans.specs.declared.work.SlotWork.{SlotWork}
+use Rattle.duty_turns.specs.declared.held.DutyEnd.TheVariants as end
+use Rattle.duty_turns.specs.Lines.{duty_lines}
+use Rattle.duty_turns.specs.Standing.{Standing}
+use Rattle.duty_turns.specs.Times.{is_first_slot, next_slot, slot_start, votes_start}
+use Rattle.duty_turns.specs.TurnSteps.{Fits, TurnCall, TurnPlan, TurnReply, TurnStep, LooksUp, Own, Refreshes, Waits, Works, Writes, Due, Refreshed, Woke, Worked, Wrote}
+use Rattle.duty_turns.specs.Turns.{Next, NextPlan, active_of, asked_plan, at_slot, blocks_in, calls, close_plan, compacted, own_reply, refreshed, refreshes, shortens, size_limit, sized, votes_in, waits, with_active, woken, work_of, works}
+use Rattle.duty_safety.specs.OnTime.{AllWaits, IsWait, Wait, cast_plan, done_plan, listed_on_time, on_time_turn, ready_on_time}
+use Rattle.duty_safety.specs.Told.{AllTold, ToldIfNext}
+use Rattle.duty_safety.proofs.AskedLemmas.{At, asked_stays}
+
+-- ---- what follows a call
+
+stop_never : {X : Type 0} (steps : List TurnStep) (x : X) → Follows Fits Stop steps (Some x) → ⊥
+stop_never [] x h = h
+stop_never (s ∷ steps) x h = h
+
+works_so : {X : Type 0} (work : SlotWork) (ds : List Duty) (f : List DutyResult → TurnPlan X) (steps : List TurnStep) (x : X) → Follows Fits (works work ds f) steps (Some x)
+    → (made : List DutyStep) × (results : List DutyResult) × (rest : List TurnStep) × (steps ≡ (Works work ds, Worked made (Some results)) ∷ rest)
+    × Follows duties.Fits (slot_plan work ds) made (Some results) × Follows Fits (f results) rest (Some x)
+works_so work ds f [] x h = absurd h
+works_so work ds f ((c, Worked made (Some results)) ∷ rest) x h = (made, results, rest, ap (λ (d : TurnCall). (d, Worked made (Some results)) ∷ rest) h.0, h.1, h.2)
+works_so work ds f ((c, r) ∷ rest) x h = absurd (stop_never rest x h.2)
+
+waits_so : {X : Type 0} (moment : ℕ) (f : ℕ → TurnPlan X) (steps : List TurnStep) (x : X) → Follows Fits (waits moment f) steps (Some x)
+    → (reached : ℕ) × (rest : List TurnStep) × (steps ≡ (Waits moment, Woke reached) ∷ rest) × Follows Fits (f reached) rest (Some x)
+waits_so moment f [] x h = absurd h
+waits_so moment f ((c, Woke reached) ∷ rest) x h = (reached, rest, ap (λ (d : TurnCall). (d, Woke reached) ∷ rest) h.0, h.2)
+waits_so moment f ((c, r) ∷ rest) x h = absurd (stop_never rest x h.2)
+
+not_next : (steps : List TurnStep) (t : Standing) → Follows Fits (Done (Err end.Write)) steps (Some (Ok t)) → ⊥
+not_next [] t h = cc
+not_next (s ∷ steps) t h = h
+
+close_so : (slot : ℕ) (ds : List Duty) (results : List DutyResult) (s : Standing) (steps : List TurnStep) (t : Standing) → Follows Fits (close_plan slot ds results s) steps (Some (Ok t))
+    → (rest : List TurnStep) × (steps ≡ (Writes (duty_lines slot ds results), Wrote true (duty_lines slot ds results)) ∷ rest)
+close_so slot ds results s [] t h = absurd h
+close_so slot ds results s ((c, Wrote true piece) ∷ rest) t h =
+    let text = duty_lines slot ds results in
+    (rest, ap (λ (d : TurnCall). (d, Wrote true piece) ∷ rest) h.0 ∙ ap (λ (p : List ℕ). (Writes text, Wrote true p) ∷ rest) h.1)
+close_so slot ds results s ((c, r) ∷ rest) t h = absurd (not_next rest t h.2)
+
+-- ---- blocks and votes are all that is due
+
+blocks_of : (bs : List ProposerRow) (vs : List AttesterRow) → blocks_in (map duty.Block bs ++ map duty.Vote vs) ≡ map duty.Block bs
+blocks_of [] [] = refl
+blocks_of [] (v ∷ vs) = blocks_of [] vs
+blocks_of (b ∷ bs) vs = ap (λ l. duty.Block b ∷ l) (blocks_of bs vs)
+
+votes_of : (bs : List ProposerRow) (vs : List AttesterRow) → votes_in (map duty.Block bs ++ map duty.Vote vs) ≡ map duty.Vote vs
+votes_of [] [] = refl
+votes_of [] (v ∷ vs) = ap (λ l. duty.Vote v ∷ l) (votes_of [] vs)
+votes_of (b ∷ bs) vs = votes_of bs vs
+
+all_due : (answers : List TakenAnswer) (slot : ℕ) (active : List PubKey) (ds : List Duty) → IsDue answers slot active ds → blocks_in ds ++ votes_in ds ≡ ds
+all_due answers slot active ds due =
+    let P : List Duty → Type 0 = λ l. blocks_in l ++ votes_in l ≡ l in
+    let bs = map duty.Block due.blocks in
+    subst P (sym due.are_both) (ap (λ l. l ++ votes_in (bs ++ map duty.Vote due.votes)) (blocks_of due.blocks due.votes) ∙ ap (λ l. bs ++ l) (votes_of due.blocks due.votes))
+
+-- one result each
+one_each : (work : SlotWork) (ds : List Duty) (steps : List DutyStep) (rs : List DutyResult) → EachDone work ds steps rs → length rs ≡ length ds
+one_each work [] steps [] e = refl
+one_each work [] steps (r ∷ rs) e = absurd e
+one_each work (d ∷ ds) steps [] e = absurd e
+one_each work (d ∷ ds) steps (r ∷ rs) e = ap suc (one_each work ds e.1 rs e.4)
+
+as_many : (work : SlotWork) (ds : List Duty) (made voted : List DutyStep) (proposed cast : List DutyResult) → EachDone work (blocks_in ds) made proposed → EachDone work (votes_in ds) voted cast → blocks_in ds ++ votes_in ds ≡ ds
+    → length (proposed ++ cast) ≡ length ds
+as_many work ds made voted proposed cast b v all =
+    let left = one_each work (blocks_in ds) made proposed b in
+    let right = one_each work (votes_in ds) voted cast v in
+    let both = ap (λ (l : List Duty). length l) all in
+    omega (arith, length-append proposed cast, length-append (blocks_in ds) (votes_in ds))
+
+-- ---- from the look-up on
+
+-- steps behind one another
+in_order : (o a b c : TurnStep) (p q r s t : List TurnStep) → p ≡ a ∷ q → q ≡ b ∷ r → r ≡ c ∷ s → s ≡ t → o ∷ p ≡ o ∷ a ∷ b ∷ c ∷ t
+in_order o a b c p q r s t e f g h = cc
+
+told_due : (setup : DutySetup) (s : Standing) (active : List PubKey) (ds : List Duty) (steps : List TurnStep) (t : Standing) → IsDue s.answers s.slot active ds → Follows Fits (done_plan setup s ds) steps (Some (Ok t))
+    → AllTold setup s.slot ((LooksUp s.answers s.slot active, Due ds) ∷ steps)
+told_due setup s active ds steps t due f =
+    let work = work_of setup s in
+    let moment = votes_start setup.genesis_time s.slot in
+    let next = at_slot (next_slot s.slot) s in
+    let blocks = works_so work (blocks_in ds) (λ proposed. waits moment (λ reached. cast_plan setup s ds proposed)) steps (Ok t) f in
+    let woke = waits_so moment (λ reached. cast_plan setup s ds blocks.1) blocks.2 (Ok t) blocks.5 in
+    let votes = works_so work (votes_in ds) (λ cast. close_plan s.slot (blocks_in ds ++ votes_in ds) (blocks.1 ++ cast) next) woke.1 (Ok t) woke.3 in
+    let close = close_so s.slot (blocks_in ds ++ votes_in ds) (blocks.1 ++ votes.1) next votes.2 t votes.5 in
+    let text = duty_lines s.slot (blocks_in ds ++ votes_in ds) (blocks.1 ++ votes.1) in
+    let all = all_due s.answers s.slot active ds due in
+    let made = each_done work (blocks_in ds) blocks.0 blocks.1 blocks.4 in
+    let voted = each_done work (votes_in ds) votes.0 votes.1 votes.4 in
+    let looked : TurnStep = (LooksUp s.answers s.slot active, Due ds) in
+    let first : TurnStep = (Works work (blocks_in ds), Worked blocks.0 (Some blocks.1)) in
+    let second : TurnStep = (Waits moment, Woke woke.0) in
+    let third : TurnStep = (Works work (votes_in ds), Worked votes.0 (Some votes.1)) in
+    record {
+      front = [];
+      answers = s.answers;
+      active = active;
+      due = ds;
+      work = work;
+      made = blocks.0;
+      proposed = blocks.1;
+      reached = woke.0;
+      voted = votes.0;
+      cast = votes.1;
+      text = text;
+      behind = close.0;
+      are = in_order looked first second third steps blocks.2 woke.1 votes.2 ((Writes text, Wrote true text) ∷ close.0) blocks.3 woke.2 votes.3 close.1;
+      found = due;
+      work_slot = refl;
+      blocks = made;
+      votes = voted;
+      lines = ap (λ (l : List Duty). duty_lines s.slot l (blocks.1 ++ votes.1)) all;
+      each = as_many work ds blocks.0 votes.0 blocks.1 votes.1 made voted all;
+    }
+
+-- ---- up to the look-up
+
+-- what a plan's steps tell, where it gives a value
+abbrev Tells : DutySetup → ℕ → NextPlan → Type 0
+Tells setup slot p = (steps : List TurnStep) (x : Next) → Follows Fits p steps (Some x) → ToldIfNext setup slot steps x
+
+more_told : (setup : DutySetup) (slot : ℕ) (xs ys : List TurnStep) (x : Next) → ToldIfNext setup slot ys x → ToldIfNext setup slot (xs ++ ys) x
+more_told setup slot xs ys (Err ended) h = tt
+more_told setup slot xs ys (Ok t) h = record {
+  front = xs ++ h.front;
+  answers = h.answers;
+  active = h.active;
+  due = h.due;
+  work = h.work;
+  made = h.made;
+  proposed = h.proposed;
+  reached = h.reached;
+  voted = h.voted;
+  cast = h.cast;
+  text = h.text;
+  behind = h.behind;
+  are = ap (λ (l : List TurnStep). xs ++ l) h.are ∙ sym (append_assoc xs h.front _);
+  found = h.found;
+  work_slot = h.work_slot;
+  blocks = h.blocks;
+  votes = h.votes;
+  lines = h.lines;
+  each = h.each;
+}
+
+module _ (setup : DutySetup) (slot : ℕ) where
+  stop_tells : Tells setup slot Stop
+  stop_tells steps x h = absurd (stop_never steps x h)
+
+  ask_tells : (c : TurnCall) (k : TurnReply → NextPlan) → ((r : TurnReply) → Tells setup slot (k r)) → Tells setup slot (Step c k)
+  ask_tells c k on [] x h = absurd h
+  ask_tells c k on (s ∷ steps) x h = more_told setup slot (s ∷ []) steps x (on s.1 steps x h.2)
+
+  if_tells : (b : Bool) (p q : NextPlan) → Tells setup slot p → Tells setup slot q → Tells setup slot (if b then p else q)
+  if_tells true p q h k = h
+  if_tells false p q h k = k
+
+  done_tells : (steps : List TurnStep) (x : Next) → Follows Fits (Done (Err end.Write)) steps (Some x) → ToldIfNext setup slot steps x
+  done_tells steps (Err ended) h = tt
+  done_tells steps (Ok t) h = absurd (not_next steps t h)
+
+  compacted_tells : (r : DeskReply) (p : NextPlan) → Tells setup slot p → Tells setup slot (compacted r p)
+  compacted_tells reply.OutOfMemory p h = stop_tells
+  compacted_tells r p h = h
+
+  sized_tells : (r : DeskReply) (p : NextPlan) → Tells setup slot p → Tells setup slot (sized r p)
+  sized_tells (reply.Size size) p h = if_tells (nat_lt size_limit size) (calls call.Compact (λ r. compacted r p)) p
+      (ask_tells (Own (Calls call.Compact)) (λ r. compacted (own_reply r) p) (λ r. compacted_tells (own_reply r) p h)) h
+  sized_tells r p h = stop_tells
+
+  shortens_tells : (s : Standing) (p : NextPlan) → Tells setup slot p → Tells setup slot (shortens s p)
+  shortens_tells s p h = if_tells (is_first_slot s.slot) (calls call.Size (λ r. sized r p)) p
+      (ask_tells (Own (Calls call.Size)) (λ r. sized (own_reply r) p) (λ r. sized_tells (own_reply r) p h)) h
+
+  refreshed_tells : (r : TurnReply) (p : NextPlan) → Tells setup slot p → Tells setup slot (refreshed r p)
+  refreshed_tells (Refreshed true replies) p h = h
+  refreshed_tells r p h = stop_tells
+
+  woken_tells : (r : TurnReply) (p : NextPlan) → Tells setup slot p → Tells setup slot (woken r (λ reached. p))
+  woken_tells (Woke reached) p h = h
+  woken_tells r p h = stop_tells
+
+  ready_tells : (active : List PubKey) (o : Option Standing) → At slot o → Tells setup slot (ready_on_time setup active o)
+  ready_tells active None e steps x h = done_tells steps x h
+  ready_tells active (Some s) e steps (Err ended) h = tt
+  ready_tells active (Some s) e [] (Ok t) h = absurd h
+  ready_tells active (Some s) e ((c, Due ds) ∷ steps) (Ok t) h =
+      let told = told_due setup (with_active active s) active ds steps t h.1 h.2 in
+      let P : TurnCall → Type 0 = λ d. AllTold setup s.slot ((d, Due ds) ∷ steps) in
+      let Q : ℕ → Type 0 = λ n. AllTold setup n ((c, Due ds) ∷ steps) in
+      subst Q e (subst P (sym h.0) told)
+  ready_tells active (Some s) e ((c, r) ∷ steps) (Ok t) h = absurd (stop_never steps (Ok t) h.2)
+
+abbrev Always : Wait
+Always moment reached = Unit {0}
+
+always : (steps : List TurnStep) → AllWaits Always steps
+always [] = tt
+always ((c, r) ∷ steps) = (one c r, always steps) where
+  one : (d : TurnCall) (q : TurnReply) → IsWait Always (d, q)
+  one (Waits moment) (Woke reached) = tt
+  one d q = tt
+
+listed_tells : (setup : DutySetup) (s : Standing) (r : DeskReply) → Tells setup s.slot (listed_on_time setup s r)
+listed_tells setup s (reply.Keys listed) steps x h =
+    let active = active_of listed in
+    let split = follows_split Fits (asked_plan setup listed active s) (ready_on_time setup active) steps x h in
+    let at = (asked_stays Always s.slot setup listed active s refl split.0 (Some split.2) split.4 (always split.0)).1 in
+    let P : List TurnStep → Type 0 = λ l. ToldIfNext setup s.slot l x in
+    subst P (sym split.3) (more_told setup s.slot split.0 split.1 x (ready_tells setup s.slot active split.2 at split.1 x split.5))
+listed_tells setup s r steps x h = absurd (stop_never steps x h)
+
+turn_tells : (setup : DutySetup) (s : Standing) → Tells setup s.slot (on_time_turn setup s)
+turn_tells setup s =
+    let listed = calls call.Keys (listed_on_time setup s) in
+    let part = refreshes (shortens s listed) in
+    ask_tells setup s.slot (Waits (slot_start setup.genesis_time s.slot)) (λ r. woken r (λ reached. part)) (λ r. woken_tells setup s.slot r part
+    (ask_tells setup s.slot Refreshes (λ q. refreshed q (shortens s listed)) (λ q. refreshed_tells setup s.slot q (shortens s listed) (shortens_tells setup s.slot s listed
+    (ask_tells setup s.slot (Own (Calls call.Keys)) (λ w. listed_on_time setup s (own_reply w)) (λ w. listed_tells setup s (own_reply w)))))))
+
+pub all_told : (setup : DutySetup) (s : Standing) (steps : List TurnStep) (t : Standing) → Follows Fits (on_time_turn setup s) steps (Some (Ok t)) → AllTold setup s.slot steps
+all_told setup s steps t f = turn_tells setup s steps (Ok t) f

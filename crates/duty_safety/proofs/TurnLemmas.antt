@@ -1,0 +1,190 @@
+-- Turns whose waits are over in their slots drop nothing.
+use Rattle.std.proofs.Common.{ℕ, zero, suc, ◌≤◌, ◌<◌, ◌^◌, true, List, [], ◌∷◌, ◌++◌, Option, Some, None, Result, Ok, Err, refl, sym, subst, arith}
+use Rattle.std.specs.Prelude.{max, nat_lt}
+use Rattle.std.proofs.lemmas.Bool.{le-ltb}
+use Rattle.edge_kit.specs.declared.bytes.PubKey.{PubKey}
+use Rattle.edge_clock.specs.Clocks.{IsOnTime}
+use Rattle.desk_machine.specs.declared.call.DeskCall.{DeskCall}
+use Rattle.desk_machine.specs.declared.call.DeskCall.TheVariants as call
+use Rattle.desk_machine.specs.declared.call.DeskReply.{DeskReply}
+use Rattle.desk_machine.specs.declared.call.DeskReply.TheVariants as reply
+use Rattle.duty_schedule.specs.declared.rows.Duty.{Duty}
+use Rattle.call_plans.specs.Paths.{Path}
+use Rattle.call_plans.specs.Plans.{Follows}
+use Rattle.duty_plans.specs.Steps.{Calls}
+use Rattle.duty_plans.specs.declared.result.DutyResult.{DutyResult}
+use Rattle.duty_plans.specs.declared.setup.DutySetup.{DutySetup}
+use Rattle.duty_turns.specs.declared.held.DutyEnd.{DutyEnd}
+use Rattle.duty_turns.specs.declared.held.DutyEnd.TheVariants as end
+use Rattle.duty_turns.specs.Lines.{duty_lines}
+use Rattle.duty_turns.specs.Standing.{Standing}
+use Rattle.duty_turns.specs.Times.{is_first_slot, next_slot, slot_of, slot_start, votes_start}
+use Rattle.duty_turns.specs.TurnSteps.{Does, Fits, House, TurnCall, TurnPlan, TurnReply, TurnStep, LooksUp, Own, Refreshes, Waits, Works, Writes, Woke, Wrote}
+use Rattle.duty_turns.specs.Turns.{Next, NextPlan, active_of, asked_plan, at_slot, blocks_in, calls, close_plan, closed_plan, compacted, due_plan, failed_plan, found, listed_plan, next_turn, own_reply, ready_plan, refreshed, refreshes, shortens, size_limit, sized, turn_plan, turns_plan, votes_in, votes_plan, waits, with_active, woken, woken_plan, work_of, worked}
+use Rattle.duty_safety.specs.OnTime.{AllWaits, AreOnTime, IsWait, Wait, WakesInSlot, cast_plan, done_plan, listed_on_time, on_time_turn, on_time_turns, ready_on_time}
+use Rattle.duty_safety.proofs.KeepLemmas.{Keeps, found_keeps, keeps_ask, keeps_bind, keeps_done, keeps_else, keeps_if, keeps_stop, refreshed_keeps, woken_keeps, worked_keeps}
+use Rattle.duty_safety.proofs.AskedLemmas.{At, asked_stays}
+
+-- ---- slots
+
+start_slot : (genesis slot : ℕ) → slot_of genesis (slot_start genesis slot) ≤ slot
+start_slot genesis slot = omega arith
+
+votes_slot : (genesis slot : ℕ) → slot_of genesis (votes_start genesis slot) ≤ slot
+votes_slot genesis slot = omega arith
+
+slot_behind : (first slot : ℕ) → first < 2 ^ 64 → first ≤ slot → first ≤ next_slot slot
+slot_behind first slot cap below = omega arith
+
+-- from this slot on, a wait for a moment of a slot is over in that slot at the latest
+abbrev Bounds : DutySetup → Wait → ℕ → Type 0
+Bounds setup W first = (slot moment reached : ℕ) → first ≤ slot → slot_of setup.genesis_time moment ≤ slot → W moment reached → slot_of setup.genesis_time reached ≤ slot
+
+-- the next turn is of this slot or a later one
+abbrev From : ℕ → Next → Type 0
+From first (Ok s) = first ≤ s.slot
+From first (Err ended) = Unit {0}
+
+-- ---- the end of a turn
+
+failed_keeps : (W : Wait) (first : ℕ) (s : Standing) (r : DeskReply) → first ≤ s.slot → Keeps W (From first) (failed_plan s r) (failed_plan s r)
+failed_keeps W first s (reply.HasFailed true) h = keeps_done W (From first) (Err end.Disk) tt
+failed_keeps W first s r h = keeps_done W (From first) (Ok s) h
+
+closed_keeps : (W : Wait) (first : ℕ) (s : Standing) (r : TurnReply) → first ≤ s.slot → Keeps W (From first) (closed_plan s r) (closed_plan s r)
+closed_keeps W first s (Wrote true piece) h =
+    keeps_ask W (From first) (Own (Calls call.HasFailed)) (λ r. failed_plan s (own_reply r)) (λ r. failed_plan s (own_reply r)) (λ r w. failed_keeps W first s (own_reply r) h)
+closed_keeps W first s r h = keeps_done W (From first) (Err end.Write) tt
+
+close_keeps : (W : Wait) (first slot : ℕ) (ds : List Duty) (results : List DutyResult) (s : Standing) → first ≤ s.slot → Keeps W (From first) (close_plan slot ds results s) (close_plan slot ds results s)
+close_keeps W first slot ds results s h = keeps_ask W (From first) (Writes (duty_lines slot ds results)) (closed_plan s) (closed_plan s) (λ r w. closed_keeps W first s r h)
+
+-- ---- what stands between
+
+compacted_keeps : (W : Wait) (first : ℕ) (r : DeskReply) (p q : NextPlan) → Keeps W (From first) p q → Keeps W (From first) (compacted r p) (compacted r q)
+compacted_keeps W first reply.OutOfMemory p q h = keeps_stop W (From first)
+compacted_keeps W first r p q h = h
+
+sized_keeps : (W : Wait) (first : ℕ) (r : DeskReply) (p q : NextPlan) → Keeps W (From first) p q → Keeps W (From first) (sized r p) (sized r q)
+sized_keeps W first (reply.Size size) p q h =
+    keeps_if W (From first) (nat_lt size_limit size) (calls call.Compact (λ r. compacted r p)) p (calls call.Compact (λ r. compacted r q)) q
+    (keeps_ask W (From first) (Own (Calls call.Compact)) (λ r. compacted (own_reply r) p) (λ r. compacted (own_reply r) q) (λ r w. compacted_keeps W first (own_reply r) p q h)) h
+sized_keeps W first r p q h = keeps_stop W (From first)
+
+shortens_keeps : (W : Wait) (first : ℕ) (s : Standing) (p q : NextPlan) → Keeps W (From first) p q → Keeps W (From first) (shortens s p) (shortens s q)
+shortens_keeps W first s p q h =
+    keeps_if W (From first) (is_first_slot s.slot) (calls call.Size (λ r. sized r p)) p (calls call.Size (λ r. sized r q)) q
+    (keeps_ask W (From first) (Own (Calls call.Size)) (λ r. sized (own_reply r) p) (λ r. sized (own_reply r) q) (λ r w. sized_keeps W first (own_reply r) p q h)) h
+
+-- ---- a turn
+
+module _ (setup : DutySetup) (W : Wait) (first : ℕ) (cap : first < 2 ^ 64) (bounds : Bounds setup W first) where
+  cast_keeps : (s : Standing) (ds : List Duty) (proposed : List DutyResult) → first ≤ s.slot → Keeps W (From first) (cast_plan setup s ds proposed) (cast_plan setup s ds proposed)
+  cast_keeps s ds proposed h =
+      let behind : List DutyResult → NextPlan = λ cast. close_plan s.slot (blocks_in ds ++ votes_in ds) (proposed ++ cast) (at_slot (next_slot s.slot) s) in
+      keeps_ask W (From first) (Works (work_of setup s) (votes_in ds)) (λ r. worked r behind) (λ r. worked r behind)
+      (λ r w. worked_keeps W (From first) r behind behind (λ cast. close_keeps W first s.slot (blocks_in ds ++ votes_in ds) (proposed ++ cast) (at_slot (next_slot s.slot) s) (slot_behind first s.slot cap h)))
+
+  votes_keep : (s : Standing) (ds : List Duty) (proposed : List DutyResult) (reached : ℕ) → first ≤ s.slot → W (votes_start setup.genesis_time s.slot) reached
+      → Keeps W (From first) (votes_plan setup s ds proposed reached) (cast_plan setup s ds proposed)
+  votes_keep s ds proposed reached h w =
+      let now = slot_of setup.genesis_time reached in
+      keeps_else W (From first) (nat_lt s.slot now) (close_plan s.slot (blocks_in ds) proposed (at_slot now s)) (cast_plan setup s ds proposed) (cast_plan setup s ds proposed)
+      (le-ltb s.slot now (bounds s.slot (votes_start setup.genesis_time s.slot) reached h (votes_slot setup.genesis_time s.slot) w)) (cast_keeps s ds proposed h)
+
+  due_keeps : (s : Standing) (ds : List Duty) → first ≤ s.slot → Keeps W (From first) (due_plan setup s ds) (done_plan setup s ds)
+  due_keeps s ds h =
+      let moment = votes_start setup.genesis_time s.slot in
+      let old : List DutyResult → NextPlan = λ proposed. waits moment (votes_plan setup s ds proposed) in
+      let new : List DutyResult → NextPlan = λ proposed. waits moment (λ reached. cast_plan setup s ds proposed) in
+      keeps_ask W (From first) (Works (work_of setup s) (blocks_in ds)) (λ r. worked r old) (λ r. worked r new) (λ r w. worked_keeps W (From first) r old new (λ proposed.
+      keeps_ask W (From first) (Waits moment) (λ x. woken x (votes_plan setup s ds proposed)) (λ x. woken x (λ reached. cast_plan setup s ds proposed)) (λ x is.
+      woken_keeps W (From first) moment x (votes_plan setup s ds proposed) (λ reached. cast_plan setup s ds proposed) is (λ reached on. votes_keep s ds proposed reached h on))))
+
+  ready_keeps : (slot : ℕ) (active : List PubKey) → first ≤ slot → (o : Option Standing) → At slot o → Keeps W (From first) (ready_plan setup active o) (ready_on_time setup active o)
+  ready_keeps slot active h None e = keeps_done W (From first) (Err end.Write) tt
+  ready_keeps slot active h (Some s) e =
+      let old : List Duty → NextPlan = due_plan setup (with_active active s) in
+      let new : List Duty → NextPlan = done_plan setup (with_active active s) in
+      let below : first ≤ s.slot = subst (λ (n : ℕ). first ≤ n) (sym e) h in
+      keeps_ask W (From first) (LooksUp s.answers s.slot active) (λ r. found r old) (λ r. found r new)
+      (λ r w. found_keeps W (From first) r old new (λ ds. due_keeps (with_active active s) ds below))
+
+  listed_keeps : (s : Standing) (r : DeskReply) → first ≤ s.slot → Keeps W (From first) (listed_plan setup s r) (listed_on_time setup s r)
+  listed_keeps s (reply.Keys listed) h =
+      let active = active_of listed in
+      let asked = asked_plan setup listed active s in
+      keeps_bind W (At s.slot) (From first) asked asked (ready_plan setup active) (ready_on_time setup active) (asked_stays W s.slot setup listed active s refl) (ready_keeps s.slot active h)
+  listed_keeps s r h = keeps_stop W (From first)
+
+  woken_late : (s : Standing) (reached : ℕ) → first ≤ s.slot → W (slot_start setup.genesis_time s.slot) reached
+      → Keeps W (From first) (woken_plan setup s reached) (refreshes (shortens s (calls call.Keys (listed_on_time setup s))))
+  woken_late s reached h w =
+      let now = slot_of setup.genesis_time reached in
+      let old = shortens s (calls call.Keys (listed_plan setup s)) in
+      let new = shortens s (calls call.Keys (listed_on_time setup s)) in
+      keeps_else W (From first) (nat_lt s.slot now) (close_plan s.slot [] [] (at_slot now s)) (refreshes old) (refreshes new)
+      (le-ltb s.slot now (bounds s.slot (slot_start setup.genesis_time s.slot) reached h (start_slot setup.genesis_time s.slot) w))
+      (keeps_ask W (From first) Refreshes (λ r. refreshed r old) (λ r. refreshed r new) (λ r is. refreshed_keeps W (From first) r old new
+      (shortens_keeps W first s (calls call.Keys (listed_plan setup s)) (calls call.Keys (listed_on_time setup s))
+      (keeps_ask W (From first) (Own (Calls call.Keys)) (λ r. listed_plan setup s (own_reply r)) (λ r. listed_on_time setup s (own_reply r)) (λ r is. listed_keeps s (own_reply r) h)))))
+
+  turn_keeps : (s : Standing) → first ≤ s.slot → Keeps W (From first) (turn_plan setup s) (on_time_turn setup s)
+  turn_keeps s h =
+      let moment = slot_start setup.genesis_time s.slot in
+      let new : ℕ → NextPlan = λ reached. refreshes (shortens s (calls call.Keys (listed_on_time setup s))) in
+      keeps_ask W (From first) (Waits moment) (λ r. woken r (woken_plan setup s)) (λ r. woken r new)
+      (λ r is. woken_keeps W (From first) moment r (woken_plan setup s) new is (λ reached w. woken_late s reached h w))
+
+  -- ---- turn behind turn
+
+  abbrev Any : Result (Unit {0}) DutyEnd → Type 0
+  Any r = Unit {0}
+
+  next_keeps : (p q : Standing → TurnPlan (Result (Unit {0}) DutyEnd)) → ((t : Standing) → first ≤ t.slot → Keeps W Any (p t) (q t)) → (x : Next) → From first x → Keeps W Any (next_turn p x) (next_turn q x)
+  next_keeps p q on (Ok t) from = on t from
+  next_keeps p q on (Err ended) from = keeps_done W Any (Err ended) tt
+
+  turns_keep : (n : ℕ) (s : Standing) → first ≤ s.slot → Keeps W Any (turns_plan setup n s) (on_time_turns setup n s)
+  turns_keep zero s h = keeps_done W Any (Ok tt) tt
+  turns_keep (suc n) s h =
+      keeps_bind W (From first) Any (turn_plan setup s) (on_time_turn setup s) (next_turn (turns_plan setup n)) (next_turn (on_time_turns setup n)) (turn_keeps s h)
+      (next_keeps (turns_plan setup n) (on_time_turns setup n) (λ t from. turns_keep n t from))
+
+-- ---- each wait is over in the slot for which it was
+
+in_slot : (setup : DutySetup) → Bounds setup (WakesInSlot setup) 0
+in_slot setup slot moment reached first below on = omega arith
+
+pub turn_on_time : (setup : DutySetup) (s : Standing) (steps : List TurnStep) (v : Option Next) → Follows Fits (turn_plan setup s) steps v → AreOnTime setup steps → Follows Fits (on_time_turn setup s) steps v
+turn_on_time setup s steps v f on = (turn_keeps setup (WakesInSlot setup) 0 (omega arith) (in_slot setup) s (omega arith) steps v f on).0
+
+pub turns_on_time : (setup : DutySetup) (n : ℕ) (s : Standing) (steps : List TurnStep) (v : Option (Result (Unit {0}) DutyEnd))
+    → Follows Fits (turns_plan setup n s) steps v → AreOnTime setup steps → Follows Fits (on_time_turns setup n s) steps v
+turns_on_time setup n s steps v f on = (turns_keep setup (WakesInSlot setup) 0 (omega arith) (in_slot setup) n s (omega arith) steps v f on).0
+
+-- ---- the clock is on time
+
+step_waits : {K : Type 0} (leads : K → List (DeskCall × DeskReply) → K → Type 0) (start : Option ℕ) (a b : House K) (c : TurnCall) (r : TurnReply) → Does leads start a (c, r) b → IsWait (IsOnTime start) (c, r)
+step_waits leads start a b (Waits moment) (Woke reached) d = d.0.on_time
+step_waits leads start a b c r d = tt
+
+path_waits : {K : Type 0} (leads : K → List (DeskCall × DeskReply) → K → Type 0) (start : Option ℕ) (a b : House K) (steps : List TurnStep) → Path (Does leads start) a steps b → AllWaits (IsOnTime start) steps
+path_waits leads start a b [] p = tt
+path_waits leads start a b ((c, r) ∷ steps) p = (step_waits leads start a p.0 c r p.1, path_waits leads start p.0 b steps p.2)
+
+later_slot : (genesis start moment slot : ℕ) → slot_of genesis start ≤ slot → slot_of genesis moment ≤ slot → slot_of genesis (max start moment) ≤ slot
+later_slot genesis start moment slot h k = omega arith
+
+started : (setup : DutySetup) (start : ℕ) → Bounds setup (IsOnTime (Some start)) (slot_of setup.genesis_time start)
+started setup start slot moment reached first below on =
+    let P : ℕ → Type 0 = λ n. slot_of setup.genesis_time n ≤ slot in
+    subst P (sym on) (later_slot setup.genesis_time start moment slot first below)
+
+small_slot : (genesis start : ℕ) → start < 2 ^ 64 → slot_of genesis start < 2 ^ 64
+small_slot genesis start h = omega arith
+
+pub clock_on_time : {K : Type 0} (leads : K → List (DeskCall × DeskReply) → K → Type 0) (start n : ℕ) (setup : DutySetup) (s : Standing) (a b : House K) (steps : List TurnStep) (v : Option (Result (Unit {0}) DutyEnd))
+    → start < 2 ^ 64 → slot_of setup.genesis_time start ≤ s.slot → Path (Does leads (Some start)) a steps b → Follows Fits (turns_plan setup n s) steps v → Follows Fits (on_time_turns setup n s) steps v
+clock_on_time leads start n setup s a b steps v small below path f =
+    (turns_keep setup (IsOnTime (Some start)) (slot_of setup.genesis_time start) (small_slot setup.genesis_time start small) (started setup start) n s below steps v f (path_waits leads (Some start) a b steps path)).0

@@ -1,0 +1,63 @@
+-- Turns over a clock on time: none drops a duty.
+use Rattle.std.specs.Prelude.{◌≤◌, ℕ, zero, suc, List, [], ◌∷◌, ◌++◌, Option, Some, None, Result, Ok, Err}
+use Rattle.edge_kit.specs.declared.bytes.PubKey.{PubKey}
+use Rattle.desk_machine.specs.declared.call.DeskCall.TheVariants as call
+use Rattle.desk_machine.specs.declared.call.DeskReply.{DeskReply}
+use Rattle.desk_machine.specs.declared.call.DeskReply.TheVariants as reply
+use Rattle.duty_schedule.specs.declared.rows.Duty.{Duty}
+use Rattle.call_plans.specs.Plans.{Done, Stop, bind}
+use Rattle.duty_plans.specs.declared.result.DutyResult.{DutyResult}
+use Rattle.duty_plans.specs.declared.setup.DutySetup.{DutySetup}
+use Rattle.duty_turns.specs.declared.held.DutyEnd.{DutyEnd}
+use Rattle.duty_turns.specs.declared.held.DutyEnd.TheVariants as end
+use Rattle.duty_turns.specs.Standing.{Standing}
+use Rattle.duty_turns.specs.Times.{next_slot, slot_of, slot_start, votes_start}
+use Rattle.duty_turns.specs.TurnSteps.{TurnPlan, TurnStep, Waits, Woke}
+use Rattle.duty_turns.specs.Turns.{NextPlan, active_of, asked_plan, at_slot, blocks_in, calls, close_plan, looks_up, next_turn, refreshes, shortens, votes_in, waits, with_active, work_of, works}
+
+-- what is said of a wait: of the moment that was waited for and the moment that was reached
+abbrev pub Wait : Type 1
+Wait = ℕ → ℕ → Type 0
+
+abbrev pub IsWait : Wait → TurnStep → Type 0
+IsWait wait (Waits moment, Woke reached) = wait moment reached
+IsWait wait s = Unit {0}
+
+-- it holds of each wait of these steps
+abbrev pub AllWaits : Wait → List TurnStep → Type 0
+AllWaits wait [] = Unit {0}
+AllWaits wait (s ∷ steps) = IsWait wait s × AllWaits wait steps
+
+-- a wait is over in the slot for which it was
+abbrev pub WakesInSlot : DutySetup → Wait
+WakesInSlot setup moment reached = slot_of setup.genesis_time reached ≤ slot_of setup.genesis_time moment
+
+-- so is each wait of these steps
+abbrev pub AreOnTime : DutySetup → List TurnStep → Type 0
+AreOnTime setup steps = AllWaits (WakesInSlot setup) steps
+
+-- ---- turns that drop nothing, whatever moment is reached
+
+-- the votes are cast, and a line is written of each duty
+abbrev pub cast_plan : DutySetup → Standing → List Duty → List DutyResult → NextPlan
+cast_plan setup s ds proposed = works (work_of setup s) (votes_in ds) (λ cast. close_plan s.slot (blocks_in ds ++ votes_in ds) (proposed ++ cast) (at_slot (next_slot s.slot) s))
+
+-- what is due is done: blocks at once, votes a third into the slot
+abbrev pub done_plan : DutySetup → Standing → List Duty → NextPlan
+done_plan setup s ds = works (work_of setup s) (blocks_in ds) (λ proposed. waits (votes_start setup.genesis_time s.slot) (λ reached. cast_plan setup s ds proposed))
+
+abbrev pub ready_on_time : DutySetup → List PubKey → Option Standing → NextPlan
+ready_on_time setup active None = Done (Err end.Write)
+ready_on_time setup active (Some s) = looks_up s.answers s.slot active (done_plan setup (with_active active s))
+
+abbrev pub listed_on_time : DutySetup → Standing → DeskReply → NextPlan
+listed_on_time setup s (reply.Keys listed) = bind (asked_plan setup listed (active_of listed) s) (ready_on_time setup (active_of listed))
+listed_on_time setup s r = Stop
+
+abbrev pub on_time_turn : DutySetup → Standing → NextPlan
+on_time_turn setup s = waits (slot_start setup.genesis_time s.slot) (λ reached. refreshes (shortens s (calls call.Keys (listed_on_time setup s))))
+
+-- so many turns
+abbrev pub on_time_turns : DutySetup → ℕ → Standing → TurnPlan (Result (Unit {0}) DutyEnd)
+on_time_turns setup zero s = Done (Ok tt)
+on_time_turns setup (suc n) s = bind (on_time_turn setup s) (next_turn (on_time_turns setup n))

@@ -1,0 +1,44 @@
+-- What was done and told of all that was found due in a turn.
+use Rattle.std.specs.Prelude.{◌≡◌, ℕ, List, ◌∷◌, ◌++◌, length, Ok, Err, Some, true}
+use Rattle.edge_kit.specs.declared.bytes.PubKey.{PubKey}
+use Rattle.duty_schedule.specs.Answers.{TakenAnswer}
+use Rattle.duty_schedule.specs.Due.{IsDue}
+use Rattle.duty_schedule.specs.declared.rows.Duty.{Duty}
+use Rattle.duty_plans.specs.declared.result.DutyResult.{DutyResult}
+use Rattle.duty_plans.specs.declared.setup.DutySetup.{DutySetup}
+use Rattle.duty_plans.specs.declared.work.SlotWork.{SlotWork}
+use Rattle.duty_plans.specs.Slots.{EachDone}
+use Rattle.duty_plans.specs.Steps.{DutyStep}
+use Rattle.duty_turns.specs.Lines.{duty_lines}
+use Rattle.duty_turns.specs.Times.{votes_start}
+use Rattle.duty_turns.specs.TurnSteps.{TurnStep, LooksUp, Waits, Works, Writes, Due, Woke, Worked, Wrote}
+use Rattle.duty_turns.specs.Turns.{Next, blocks_in, votes_in}
+
+-- The duties that are due at the slot were looked up. Blocks were done at once, and votes a third into the slot, each duty with a result
+-- of its own steps; and then a line was written of each, blocks before votes.
+pub record AllTold (setup : DutySetup) (slot : ℕ) (steps : List TurnStep) : Type 0 where
+  pub front : List TurnStep
+  pub answers : List TakenAnswer
+  pub active : List PubKey
+  pub due : List Duty
+  pub work : SlotWork
+  pub made : List DutyStep
+  pub proposed : List DutyResult
+  pub reached : ℕ
+  pub voted : List DutyStep
+  pub cast : List DutyResult
+  pub text : List ℕ
+  pub behind : List TurnStep
+  pub are : steps ≡ front ++ (LooksUp answers slot active, Due due) ∷ (Works work (blocks_in due), Worked made (Some proposed)) ∷ (Waits (votes_start setup.genesis_time slot), Woke reached)
+      ∷ (Works work (votes_in due), Worked voted (Some cast)) ∷ (Writes text, Wrote true text) ∷ behind
+  pub found : IsDue answers slot active due
+  pub work_slot : work.slot ≡ slot
+  pub blocks : EachDone work (blocks_in due) made proposed
+  pub votes : EachDone work (votes_in due) voted cast
+  pub lines : text ≡ duty_lines slot due (proposed ++ cast)
+  pub each : length (proposed ++ cast) ≡ length due
+
+-- where the turn went on to the next
+abbrev pub ToldIfNext : DutySetup → ℕ → List TurnStep → Next → Type 0
+ToldIfNext setup slot steps (Ok s) = AllTold setup slot steps
+ToldIfNext setup slot steps (Err ended) = Unit {0}

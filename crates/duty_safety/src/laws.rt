@@ -1,0 +1,61 @@
+//! What holds of duties, whatever takes the desk's calls.
+ghost use Rattle.std.specs.Prelude.{ℕ, ◌<◌, ◌≤◌, ◌^◌, List, All, ◌++◌, Option, Some, Result, Ok};
+ghost use Rattle.edge_kit.specs.declared.bytes.PubKey.{PubKey};
+ghost use Rattle.slash_defs.specs.declared.message.Message.{Message};
+ghost use Rattle.slash_defs.specs.Lists.{SafeList};
+ghost use Rattle.desk_machine.specs.States.{State};
+ghost use Rattle.desk_machine.specs.declared.call.DeskCall.{DeskCall};
+ghost use Rattle.desk_machine.specs.declared.call.DeskReply.{DeskReply};
+ghost use Rattle.call_plans.specs.Paths.{Path};
+ghost use Rattle.call_plans.specs.Plans.{Follows};
+ghost use Rattle.check_sign.specs.Contents.{Seen};
+ghost use Rattle.check_sign.specs.Paths.{Path as CallsOf};
+ghost use Rattle.check_sign.specs.Standing.{DeskStands};
+ghost use Rattle.client_calls.specs.Machines.{CanMake, state_after};
+ghost use Rattle.duty_plans.specs.Guards.{PostedGranted, granted_in, posted_in};
+ghost use Rattle.duty_plans.specs.Steps.{DutyStep, desk_calls};
+ghost use Rattle.duty_plans.specs.declared.setup.DutySetup.{DutySetup};
+ghost use Rattle.duty_turns.specs.declared.held.DutyEnd.{DutyEnd};
+ghost use Rattle.duty_turns.specs.Standing.{Standing};
+ghost use Rattle.duty_turns.specs.Times.{slot_of};
+ghost use Rattle.duty_turns.specs.TurnSteps.{Does, Fits, House, TurnStep};
+ghost use Rattle.duty_turns.specs.Turns.{Next, turn_plan, turns_plan};
+ghost use Rattle.session_run.specs.Safe.{CoveredOnceActive};
+ghost use Rattle.duty_safety.specs.OnTime.{AreOnTime, on_time_turn, on_time_turns};
+ghost use Rattle.duty_safety.specs.Told.{AllTold};
+
+use desk_machine::DeskCalls;
+use edge_kit::Disk;
+
+/// Nothing slashable is posted. Whatever was signed before, safe and covered by the past of its key once the key is
+/// active, is safe beside all messages that the desk gives leave for in these calls; and so it is beside all that
+/// duties post, each of which the desk gave leave for.
+pub fn safe_law()
+    ensures granted { (state : State) (calls : List (DeskCall × DeskReply)) (before : List (PubKey × Message)) → CanMake state calls → SafeList before
+        → All (CoveredOnceActive state calls) before → SafeList (before ++ granted_in calls) }
+    ensures posted { (state : State) (steps : List DutyStep) (before : List (PubKey × Message)) → CanMake state (desk_calls steps)
+        → PostedGranted steps → SafeList before → All (CoveredOnceActive state (desk_calls steps)) before → SafeList (before ++ posted_in steps) }
+{}
+
+/// The calls of a desk over a journal are such calls: from whatever state it stood for its machine can make them, and
+/// it stands for the state behind them.
+pub fn desk_law<D: Disk>()
+    ensures { (old new : Seen D) (calls : List (DeskCall × DeskReply)) (state : State) → CallsOf D.moment D.leaves D.faults old calls new → DeskStands old.contents state
+        → CanMake state calls × DeskStands new.contents (state_after state calls) }
+{}
+
+/// Over a clock on time no duty is dropped. Turns each of whose waits is over in the slot for which it was are turns
+/// that drop nothing, whatever moment is reached; so are all turns over a clock that is told on time, from a slot that
+/// is not before the clock's start. In such a turn, where it goes on to the next, each duty that was found due was
+/// done, and a line was written of each. `K` takes the desk's calls.
+pub fn on_time_law<K: DeskCalls>()
+    ensures turn { (setup : DutySetup) (s : Standing) (steps : List TurnStep) (v : Option Next) → Follows Fits (turn_plan setup s) steps v
+        → AreOnTime setup steps → Follows Fits (on_time_turn setup s) steps v }
+    ensures turns { (setup : DutySetup) (n : ℕ) (s : Standing) (steps : List TurnStep) (v : Option (Result (Unit {0}) DutyEnd))
+        → Follows Fits (turns_plan setup n s) steps v → AreOnTime setup steps → Follows Fits (on_time_turns setup n s) steps v }
+    ensures clock { (start n : ℕ) (setup : DutySetup) (s : Standing) (a b : House K) (steps : List TurnStep) (v : Option (Result (Unit {0}) DutyEnd))
+        → start < 2 ^ 64 → slot_of setup.genesis_time start ≤ s.slot → Path (Does K.leads (Some start)) a steps b → Follows Fits (turns_plan setup n s) steps v
+        → Follows Fits (on_time_turns setup n s) steps v }
+    ensures lines { (setup : DutySetup) (s : Standing) (steps : List TurnStep) (next : Standing) → Follows Fits (on_time_turn setup s) steps (Some (Ok next))
+        → AllTold setup s.slot steps }
+{}
