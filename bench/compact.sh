@@ -1,7 +1,7 @@
 #!/bin/sh
 # Seconds and peak memory of opening a journal of 1,000,000 votes of 1,000 keys, a batch each, of compacting it, and of opening what that
-# leaves, beside SQLite's VACUUM of the same rows, by Python's sqlite3, in the same run. A compaction is a session of that one line, less the
-# opening alone. Memory is the peak of the process, and how often that is the snapshot.
+# leaves, beside SQLite's VACUUM of the same rows, by Python's sqlite3, in the same run. A compaction is one line of a session, from its request
+# to its answer. Memory is the peak of the process; of the compaction also what is held before it.
 # Run it at the top of the repository. A program that is built is measured as it stands, else it is built first. The first argument, if any,
 # divides the number of votes, the second is a folder for the files.
 set -eu
@@ -72,15 +72,32 @@ def run(command, text):
         sys.exit(f"status {status}: {output}")
     return output, time.monotonic() - begun, used.ru_maxrss * 1024 / 1e6
 
+# megabytes that a process holds now (VmRSS), and the most that it held (VmHWM)
+def held(pid, name):
+    with open(f"/proc/{pid}/status") as lines:
+        return next(int(line.split()[1]) * 1024 / 1e6 for line in lines if line.startswith(name))
+
 _, opening, opening_memory = run(words, "")
 before = os.path.getsize(f"{work}/j.a") / 1e6
-told, both, memory = run(words, '{"op":"compact"}\n')
+made = subprocess.Popen(words, stdin=subprocess.PIPE, stdout=subprocess.PIPE, text=True)
+made.stdin.write('{"op":"list","epoch":"0"}\n')
+made.stdin.flush()
+made.stdout.readline()
+kept = held(made.pid, "VmRSS")
+begun = time.monotonic()
+made.stdin.write('{"op":"compact"}\n')
+made.stdin.flush()
+told = made.stdout.readline()
+compaction = time.monotonic() - begun
+memory = held(made.pid, "VmHWM")
+made.stdin.close()
+made.wait()
 after = os.path.getsize(f"{work}/j.b") / 1e6
 _, again, again_memory = run(words, "")
 print(told, end="")
 print(f"{count} votes: {before:.0f} MB before, {after:.0f} MB after")
 print(f"opening: {opening:.2f} s, {opening_memory:.0f} MB ({opening_memory / before:.1f} times the file)")
-print(f"compaction: {both - opening:.2f} s; with the opening {both:.2f} s, {memory:.0f} MB ({memory / after:.1f} times the snapshot)")
+print(f"compaction: {compaction:.2f} s; {kept:.0f} MB are held before it, {memory:.0f} MB at its peak: {(memory - kept) / after:.1f} times the snapshot more, {memory / after:.1f} times in all")
 print(f"opening again: {again:.2f} s, {again_memory:.0f} MB")
 told, vacuum, vacuum_memory = run([sys.executable, f"{work}/vacuum.py", f"{work}/table.db"], "")
 print(told, end="")

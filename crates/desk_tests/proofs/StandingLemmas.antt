@@ -12,7 +12,7 @@ none_kept : (A : Type 0) (past : Past) → None ≡ Some past → A
 none_kept A past kept = let bad : None ≡ Some past = kept in absurd cc
 
 no_payload_stands : PayloadsStand [] nothing_lasts
-no_payload_stands = record { items = record { named = refl; each = λ key past kept. none_kept _ past kept; states = refl }; size = refl }
+no_payload_stands = record { items = record { named = refl; each = λ key past kept. none_kept _ past kept; states = refl }; size = refl; generation = refl }
 
 no_byte_read : (genesis : Root) → Reads genesis.0 [] [] []
 unfolding reading

@@ -111,6 +111,7 @@ fn op_words(alloc: Global, op: &Op) -> Result<String, AllocError> {
         Op::Export { keys: None } => String::from_str(alloc, "export all"),
         Op::Prune { .. } => String::from_str(alloc, "prune"),
         Op::Live { of, is_live, .. } => format!(in alloc; "live {} {}", *of, *is_live),
+        Op::Compact => String::from_str(alloc, "compact"),
     }
 }
 
@@ -127,7 +128,7 @@ fn outcome(alloc: Global, line: &[u8]) -> Result<String, AllocError> {
     }
 }
 
-const OUTCOMES: [(&str, &str); 62] = [
+const OUTCOMES: [(&str, &str); 64] = [
     // Each op.
     (r#"{"op":"merge","file":"&"}"#, "merge 1"),
     (
@@ -171,6 +172,8 @@ const OUTCOMES: [(&str, &str); 62] = [
     ),
     (r#"{"op":"export"}"#, "export all"),
     (r#"{"op":"export","pubkeys":[]}"#, "export 0"),
+    (r#"{"op":"compact"}"#, "compact"),
+    (r#"{"op":"compact","pubkey":1,"epoch":"7"}"#, "compact at 7"),
     (r#"{"op":"export","pubkeys":["~","~"]}"#, "export 2"),
     (r#"{"op":"prune","pubkey":"~"}"#, "prune"),
     (
@@ -328,6 +331,10 @@ fn answer_at(alloc: Global, place: usize) -> Result<Answer, AllocError> {
             body: Items::from_vec(vec![in alloc; 0xee; 257]?),
         }),
         33..=35 => custody_at(alloc, place)?,
+        38 => Answer::Compacted {
+            before: 96,
+            after: 166,
+        },
         _ => refusal_at(place),
     })
 }
@@ -406,6 +413,7 @@ fn refusal_at(place: usize) -> Answer {
         },
         36 => Answer::from(DeskRefusal::NotClosing(KeyState::Known)),
         37 => Answer::from(DeskRefusal::Busy { grants: 2 }),
+        39 => Answer::LastGeneration,
         _ => Answer::Refused(verdict_at(place)),
     }
 }
@@ -440,7 +448,7 @@ fn verdict_at(place: usize) -> Verdict {
     }
 }
 
-const LINES: [&str; 38] = [
+const LINES: [&str; 40] = [
     r#"{"answer":"merged","keys":"1"}"#,
     r#"{"answer":"active"}"#,
     r#"{"answer":"signed","signature":"0xbbbbbbbbbbbbbbbbbbbbbbbbbbbbbbbbbbbbbbbbbbbbbbbbbbbbbbbbbbbbbbbbbbbbbbbbbbbbbbbbbbbbbbbbbbbbbbbbbbbbbbbbbbbbbbbbbbbbbbbbbbbbbbbbbbbbbbbbbbbbbbbbbbbbbbbbbbbbbbbbbbbbbbbbbbbbbbbbbbbbbbbbbbbbbbbb","signing_root":"%"}"#,
@@ -479,6 +487,8 @@ const LINES: [&str; 38] = [
     r#"{"answer":"keys","data":["~"]}"#,
     r#"{"answer":"refused","reason":"not_closing","state":"known"}"#,
     r#"{"answer":"refused","grants":"2","reason":"busy"}"#,
+    r#"{"after":"166","answer":"compacted","before":"96"}"#,
+    r#"{"answer":"refused","reason":"last_generation"}"#,
 ];
 
 #[test]

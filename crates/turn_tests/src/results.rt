@@ -1,0 +1,175 @@
+//! How duties end: each result, by the first call that failed.
+use crate::runs::{Case, Line, ONE_TURN, Run, look_at};
+use crate::said::{KEY, Said};
+use std::test::Fail;
+
+/// A vote in slot 32. The node's call 5 is the question what to vote, and 6 the post.
+const ONE_VOTE: Run = Run {
+    said: &[
+        Said::Synced,
+        Said::Fork,
+        Said::Index,
+        Said::Proposes(0xaa, &[]),
+        Said::Votes(0xaa, &[(KEY, 32)]),
+        Said::Details(32),
+    ],
+    ..ONE_TURN
+};
+
+const VOTES: [Case; 6] = [
+    // another vote of the same epoch, after a reorganisation
+    Case {
+        run: Run {
+            slots: 2,
+            said: &[
+                Said::Synced,
+                Said::Fork,
+                Said::Index,
+                Said::Proposes(0xaa, &[]),
+                Said::Votes(0xaa, &[(KEY, 32)]),
+                Said::Details(32),
+                Said::Synced,
+                Said::Proposes(0xbb, &[]),
+                Said::Votes(0xbb, &[(KEY, 33)]),
+                Said::Details(33),
+            ],
+            ..ONE_TURN
+        },
+        lines: &[
+            Line::Vote(32, "sent"),
+            Line::Vote(33, "refused double_vote"),
+        ],
+        asked: "syncing fork validators proposer attester data vote@32 \
+            syncing proposer attester data",
+    },
+    Case {
+        run: Run {
+            lacking: &[KEY],
+            ..ONE_VOTE
+        },
+        lines: &[Line::Vote(32, "unsigned no_key")],
+        asked: "syncing fork validators proposer attester data",
+    },
+    Case {
+        run: Run {
+            failing_signs: &[0],
+            ..ONE_VOTE
+        },
+        lines: &[Line::Vote(32, "unsigned fault")],
+        asked: "syncing fork validators proposer attester data",
+    },
+    Case {
+        run: Run {
+            failing: &[5],
+            ..ONE_VOTE
+        },
+        lines: &[Line::Vote(32, "nodata none")],
+        asked: "syncing fork validators proposer attester data",
+    },
+    Case {
+        run: Run {
+            said: &[
+                Said::Synced,
+                Said::Fork,
+                Said::Index,
+                Said::Proposes(0xaa, &[]),
+                Said::Votes(0xaa, &[(KEY, 32)]),
+                Said::Details(33),
+            ],
+            ..ONE_VOTE
+        },
+        lines: &[Line::Vote(32, "nodata differs")],
+        asked: "syncing fork validators proposer attester data",
+    },
+    Case {
+        run: Run {
+            failing: &[6],
+            ..ONE_VOTE
+        },
+        lines: &[Line::Vote(32, "unposted")],
+        asked: "syncing fork validators proposer attester data vote@32",
+    },
+];
+
+/// A block in slot 32. The node's call 5 is the question for it, and 6 the post; the first signature that is asked
+/// for is the reveal, and the second the block's.
+const ONE_BLOCK: Run = Run {
+    said: &[
+        Said::Synced,
+        Said::Fork,
+        Said::Index,
+        Said::Proposes(0xaa, &[32]),
+        Said::Votes(0xaa, &[(KEY, 33)]),
+        Said::Block(32),
+    ],
+    ..ONE_TURN
+};
+
+const BLOCKS: [Case; 6] = [
+    // no block is asked for without its reveal
+    Case {
+        run: Run {
+            failing_signs: &[0],
+            ..ONE_BLOCK
+        },
+        lines: &[Line::Block(32, "unsigned fault")],
+        asked: "syncing fork validators proposer attester",
+    },
+    Case {
+        run: Run {
+            lacking: &[KEY],
+            ..ONE_BLOCK
+        },
+        lines: &[Line::Block(32, "unsigned no_key")],
+        asked: "syncing fork validators proposer attester",
+    },
+    Case {
+        run: Run {
+            failing_signs: &[1],
+            ..ONE_BLOCK
+        },
+        lines: &[Line::Block(32, "unsigned fault")],
+        asked: "syncing fork validators proposer attester block",
+    },
+    Case {
+        run: Run {
+            failing: &[5],
+            ..ONE_BLOCK
+        },
+        lines: &[Line::Block(32, "nodata none")],
+        asked: "syncing fork validators proposer attester block",
+    },
+    Case {
+        run: Run {
+            said: &[
+                Said::Synced,
+                Said::Fork,
+                Said::Index,
+                Said::Proposes(0xaa, &[32]),
+                Said::Votes(0xaa, &[(KEY, 33)]),
+                Said::Block(33),
+            ],
+            ..ONE_BLOCK
+        },
+        lines: &[Line::Block(32, "nodata differs")],
+        asked: "syncing fork validators proposer attester block",
+    },
+    Case {
+        run: Run {
+            failing: &[6],
+            ..ONE_BLOCK
+        },
+        lines: &[Line::Block(32, "unposted")],
+        asked: "syncing fork validators proposer attester block block@32",
+    },
+];
+
+#[test]
+fn each_vote_ends_by_its_first_call_that_failed(rt: HostRuntime) -> Result<(), Fail> {
+    look_at(&rt, rt.alloc(), &VOTES)
+}
+
+#[test]
+fn each_block_ends_by_its_first_call_that_failed(rt: HostRuntime) -> Result<(), Fail> {
+    look_at(&rt, rt.alloc(), &BLOCKS)
+}
