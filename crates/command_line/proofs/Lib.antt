@@ -1,3 +1,4 @@
 pub mod TableLemmas
 pub mod UniformLemmas
 pub mod PlanLemmas
+pub mod ServingLemmas

@@ -1,3 +1,5 @@
 pub mod Table
 pub mod Forks
+pub mod Options
+pub mod Serving
 pub mod Plans

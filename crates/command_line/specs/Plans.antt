@@ -1,23 +1,24 @@
 -- What the words ask the program to do, as `clap` reads them by the table.
-use Rattle.std.specs.Prelude.{ℕ, ◌==◌, nat_le, Bool, true, false, List, [], ◌∷◌, ◌&&◌, ◌||◌, length, Option, Some, None, Result, Ok, Err, option_map, option_and_then, if◌then◌else◌, codes}
+use Rattle.std.specs.Prelude.{ℕ, Bool, true, false, List, [], ◌∷◌, ◌||◌, Option, Some, None, Result, Ok, Err, option_map, option_and_then, if◌then◌else◌, codes}
 use Rattle.std.specs.Str.{bytes_eq}
-use Rattle.std.specs.Option.{option_map_or}
-use Rattle.edge_kit.specs.Texts.{hex_bytes, quoted_number}
 use Rattle.edge_kit.specs.declared.bytes.Root.{Root}
 use Rattle.phase0_types.specs.declared.fork.Fork.{Fork}
 use Rattle.service_url.specs.Services.{Service, service_at}
 use Rattle.clap.specs.Words.{Kinds, Row, Text, fault_of, first_of, subcommand_of}
 use Rattle.clap.specs.declared.error.kind.ErrorKind.{ErrorKind}
 use Rattle.clap.specs.declared.error.kind.ErrorKind.TheVariants.{DisplayHelp, DisplayVersion}
-use Rattle.command_line.specs.Forks.{fork_at}
+use Rattle.command_line.specs.Options.{clients_in, fork_in, genesis_in, journal_in, number_in, path_at, steps_in, watch_in}
+use Rattle.command_line.specs.Serving.{serve_options_in}
 use Rattle.command_line.specs.Table.{table}
 use Rattle.command_line.specs.declared.planned.Plan.{Plan}
-use Rattle.command_line.specs.declared.planned.Plan.TheVariants.{Session, Merge, Show, Rehearse, Shown}
+use Rattle.command_line.specs.declared.planned.Plan.TheVariants.{Session, Serve, Merge, Show, Rehearse, Shown}
 use Rattle.command_line.specs.declared.planned.Usage.{Usage}
+use Rattle.command_line.specs.declared.serve_options.ServeOptions.{ServeOptions}
 
--- what words ask for: a session, with its journal's path and its signing service if any and whether keys are watched, a merge or a showing of a journal, a rehearsal by its number, its clients and its steps, the text of help or the version, or nothing that there is
+-- what words ask for: a session, with its journal's path and its signing service if any and whether keys are watched, a server with its options, a merge or a showing of a journal, a rehearsal by its number, its clients and its steps, the text of help or the version, or nothing that there is
 pub data Asked : Type 0 where
   session : Root → Option (List ℕ) → Fork → Option Service → Bool → Asked
+  serve : ServeOptions → Asked
   merge : Root → List ℕ → Asked
   show : Root → List ℕ → Asked
   rehearse : ℕ → ℕ → ℕ → Asked
@@ -27,6 +28,7 @@ pub data Asked : Type 0 where
 -- what an answer takes the words to ask for
 abbrev pub taken_as : Result Plan Usage → Asked
 taken_as (Ok (Session genesis journal fork signer watch)) = session genesis journal fork signer watch
+taken_as (Ok (Serve options)) = serve options
 taken_as (Ok (Merge genesis journal)) = merge genesis journal
 taken_as (Ok (Show genesis journal)) = show genesis journal
 taken_as (Ok (Rehearse number size)) = rehearse number size.clients size.steps
@@ -37,26 +39,6 @@ taken_as (Err usage) = nothing
 abbrev pub or_nothing : Option Asked → Asked
 or_nothing None = nothing
 or_nothing (Some asked) = asked
-
--- the root that the value of `--genesis` writes
-abbrev pub genesis_in : List Row → Option Root
-genesis_in options = option_map (λ bytes. record { 0 = bytes }) (option_and_then (hex_bytes 32) (first_of (codes "genesis") options))
-
--- the fork that the value of `--fork`, or its default, writes
-abbrev pub fork_in : List Row → Option Fork
-fork_in options = option_and_then fork_at (first_of (codes "fork") options)
-
--- the path that a text writes: none where the text is empty
-abbrev pub path_at : Text → Option (List ℕ)
-path_at text = if length text == 0 then None else Some text
-
--- the path that the value of `--journal` writes
-abbrev pub journal_in : List Row → Option (List ℕ)
-journal_in options = option_and_then path_at (first_of (codes "journal") options)
-
--- `--watch` was given: `clap` reads a flag without a value as `true` where it stands, and as `false` where it does not
-abbrev pub watch_in : List Row → Bool
-watch_in options = option_map_or (λ text. bytes_eq text (codes "true")) (first_of (codes "watch") options) false
 
 -- what a text writes, where it is given: none where it is out of form
 abbrev pub at_most_one : {A : Type 0} → (Text → Option A) → Option Text → Option (Option A)
@@ -84,24 +66,9 @@ merge_in options = or_nothing (option_and_then (λ genesis. option_map (merge ge
 abbrev pub show_in : List Row → Asked
 show_in options = or_nothing (option_and_then (λ genesis. option_map (show genesis) (journal_in options)) (genesis_in options))
 
--- the number that a value writes in decimal
-abbrev pub number_in : Text → List Row → Option ℕ
-number_in id options = option_and_then quoted_number (first_of id options)
-
--- the number, where it is between these two
-abbrev pub between : ℕ → ℕ → ℕ → Option ℕ
-between least most n = if nat_le least n && nat_le n most then Some n else None
-
--- the number, where it is at most this
-abbrev pub at_most : ℕ → ℕ → Option ℕ
-at_most most n = if nat_le n most then Some n else None
-
--- 1 to 16 clients, and up to 20,000 steps
-abbrev pub clients_in : List Row → Option ℕ
-clients_in options = option_and_then (between 1 16) (number_in (codes "clients") options)
-
-abbrev pub steps_in : List Row → Option ℕ
-steps_in options = option_and_then (at_most 20000) (number_in (codes "steps") options)
+-- the server of these options
+abbrev pub serve_in : List Row → Asked
+serve_in options = or_nothing (option_map serve (serve_options_in options))
 
 -- the rehearsal of these values
 abbrev pub rehearse_in : List Row → Asked
@@ -112,7 +79,7 @@ rehearse_in options =
 abbrev pub help_on : Option Text → Asked
 help_on None = shown
 help_on (Some name) =
-    if bytes_eq name (codes "session") || bytes_eq name (codes "merge") || bytes_eq name (codes "show") || bytes_eq name (codes "rehearse") || bytes_eq name (codes "help") then shown else nothing
+    if bytes_eq name (codes "session") || bytes_eq name (codes "serve") || bytes_eq name (codes "merge") || bytes_eq name (codes "show") || bytes_eq name (codes "rehearse") || bytes_eq name (codes "help") then shown else nothing
 
 -- the help that is asked for with the value of `COMMAND`
 abbrev pub help_in : List Row → Asked
@@ -122,10 +89,11 @@ help_in options = help_on (first_of (codes "command") options)
 abbrev pub asked_in : Text → List Row → Asked
 asked_in name options =
     if bytes_eq name (codes "session") then session_in options
+    else (if bytes_eq name (codes "serve") then serve_in options
     else (if bytes_eq name (codes "merge") then merge_in options
     else (if bytes_eq name (codes "show") then show_in options
     else (if bytes_eq name (codes "rehearse") then rehearse_in options
-    else (if bytes_eq name (codes "help") then help_in options else nothing))))
+    else (if bytes_eq name (codes "help") then help_in options else nothing)))))
 
 -- what the subcommand that the words name asks for
 abbrev pub asked_at : Option (Text × List Row) → Asked

@@ -1,7 +1,7 @@
 -- The program's command line: its subcommands, their options, and what stands where an option is absent.
-use Rattle.std.specs.Prelude.{Bool, [], ◌∷◌, Some, true, false, codes}
+use Rattle.std.specs.Prelude.{Bool, List, [], ◌∷◌, ◌++◌, Some, true, false, codes, fold}
 use Rattle.clap.specs.Words.{App, Rule, Shape, Text, new_app, new_rule, with_rule, with_subcommand}
-use Rattle.clap.specs.declared.builder.action.ArgAction.TheVariants.{Set, SetTrue}
+use Rattle.clap.specs.declared.builder.action.ArgAction.TheVariants.{Append, Set, SetTrue}
 
 -- `--genesis HEX32`, which must be given
 abbrev pub genesis_rule : Rule
@@ -21,12 +21,13 @@ journal_rule is_required = record (new_rule (codes "journal")) {
   required = is_required;
 }
 
--- `--signer URL`
-abbrev pub signer_rule : Rule
-signer_rule = record (new_rule (codes "signer")) {
+-- `--signer URL`, which must be given or may be absent
+abbrev pub signer_rule : Bool → Rule
+signer_rule is_required = record (new_rule (codes "signer")) {
   long = Some (codes "signer");
   action = Some Set;
   value_names = 1;
+  required = is_required;
 }
 
 -- `--fork PREVIOUS:CURRENT:EPOCH`, both versions zero from epoch 0 on where it is absent
@@ -47,7 +48,57 @@ watch_rule = record (new_rule (codes "watch")) {
 
 -- the command `session` with its options
 abbrev pub session_shape : Shape
-session_shape = (with_rule (with_rule (with_rule (with_rule (with_rule (new_app (codes "session")) genesis_rule) (journal_rule false)) signer_rule) fork_rule) watch_rule).top
+session_shape = (with_rule (with_rule (with_rule (with_rule (with_rule (new_app (codes "session")) genesis_rule) (journal_rule false)) (signer_rule false)) fork_rule) watch_rule).top
+
+-- `--listen ADDR:PORT`, which must be given
+abbrev pub listen_rule : Rule
+listen_rule = record (new_rule (codes "listen")) {
+  long = Some (codes "listen");
+  action = Some Set;
+  value_names = 1;
+  required = true;
+}
+
+-- `--token TEXT`, which must be given
+abbrev pub token_rule : Rule
+token_rule = record (new_rule (codes "token")) {
+  long = Some (codes "token");
+  action = Some Set;
+  value_names = 1;
+  required = true;
+}
+
+-- `--slots N` or `--connections N`
+abbrev pub limit_rule : Text → Rule
+limit_rule id = record (new_rule id) {
+  long = Some id;
+  action = Some Set;
+  value_names = 1;
+}
+
+-- one `NODE` or more, in their place
+abbrev pub nodes_rule : Rule
+nodes_rule = record (new_rule (codes "node")) {
+  action = Some Append;
+  value_names = 1;
+  required = true;
+}
+
+-- what a server signs for, where it keeps that, and who signs
+abbrev pub signing_rules : List Rule
+signing_rules = genesis_rule ∷ journal_rule true ∷ signer_rule true ∷ []
+
+-- where a server answers the Keymanager API, and for whom
+abbrev pub door_rules : List Rule
+door_rules = listen_rule ∷ token_rule ∷ []
+
+-- what a server may do without
+abbrev pub end_rules : List Rule
+end_rules = watch_rule ∷ limit_rule (codes "slots") ∷ limit_rule (codes "connections") ∷ []
+
+-- the command `serve` with its options, and its nodes last
+abbrev pub serve_shape : Shape
+serve_shape = (fold with_rule (new_app (codes "serve")) (signing_rules ++ door_rules ++ end_rules ++ nodes_rule ∷ [])).top
 
 -- the command `merge` with its options
 abbrev pub merge_shape : Shape
@@ -86,4 +137,4 @@ program_shape = record (new_app (codes "validator")).top {
 
 -- the whole command line
 abbrev pub table : App
-table = with_subcommand (with_subcommand (with_subcommand (with_subcommand (with_subcommand (record { top = program_shape; subs = [] }) session_shape) merge_shape) show_shape) rehearse_shape) help_shape
+table = fold with_subcommand (record { top = program_shape; subs = [] }) (session_shape ∷ serve_shape ∷ merge_shape ∷ show_shape ∷ rehearse_shape ∷ help_shape ∷ [])

@@ -27,6 +27,21 @@ pub(crate) enum Fault<'a> {
     /// The value of `--fork` is out of form.
     #[error("error: invalid value '{0}' for '--fork <PREVIOUS:CURRENT:EPOCH>': two versions, each 0x and 8 hex digits, and an epoch in decimal below 2^64 are wanted, joined by :")]
     Fork(&'a str),
+    /// The value of `--listen` is no address that a server listens at.
+    #[error("error: invalid value '{0}' for '--listen <ADDR:PORT>': localhost or four decimals up to 255 joined by dots, and a port up to 65535 in decimal are wanted, joined by :")]
+    Listen(&'a str),
+    /// The value of `--token` is no token. It is told without the value, which is a secret.
+    #[error("error: invalid value for '--token <TEXT>': 1 to 256 ASCII characters from ! to ~ are wanted")]
+    Token,
+    /// The value of `--slots` is out of form.
+    #[error("error: invalid value '{0}' for '--slots <N>': a number in decimal below 2^64 is wanted")]
+    Slots(&'a str),
+    /// The value of `--connections` is out of form.
+    #[error("error: invalid value '{0}' for '--connections <N>': a number in decimal below 2^64 is wanted")]
+    Connections(&'a str),
+    /// A node's address is no address of a service.
+    #[error("error: invalid value '{0}' for '<NODE>...': a URL of scheme http with a host is wanted, without user, password, query or fragment")]
+    Node(&'a str),
     /// The number of a rehearsal is out of form.
     #[error("error: invalid value '{0}' for '<NUMBER>': a number in decimal below 2^64 is wanted")]
     Number(&'a str),

@@ -16,7 +16,7 @@ pub(crate) fn read_fork(text: &str) -> Option<Fork>
 }
 
 /// What stands before the first `:`, and what stands behind it.
-fn split_at_colon(text: &str) -> Option<(&str, &str)>
+pub(crate) fn split_at_colon(text: &str) -> Option<(&str, &str)>
     ensures { option_map (λ p. (p.0.now, p.1.now)) result ≡ at_colon text.now }
 {
     text.split_once(':')

@@ -4,13 +4,20 @@
 mod command;
 mod fault;
 mod fork_text;
+mod listen_address;
 mod options;
 mod path_text;
 mod planned;
 mod rehearsal_size;
+mod serve_options;
+mod serving;
+mod token_text;
 mod words;
 
+pub use listen_address::{ListenAddress, ListenHost};
 pub use path_text::PathText;
 pub use planned::{Plan, ShownText, Usage};
 pub use rehearsal_size::RehearsalSize;
+pub use serve_options::ServeOptions;
+pub use token_text::TokenText;
 pub use words::plan;

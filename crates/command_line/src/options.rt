@@ -1,13 +1,17 @@
 //! The values of options, as `clap` found them.
-ghost use Rattle.std.specs.Prelude.{◌≡◌, ◌<◌, ◌≤◌, IfOk, IfSome, option_map};
-ghost use Rattle.clap.specs.Words.{first_of, found_of, rows_of};
-ghost use Rattle.command_line.specs.Plans.{clients_in, fork_in, genesis_in, journal_in, number_in, steps_in, watch_in};
+ghost use Rattle.std.specs.Prelude.{◌≡◌, ◌<◌, ◌≤◌, IfOk, IfSome, map, option_map};
+ghost use Rattle.clap.specs.Words.{all_of, first_of, found_of, rows_of};
+ghost use Rattle.command_line.specs.Serving.{limit_in, listen_in, signer_in, token_in};
+ghost use Rattle.command_line.specs.Options.{clients_in, fork_in, genesis_in, journal_in, number_in, steps_in, watch_in};
 
 use crate::fork_text::read_fork;
+use crate::listen_address::{ListenAddress, read_listen};
 use crate::path_text::{PathText, read_path};
+use crate::token_text::{TokenText, read_token};
 use clap::ArgMatches;
 use edge_kit::{Root, read_hex, read_quoted};
 use phase0_types::Fork;
+use service_url::ServiceUrl;
 use std::alloc::{AllocError, Global};
 
 /// The text of an option's value, or of its default.
@@ -15,6 +19,13 @@ pub(crate) fn text_of<'a>(options: &ArgMatches<'a>, id: &str) -> Option<&'a str>
     ensures { option_map (λ s. s.now) result ≡ first_of id.now (rows_of (found_of options.now)) }
 {
     options.get_str(id)
+}
+
+/// The texts of a word's values, in their order.
+pub(crate) fn texts_of<'m, 'a>(options: &'m ArgMatches<'a>, id: &str) -> Option<&'m [&'a str]>
+    ensures { option_map (λ s. map (λ v. v.now) s.now) result ≡ all_of id.now (rows_of (found_of options.now)) }
+{
+    options.get_strs(id)
 }
 
 /// The value of `--genesis`, if it has its form.
@@ -82,4 +93,48 @@ pub(crate) fn steps_of(options: &ArgMatches<'_>) -> Option<u64>
 {
     let steps = number_of(options, "steps")?;
     if steps <= 20_000 { Some(steps) } else { None }
+}
+
+/// The value of `--signer`, if there is one and it is the address of a service.
+pub(crate) fn signer_of(
+    alloc: Global,
+    options: &ArgMatches<'_>,
+) -> Result<Option<ServiceUrl>, AllocError>
+    ensures { IfOk result (λ signer. signer ≡ signer_in (rows_of (found_of options.now))) }
+{
+    match text_of(options, "signer") {
+        Some(text) => ServiceUrl::read(alloc, text),
+        None => Ok(None),
+    }
+}
+
+/// The value of `--listen`, if it has its form.
+pub(crate) fn listen_of(options: &ArgMatches<'_>) -> Option<ListenAddress>
+    ensures { result ≡ listen_in (rows_of (found_of options.now)) }
+{
+    let text = text_of(options, "listen")?;
+    read_listen(text)
+}
+
+/// The value of `--token`, if it has its form.
+pub(crate) fn token_of(
+    alloc: Global,
+    options: &ArgMatches<'_>,
+) -> Result<Option<TokenText>, AllocError>
+    ensures { IfOk result (λ token. token ≡ token_in (rows_of (found_of options.now))) }
+{
+    match text_of(options, "token") {
+        Some(text) => read_token(alloc, text),
+        None => Ok(None),
+    }
+}
+
+/// The number that a value writes in decimal, if it has its form; where it is absent, one that is never reached.
+pub(crate) fn limit_of(options: &ArgMatches<'_>, id: &str) -> Option<u64>
+    ensures { result ≡ limit_in id.now (rows_of (found_of options.now)) }
+{
+    match text_of(options, id) {
+        Some(text) => read_quoted(text),
+        None => Some(u64::MAX),
+    }
 }

@@ -1,6 +1,6 @@
 //! The text of a journal's path.
 ghost use Rattle.std.specs.Prelude.{◌≡◌, IfOk, string_bytes};
-ghost use Rattle.command_line.specs.Plans.{path_at};
+ghost use Rattle.command_line.specs.Options.{path_at};
 
 use std::alloc::{AllocError, Global};
 use std::fmt;

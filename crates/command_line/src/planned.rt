@@ -3,6 +3,7 @@ ghost use Rattle.std.specs.Prelude.{◌≡◌, string_bytes};
 
 use crate::path_text::PathText;
 use crate::rehearsal_size::RehearsalSize;
+use crate::serve_options::ServeOptions;
 use edge_kit::Root;
 use phase0_types::Fork;
 use service_url::ServiceUrl;
@@ -25,6 +26,9 @@ pub enum Plan {
         signer: Option<ServiceUrl>,
         watch: bool,
     },
+    /// The validator client: with these options it does the duties of the active keys, turn by turn, and answers
+    /// requests of the Keymanager API.
+    Serve(ServeOptions),
     /// The interchange file on standard input, of the chain of this genesis validators root, is merged
     /// into the journal of this path.
     Merge {

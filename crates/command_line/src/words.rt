@@ -4,7 +4,7 @@ ghost use Rattle.clap.specs.Words.{found_of, kind_of, rows_of, subcommand_rows_o
 ghost use Rattle.clap.specs.declared.error.kind.ErrorKind.TheVariants.{OutOfMemory};
 ghost use Rattle.command_line.specs.Plans.{asked_at, asked_in, asked_of, help_on, is_display, merge_in, nothing, rehearse_in, session_by, session_in, session_with, show_in, shown, taken_as};
 
-use crate::command::{help, merge, program, rehearse, session, show};
+use crate::command::{help, merge, program, rehearse, serve, session, show};
 use crate::fault::{Fault, refused};
 use crate::options::{
     clients_of, fork_of, genesis_of, journal_of, number_of, steps_of, text_of, watch_of,
@@ -12,6 +12,7 @@ use crate::options::{
 use crate::path_text::{PathText, read_path};
 use crate::planned::{Plan, ShownText, Usage};
 use crate::rehearsal_size::RehearsalSize;
+use crate::serving::serve_plan;
 use clap::error::ErrorKind;
 use clap::{ArgMatches, Command, Error};
 use edge_kit::Root;
@@ -26,6 +27,10 @@ use std::alloc::{AllocError, Global};
 ///   `--fork`, two versions and an epoch joined by `:`, each version `0x` and 8 hex digits, the
 ///   epoch 1 to 20 decimal digits below 2^64; `0x00000000:0x00000000:0` where it is absent. Hex digits
 ///   are of either case. Maybe also `--watch`, which has no value.
+/// - `serve` with `--genesis`, `--journal` and `--signer` as above, `--listen`, `localhost` or four decimals of at
+///   most 255 joined by dots, `:` and a port of at most 65535, and `--token`, 1 to 256 ASCII characters from `!` to
+///   `~`; maybe `--watch`, `--slots` and `--connections`, which are 18446744073709551615 where they are absent; and
+///   one node or more, each a URL as for `--signer`. Each number has 1 to 20 decimal digits and is below 2^64.
 /// - `merge` and `show`, each with `--genesis` and `--journal`.
 /// - `rehearse` with a number, how many clients, 1 to 16, and how many steps, 0 to 20,000, each 1 to 20 decimal digits
 ///   below 2^64.
@@ -81,6 +86,9 @@ fn command_plan(
 {
     if name == "session" {
         return session_plan(alloc, options);
+    }
+    if name == "serve" {
+        return serve_plan(alloc, options);
     }
     if name == "merge" {
         return merge_plan(alloc, options);
@@ -233,6 +241,7 @@ fn help_plan(alloc: Global, command: Option<&str>) -> Result<Result<Plan, Usage>
     match command {
         None => shown_help(program(alloc)?),
         Some("session") => shown_help(session(alloc)?.bin_name("validator session")?),
+        Some("serve") => shown_help(serve(alloc)?.bin_name("validator serve")?),
         Some("merge") => shown_help(merge(alloc)?.bin_name("validator merge")?),
         Some("show") => shown_help(show(alloc)?.bin_name("validator show")?),
         Some("rehearse") => shown_help(rehearse(alloc)?.bin_name("validator rehearse")?),

@@ -58,12 +58,14 @@ fn line_at(alloc: Global, place: usize) -> Result<ClosingLine, AllocError> {
         15 => ClosingLine::TooLong(Limit::File),
         16 => ClosingLine::TooLong(Limit::Keys),
         17 => ClosingLine::ReadFault,
+        18 => ClosingLine::NoNode(String::from_str(alloc, "fault, status 503")?),
+        19 => ClosingLine::DoorFault,
         _ => ClosingLine::Usage(String::from_str(alloc, "no command")?),
     })
 }
 
 /// Each line with the code of its status.
-const LINES: [(u8, &str); 19] = [
+const LINES: [(u8, &str); 21] = [
     (12, "validator: file refused: too_long len 268435457\n"),
     (12, "validator: file refused: not_utf8\n"),
     (12, "validator: file refused: json\n"),
@@ -91,6 +93,8 @@ const LINES: [(u8, &str); 19] = [
     (9, "validator: input too long: limit 268435456\n"),
     (9, "validator: input too long: limit 65536\n"),
     (3, "validator: read fault\n"),
+    (10, "validator: no node: fault, status 503\n"),
+    (11, "validator: door fault\n"),
     (2, "validator: no command\n"),
 ];
 

@@ -54,7 +54,7 @@ pub merge_ended : {D : Type 0} (shows : D → List ℕ → Type 0) (moment : D �
     → MergeEnds shows moment leaves faults genesis first last before now events result
 merge_ended shows moment leaves faults genesis first last before now events result opened ended opening ends handed =
     let run = merge_leaves moment leaves faults before now opened ended result genesis opening.opened.genesis_is ends in
-    inr (had_desk moment leaves faults shows genesis false first last events
+    inr (had_desk moment leaves faults shows genesis false 0 first last events
     (λ o e. DeskMergeEnds moment leaves faults before now o e result × EachImage shows moment leaves genesis first last (OpensByMerge genesis before now) o × WritesCurrent o e) opened ended opening
     (ends, each_image moment leaves faults shows genesis false first last (OpensByMerge genesis before now) opened ended opening run handed.disks, merge_writes moment leaves faults before now opened ended result ends)
     (merge_fares moment leaves faults before now opened ended result ends) (run opening.left).left handed)

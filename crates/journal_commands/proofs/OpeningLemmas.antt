@@ -16,11 +16,12 @@ use Rattle.check_sign.specs.Opening.{Opening}
 use Rattle.check_sign.proofs.FaultLemmas.{either_back, later_none, later_on}
 use Rattle.command_line.specs.declared.planned.Plan.{Plan}
 use Rattle.command_line.specs.declared.planned.Plan.TheVariants as plan
-use Rattle.journal_commands.specs.Openings.{EachImage, HadDesk, OpenedLeaves, WritesCurrent}
+use Rattle.journal_commands.specs.Openings.{EachImage, HadDeskAt, OpenedLeaves, WritesCurrent}
 
 -- the chain of a plan, if it has one
 abbrev pub root_of : Root → Plan → Root
 root_of none (plan.Session genesis journal fork signer watch) = genesis
+root_of none (plan.Serve options) = options.genesis
 root_of none (plan.Merge genesis journal) = genesis
 root_of none (plan.Show genesis journal) = genesis
 root_of none (plan.Rehearse number size) = none
@@ -56,10 +57,10 @@ module _ {D : Type 0} (moment : D → ℕ) (leaves : D → ℕ → List ℕ → 
   pub fares_call : (old new : Seen D) (c : DeskCall) (r : DeskReply) → IsCallOf moment leaves faults old new c r → Fares faults old new
   fares_call old new c r call = record { genesis = call.counted.genesis; later = call.later; fails = call.fails }
 
-  pub had_desk : (shows : D → List ℕ → Type 0) (genesis : Root) (watch : Bool) (before now : Disks D) (events : List DeskEvent) (Ends : Seen D → Seen D → Type 0) (opened ended : Seen D)
-      → Opening shows moment leaves faults before genesis watch 0 opened → Ends opened ended → Fares faults opened ended → LeavesDesk moment leaves (disks_in ended) ended.contents → Handed ended now events
-      → HadDesk shows moment leaves faults genesis watch before now events Ends
-  had_desk shows genesis watch before now events Ends opened ended opening ends fares left handed =
+  pub had_desk : (shows : D → List ℕ → Type 0) (genesis : Root) (watch : Bool) (epoch : ℕ) (before now : Disks D) (events : List DeskEvent) (Ends : Seen D → Seen D → Type 0) (opened ended : Seen D)
+      → Opening shows moment leaves faults before genesis watch epoch opened → Ends opened ended → Fares faults opened ended → LeavesDesk moment leaves (disks_in ended) ended.contents → Handed ended now events
+      → HadDeskAt shows moment leaves faults genesis watch epoch before now events Ends
+  had_desk shows genesis watch epoch before now events Ends opened ended opening ends fares left handed =
       let L : Disks D → Type 0 = λ disks. LeavesDesk moment leaves disks ended.contents in
       let F : Disks D → Type 0 = λ disks. IsSome ended.contents.torn → EitherRose faults before disks in
       let N : Disks D → Type 0 = λ disks. FaultsLater faults before disks in

@@ -113,7 +113,7 @@ pub show_ended : {D : Type 0} (shows : D → List ℕ → Type 0) (moment : D �
     → ShowEnds shows moment leaves faults genesis first last before now events result
 show_ended shows moment leaves faults genesis first last before now events result opened ended opening ends handed =
     let run = show_leaves moment leaves faults opened ended genesis opening.opened.genesis_is ends.reply_is ends.called in
-    inr (had_desk moment leaves faults shows genesis false first last events
+    inr (had_desk moment leaves faults shows genesis false 0 first last events
     (λ o e. DeskShowEnds moment leaves faults before now o e result × EachImage shows moment leaves genesis first last (MayOpen genesis) o × WritesCurrent o e) opened ended opening
     (ends, each_image moment leaves faults shows genesis false first last (MayOpen genesis) opened ended opening run handed.disks, record { other = ends.called.disks.0; place = ends.called.disks.1 })
     (fares_call moment leaves faults opened ended call.Keys ends.reply_is ends.called) ends.called.left handed)

@@ -34,6 +34,7 @@ use Rattle.journal_commands.specs.declared.whole.WholeFault.TheVariants as whole
 abbrev pub IsMerge : Plan → Type 0
 IsMerge (plan.Merge genesis journal) = Unit {0}
 IsMerge (plan.Session genesis journal fork signer watch) = ⊥
+IsMerge (plan.Serve options) = ⊥
 IsMerge (plan.Show genesis journal) = ⊥
 IsMerge (plan.Rehearse number size) = ⊥
 IsMerge (plan.Shown text) = ⊥

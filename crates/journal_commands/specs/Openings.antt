@@ -63,11 +63,15 @@ pub record WritesCurrent {D : Type 0} (opened ended : Seen D) : Type 0 where
   pub other : ended.other ≡ opened.other
   pub place : ended.place ≡ opened.place
 
--- a desk was opened, at epoch 0, its keys watched or not, and ended
-pub record HadDesk {D : Type 0} (shows : D → List ℕ → Type 0) (moment : D → ℕ) (leaves : D → ℕ → List ℕ → Type 0) (faults : D → ℕ) (genesis : Root) (watch : Bool)
+-- a desk was opened, at this epoch, its keys watched or not, and ended
+pub record HadDeskAt {D : Type 0} (shows : D → List ℕ → Type 0) (moment : D → ℕ) (leaves : D → ℕ → List ℕ → Type 0) (faults : D → ℕ) (genesis : Root) (watch : Bool) (epoch : ℕ)
     (disks_before disks_now : Disks D) (events : List DeskEvent) (Ends : Seen D → Seen D → Type 0) : Type 0 where
   pub opened : Seen D
   pub ended : Seen D
-  pub opening : Opening shows moment leaves faults disks_before genesis watch 0 opened
+  pub opening : Opening shows moment leaves faults disks_before genesis watch epoch opened
   pub ends : Ends opened ended
   pub desk : DeskEnded moment leaves faults genesis disks_before disks_now ended events
+
+-- so at epoch 0
+abbrev pub HadDesk : {D : Type 0} → (D → List ℕ → Type 0) → (D → ℕ) → (D → ℕ → List ℕ → Type 0) → (D → ℕ) → Root → Bool → Disks D → Disks D → List DeskEvent → (Seen D → Seen D → Type 0) → Type 0
+HadDesk shows moment leaves faults genesis watch disks_before disks_now events Ends = HadDeskAt shows moment leaves faults genesis watch 0 disks_before disks_now events Ends

@@ -32,6 +32,7 @@ use Rattle.journal_commands.specs.Openings.{EachImage, HadDesk, NotOpened, Write
 abbrev pub IsShow : Plan → Type 0
 IsShow (plan.Show genesis journal) = Unit {0}
 IsShow (plan.Session genesis journal fork signer watch) = ⊥
+IsShow (plan.Serve options) = ⊥
 IsShow (plan.Merge genesis journal) = ⊥
 IsShow (plan.Rehearse number size) = ⊥
 IsShow (plan.Shown text) = ⊥

@@ -8,4 +8,6 @@ mod key_lines;
 #[cfg(test)]
 mod lines;
 #[cfg(test)]
+mod serve_words;
+#[cfg(test)]
 mod words;

@@ -20,7 +20,7 @@ const GENESIS_IS_ROOT: &str =
 const FORK: &str = "0x01000000:0x02000000:18446744073709551615";
 
 /// The answer to the words behind the program's name.
-fn answer(alloc: Global, words: &[&str]) -> Result<Result<Plan, Usage>, AllocError> {
+pub(crate) fn answer(alloc: Global, words: &[&str]) -> Result<Result<Plan, Usage>, AllocError> {
     let mut list = Vec::new(alloc);
     list.push(String::from_str(alloc, "validator")?)?;
     for word in words {
@@ -133,7 +133,7 @@ fn journals_have_their_paths(rt: HostRuntime) -> Result<(), Fail> {
 /// Words behind the program's name that are no command, each with a piece of what is told.
 const FAULTY: [(&[&str], &str); 29] = [
     (&[], "requires a subcommand"),
-    (&["serve"], "unrecognized subcommand 'serve'"),
+    (&["sign"], "unrecognized subcommand 'sign'"),
     (&["session"], "not provided:\n  --genesis <HEX32>"),
     (
         &["session", "--genesis"],
@@ -240,7 +240,7 @@ const FAULTY: [(&[&str], &str); 29] = [
         &["show", GENESIS_IS_ROOT, "--journal=keys", "--fork", FORK],
         "unexpected argument '--fork'",
     ),
-    (&["help", "serve"], "unrecognized subcommand 'serve'"),
+    (&["help", "sign"], "unrecognized subcommand 'sign'"),
     (&["rehearse", "1", "1"], "not provided:\n  <STEPS>"),
     (
         &["rehearse", "1", "17", "0"],
@@ -287,6 +287,7 @@ Usage: validator <COMMAND>
 
 Commands:
   session   Answers signing requests, one JSON object a line, from standard input
+  serve     Does the duties of its keys and answers the Keymanager API
   merge     Merges the interchange file (EIP-3076) on the input into a journal
   show      Prints what each key of a journal has
   rehearse  Plays clients that vote, hand keys over, stop and prune, and counts slashable pairs
@@ -309,6 +310,27 @@ Options of session:
           which the second holds, in decimal [default: 0x00000000:0x00000000:0]
       --watch
           A key that becomes active signs only once it was told not live in the two epochs after
+
+Options of serve:
+      --genesis <HEX32>
+          Genesis validators root of the chain: 0x and 64 hex digits [required]
+      --journal <PATH>
+          Remembers over restarts, in PATH.a and PATH.b [required]
+      --signer <URL>
+          Signing service (Web3Signer), as http://127.0.0.1:9000 [required]
+      --listen <ADDR:PORT>
+          Where the Keymanager API is served, as 127.0.0.1:5062 or localhost:5062 [required]
+      --token <TEXT>
+          Requests of the Keymanager API must carry it: 1 to 256 characters from ! to ~ [required]
+      --watch
+          A key that becomes active signs only once it was told not live in the two epochs after
+      --slots <N>
+          Duties end after so many slots; for tests and scripts [default: no end]
+      --connections <N>
+          The Keymanager API ends after so many connections; for tests and scripts
+          [default: no end]
+      <NODE>...
+          Beacon nodes, as http://127.0.0.1:5052, one or more, behind the options [required]
 
 Options of merge and show:
       --genesis <HEX32>

@@ -22,6 +22,8 @@ closing_status closing.DiskFault = status.DiskFault
 closing_status (closing.TooLong l) = status.InputTooLong l
 closing_status (closing.Damaged file offset byte) = status.Damaged
 closing_status (closing.GenesisDiffers kept given) = status.GenesisDiffers
+closing_status (closing.NoNode causes) = status.NoNode
+closing_status closing.DoorFault = status.DoorFault
 closing_status (closing.FileRefused r) = status.FileRefused
 closing_status (closing.Usage line) = status.Usage
 
@@ -58,6 +60,8 @@ closing_words closing.DiskFault = codes "disk fault"
 closing_words (closing.TooLong l) = codes "input too long: limit " ++ decimal (limit_number l)
 closing_words (closing.Damaged file offset byte) = damaged_words file ++ (decimal offset ++ (codes ": " ++ byte_words byte))
 closing_words (closing.GenesisDiffers kept given) = codes "genesis differs: kept " ++ (hex_text kept.0 ++ (codes ", given " ++ hex_text given.0))
+closing_words (closing.NoNode causes) = codes "no node: " ++ string_bytes causes
+closing_words closing.DoorFault = codes "door fault"
 closing_words (closing.FileRefused r) = codes "file refused: " ++ refusal_words r
 closing_words (closing.Usage line) = string_bytes line
 
@@ -72,5 +76,7 @@ TakesMemory closing.DiskFault = ⊥
 TakesMemory (closing.TooLong l) = ⊥
 TakesMemory (closing.Damaged file offset byte) = Unit {0}
 TakesMemory (closing.GenesisDiffers kept given) = Unit {0}
+TakesMemory (closing.NoNode causes) = Unit {0}
+TakesMemory closing.DoorFault = ⊥
 TakesMemory (closing.FileRefused r) = Unit {0}
 TakesMemory (closing.Usage line) = Unit {0}

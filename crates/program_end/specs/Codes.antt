@@ -13,4 +13,6 @@ status_code status.Damaged = 6
 status_code status.GenesisDiffers = 7
 status_code status.OutOfMemory = 8
 status_code (status.InputTooLong l) = 9
+status_code status.NoNode = 10
+status_code status.DoorFault = 11
 status_code status.FileRefused = 12

@@ -27,11 +27,16 @@ pub enum ClosingLine {
         /// The byte there; none at its end.
         byte: Option<u8>,
     },
-    /// The journal is of another chain: the genesis validators root that it has, and the one that was given.
+    /// Two parts are of different chains: the genesis validators root that the journal, or this client, has, and
+    /// the one that was given in the words, by the file or by the node.
     GenesisDiffers {
         kept: Root,
         given: Root,
     },
+    /// No beacon node gave what is needed to begin: the cause at each, in the order of the nodes, joined by `, `.
+    NoNode(String),
+    /// The door failed.
+    DoorFault,
     /// The file that was to be merged is refused.
     FileRefused(FileRefusal),
     /// The words are no command, as this line says.
@@ -49,6 +54,8 @@ impl ClosingLine {
             ClosingLine::TooLong(limit) => Status::InputTooLong(*limit),
             ClosingLine::Damaged { .. } => Status::Damaged,
             ClosingLine::GenesisDiffers { .. } => Status::GenesisDiffers,
+            ClosingLine::NoNode(_) => Status::NoNode,
+            ClosingLine::DoorFault => Status::DoorFault,
             ClosingLine::FileRefused(_) => Status::FileRefused,
             ClosingLine::Usage(_) => Status::Usage,
         }
@@ -76,14 +83,16 @@ impl ClosingLine {
             ClosingLine::ReadFault => unreachable!(),
             ClosingLine::DiskFault => unreachable!(),
             ClosingLine::TooLong(_) => unreachable!(),
+            ClosingLine::DoorFault => unreachable!(),
             ClosingLine::Damaged { file, offset, byte } => damaged(alloc, *file, *offset, *byte),
             ClosingLine::GenesisDiffers { kept, given } => genesis_differs(alloc, kept, given),
+            ClosingLine::NoNode(causes) => no_node(alloc, causes.as_str()),
             ClosingLine::FileRefused(refusal) => file_refused(alloc, refusal),
             ClosingLine::Usage(line) => line.clone(),
         }
     }
 
-    /// The bytes of a line that takes no memory: of a fault of the input or the disk, or of a limit.
+    /// The bytes of a line that takes no memory: of a fault of the input, the disk or the door, or of a limit.
     #[tactic(auto, unfolding(crate::specs::Closing::closing_text))]
     pub(crate) fn constant(&self) -> Option<&'static str>
         ensures text { IfSome result (λ text. text.now ≡ closing_text self.now) }
@@ -95,6 +104,8 @@ impl ClosingLine {
             ClosingLine::TooLong(limit) => Some(too_long_line(*limit)),
             ClosingLine::Damaged { .. } => None,
             ClosingLine::GenesisDiffers { .. } => None,
+            ClosingLine::NoNode(_) => None,
+            ClosingLine::DoorFault => Some("validator: door fault\n"),
             ClosingLine::FileRefused(_) => None,
             ClosingLine::Usage(_) => None,
         }
@@ -144,6 +155,12 @@ fn genesis_differs(alloc: Global, kept: &Root, given: &Root) -> Result<String, A
     let kept = kept.as_str();
     let given = given.as_str();
     format!(in alloc; "genesis differs: kept {kept}, given {given}")
+}
+
+fn no_node(alloc: Global, causes: &str) -> Result<String, AllocError>
+    ensures { IfOk result (λ text. string_bytes text ≡ codes "no node: " ++ causes.now) }
+{
+    format!(in alloc; "no node: {causes}")
 }
 
 fn file_refused(alloc: Global, refusal: &FileRefusal) -> Result<String, AllocError>

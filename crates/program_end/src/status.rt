@@ -19,12 +19,16 @@ pub enum Status {
     DiskFault,
     /// The journal is damaged.
     Damaged,
-    /// The journal or the file is of a chain with another root of genesis validators.
+    /// The journal, the file or the beacon node is of a chain with another root of genesis validators.
     GenesisDiffers,
     /// Memory ran out.
     OutOfMemory,
     /// The input passed a limit.
     InputTooLong(Limit),
+    /// No beacon node gave what is needed to begin.
+    NoNode,
+    /// The door, at which connections come in, failed.
+    DoorFault,
     /// The file that was to be merged is refused.
     FileRefused,
 }
@@ -44,6 +48,8 @@ impl Status {
             Status::GenesisDiffers => 7,
             Status::OutOfMemory => 8,
             Status::InputTooLong(_) => 9,
+            Status::NoNode => 10,
+            Status::DoorFault => 11,
             Status::FileRefused => 12,
         }
     }

@@ -28,7 +28,7 @@ pub fn write_all<O: Sink>(out: &mut O, bytes: &[u8]) -> Result<(), Failed>
 
 /// Closes the output by the line, and gives its status: `WriteFault` in its place where the sink's count of
 /// faults rose, and a front of the line was written; `OutOfMemory` where nothing was written, which does not
-/// come for a fault of the input or the disk, nor for a limit.
+/// come for a fault of the input, the disk or the door, nor for a limit.
 pub fn close<O: Sink>(alloc: Global, out: &mut O, line: &ClosingLine) -> Status
     ensures closes { Closes line.now (O.held out.old) (O.held out.new) (O.faults out.old) (O.faults out.new) result }
     ensures later { O.faults out.old ≤ O.faults out.new }

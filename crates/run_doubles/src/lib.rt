@@ -6,7 +6,7 @@ mod plays;
 mod scripts;
 
 pub use outside::{
-    Ended, Faults, KeepingSigner, Unused, disks_after, disks_of, fresh_disks, no_faults, play,
+    Ended, Faults, KeepingSigner, disks_after, disks_of, fresh_disks, no_faults, play,
     ready_signer, run,
 };
 pub use plays::{SESSION, came_to};

@@ -1,7 +1,8 @@
 //! What stands for the outside in a test.
 use check_sign::Events;
 use edge_clock::MemClock;
-use edge_kit::{Disks, Door, MemDisk, MemSink, MemSource, PubKey, Sig};
+use edge_kit::{Disks, MemDisk, MemDoor, MemSink, MemSource, PubKey, Sig};
+use node_calls::MemNode;
 use signer_link::{
     DeleteReply, ImportReply, MemSigner, PlainRequest, SignReply, SignRequest, Signer,
 };
@@ -10,19 +11,7 @@ use std::alloc::{AllocError, Global};
 use std::sync::Wait;
 use std::thread::Threads;
 use test_texts::{filled, is_text, words_of};
-use validator_cli::{Node, Status, run_validator};
-
-/// What no command uses yet.
-#[derive(Clone, Copy, Drop)]
-pub struct Unused;
-
-impl Door for Unused {
-    ghost faults = { λ _. 0 };
-}
-
-impl Node for Unused {
-    ghost faults = { λ _. 0 };
-}
+use validator_cli::{Status, run_validator};
 
 /// Signs everything with the same 96 bytes `77`, and keeps the requests.
 #[derive(Drop)]
@@ -160,7 +149,8 @@ pub fn run<T: Threads + Wait + Sync, S: Signer + Drop>(
     } = faults;
     let mut source = MemSource::new(Vec::from_slice(alloc, input)?, reads);
     let mut sink = MemSink::new(alloc, room, writes)?;
-    let nodes: Vec<Unused> = Vec::new(alloc);
+    let nodes: Vec<MemNode> = Vec::new(alloc);
+    let door = MemDoor::new(alloc, Vec::new(alloc), Vec::new(alloc))?;
     let ending = run_validator(
         rt,
         alloc,
@@ -169,7 +159,7 @@ pub fn run<T: Threads + Wait + Sync, S: Signer + Drop>(
         signer,
         nodes,
         MemClock::new(0, Vec::new(alloc)),
-        Unused,
+        door,
         &mut source,
         &mut sink,
     );

@@ -252,6 +252,8 @@ module _ {D : Type 0} (moment : D → ℕ) (leaves : D → ℕ → List ℕ → 
           takes_none (closing.TooLong l) why takes same = absurd takes
           takes_none (closing.Damaged file offset byte) why takes same = absurd why
           takes_none (closing.GenesisDiffers kept given) why takes same = absurd why
+          takes_none (closing.NoNode causes) why takes same = absurd why
+          takes_none closing.DoorFault why takes same = absurd takes
           takes_none (closing.FileRefused r) why takes same = absurd why
           takes_none (closing.Usage line) why takes same = absurd why
 

@@ -39,6 +39,8 @@ Because faults turns bench_before bench_now before now closing.DiskFault =
     EitherRose faults (disks_in bench_before.desk) (disks_in bench_now.desk) × IsSome bench_now.desk.contents.torn × ReadsFirst before.left now.left turns
 Because faults turns bench_before bench_now before now (closing.Damaged file offset byte) = ⊥
 Because faults turns bench_before bench_now before now (closing.GenesisDiffers kept given) = ⊥
+Because faults turns bench_before bench_now before now (closing.NoNode causes) = ⊥
+Because faults turns bench_before bench_now before now closing.DoorFault = ⊥
 Because faults turns bench_before bench_now before now (closing.FileRefused r) = ⊥
 Because faults turns bench_before bench_now before now (closing.Usage line) = ⊥
 
@@ -94,6 +96,8 @@ EndsBy faults turns line steps bench_before mid bench_now before now status.OutO
 EndsBy faults turns line steps bench_before mid bench_now before now status.Usage = ⊥
 EndsBy faults turns line steps bench_before mid bench_now before now status.Damaged = ⊥
 EndsBy faults turns line steps bench_before mid bench_now before now status.GenesisDiffers = ⊥
+EndsBy faults turns line steps bench_before mid bench_now before now status.NoNode = ⊥
+EndsBy faults turns line steps bench_before mid bench_now before now status.DoorFault = ⊥
 EndsBy faults turns line steps bench_before mid bench_now before now status.FileRefused = ⊥
 
 -- all calls of the desk: those of the turns, and those of the line that is not answered

@@ -1,13 +1,21 @@
--- The signing service that is asked for.
-use Rattle.std.specs.Prelude.{Option, None}
+-- The services that are asked for, and where connections are taken.
+use Rattle.std.specs.Prelude.{List, [], Option, None, Some}
 use Rattle.service_url.specs.Services.{Service}
-use Rattle.command_line.specs.Plans.{Asked, session, merge, show, rehearse, shown, nothing}
+use Rattle.command_line.specs.Plans.{Asked, session, serve}
+use Rattle.command_line.specs.declared.listen_address.ListenAddress.{ListenAddress}
 
 -- the signing service that is asked for, if one is
 abbrev pub signer_of : Asked → Option Service
 signer_of (session genesis journal fork signer watch) = signer
-signer_of (merge genesis path) = None
-signer_of (show genesis path) = None
-signer_of (rehearse number clients steps) = None
-signer_of shown = None
-signer_of nothing = None
+signer_of (serve options) = Some options.signer
+signer_of asked = None
+
+-- the beacon nodes that are asked for, in their order
+abbrev pub nodes_of : Asked → List Service
+nodes_of (serve options) = options.nodes
+nodes_of asked = []
+
+-- where connections are taken, if anywhere
+abbrev pub listen_of : Asked → Option ListenAddress
+listen_of (serve options) = Some options.listen
+listen_of asked = None

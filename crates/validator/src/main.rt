@@ -1,36 +1,41 @@
 //! The validator client: the real objects, and the top call.
 #![tactic(auto)]
 
-ghost use Rattle.std.specs.Prelude.{◌≡◌, [], IfOk, Ok, codes, map, option_map, string_bytes, ◌++◌};
+ghost use Rattle.std.specs.Prelude.{◌≡◌, [], IfOk, Ok, Some, codes, map, option_map, string_bytes, ◌++◌};
 ghost use Rattle.edge_kit.specs.OnMemDisks.{disk_bytes};
 ghost use Rattle.command_line.specs.Plans.{asked_of, taken_as};
 ghost use Rattle.validator.specs.Files.{files_at, files_of};
-ghost use Rattle.validator.specs.Services.{signer_of};
+ghost use Rattle.validator.specs.Services.{listen_of, nodes_of, signer_of};
 
+use beacon_node::BeaconNode;
+use command_line::{ListenAddress, ServeOptions};
 use edge_clock::SystemClock;
-use edge_kit::{Disk, Disks, Door, FileDisk, MemDisk, Reading, TcpLink, Writing};
+use edge_kit::{Disk, Disks, Door, MemDisk};
+use edge_system::{FileDisk, Reading, TcpDoor, TcpLink, Writing};
+use node_calls::Node;
 use service_url::ServiceUrl;
 use signer_link::{MemSigner, Signer};
 use std::alloc::{AllocError, Global};
+use std::io::Eprint;
 use std::net::Net;
 use std::process::ExitCode;
 use std::rt::{Clock, Env};
 use std::sync::Wait;
 use std::thread::Threads;
 use std::{env, io};
-use validator_cli::{Node, Plan, Status, plan, run_validator};
+use validator_cli::{Plan, Status, plan, run_validator};
 use web3_signer::Web3Signer;
 
-/// What no command uses yet.
-#[derive(Clone, Copy, Drop)]
-struct Unused;
-
-impl Door for Unused {
-    ghost faults = { λ _. 0 };
-}
-
-impl Node for Unused {
-    ghost faults = { λ _. 0 };
+/// What words name of the outside.
+struct Places {
+    /// The paths of the two files of the journal, if they name one.
+    files: Option<(String, String)>,
+    /// The address of the signing service, if they name one.
+    signer: Option<ServiceUrl>,
+    /// The addresses of the beacon nodes, in their order.
+    nodes: Vec<ServiceUrl>,
+    /// Where connections are taken, if anywhere.
+    listen: Option<ListenAddress>,
 }
 
 /// The words of the command line. Where one is no UTF-8 there are none, which is no command.
@@ -47,31 +52,82 @@ fn words<R: Env + AllocGlobal>(rt: &R) -> Result<Vec<String>, AllocError> {
     Ok(words)
 }
 
-/// What the words name of the outside: the paths of the two files of the journal, if they name one, and the
-/// address of the signing service, if they name one.
-fn named(
-    alloc: Global,
-    words: &[String],
-) -> Result<(Option<(String, String)>, Option<ServiceUrl>), AllocError>
-    ensures files { IfOk result (λ x. option_map (λ f. (string_bytes f.0, string_bytes f.1)) x.0 ≡ files_of (asked_of (map string_bytes words.now))) }
-    ensures signer { IfOk result (λ x. x.1 ≡ signer_of (asked_of (map string_bytes words.now))) }
+/// What the words name of the outside.
+fn named(alloc: Global, words: &[String]) -> Result<Places, AllocError>
+    ensures files { IfOk result (λ x. option_map (λ f. (string_bytes f.0, string_bytes f.1)) x.files ≡ files_of (asked_of (map string_bytes words.now))) }
+    ensures signer { IfOk result (λ x. x.signer ≡ signer_of (asked_of (map string_bytes words.now))) }
+    ensures nodes { IfOk result (λ x. x.nodes.items ≡ nodes_of (asked_of (map string_bytes words.now))) }
+    ensures listen { IfOk result (λ x. x.listen ≡ listen_of (asked_of (map string_bytes words.now))) }
 {
     match plan(alloc, words)? {
-        Ok(plan) => {
-            let files = plan_files(alloc, &plan)?;
-            Ok((files, plan_signer(plan)))
-        }
-        Err(_) => Ok((None, None)),
+        Ok(plan) => named_by(alloc, plan),
+        Err(_) => Ok(Places {
+            files: None,
+            signer: None,
+            nodes: Vec::new(alloc),
+            listen: None,
+        }),
     }
 }
 
-/// The address of a plan's signing service, if it has one.
-fn plan_signer(plan: Plan) -> Option<ServiceUrl>
-    ensures { result ≡ signer_of (taken_as (Ok plan)) }
+/// What a plan names of the outside.
+fn named_by(alloc: Global, plan: Plan) -> Result<Places, AllocError>
+    ensures files { IfOk result (λ x. option_map (λ f. (string_bytes f.0, string_bytes f.1)) x.files ≡ files_of (taken_as (Ok plan))) }
+    ensures signer { IfOk result (λ x. x.signer ≡ signer_of (taken_as (Ok plan))) }
+    ensures nodes { IfOk result (λ x. x.nodes.items ≡ nodes_of (taken_as (Ok plan))) }
+    ensures listen { IfOk result (λ x. x.listen ≡ listen_of (taken_as (Ok plan))) }
+{
+    let files = plan_files(alloc, &plan)?;
+    Ok(places_in(alloc, files, plan))
+}
+
+/// What a plan names of the outside, beside these paths.
+fn places_in(alloc: Global, files: Option<(String, String)>, plan: Plan) -> Places
+    ensures files { result.files ≡ files }
+    ensures signer { result.signer ≡ signer_of (taken_as (Ok plan)) }
+    ensures nodes { result.nodes.items ≡ nodes_of (taken_as (Ok plan)) }
+    ensures listen { result.listen ≡ listen_of (taken_as (Ok plan)) }
 {
     match plan {
-        Plan::Session { signer, .. } => signer,
-        _ => None,
+        Plan::Serve(options) => places_of(files, options),
+        Plan::Session { signer, .. } => Places {
+            files,
+            signer,
+            nodes: Vec::new(alloc),
+            listen: None,
+        },
+        _ => Places {
+            files,
+            signer: None,
+            nodes: Vec::new(alloc),
+            listen: None,
+        },
+    }
+}
+
+/// What the options of a server name of the outside, beside these paths.
+fn places_of(files: Option<(String, String)>, options: ServeOptions) -> Places
+    ensures files { result.files ≡ files }
+    ensures signer { result.signer ≡ Some options.signer }
+    ensures nodes { result.nodes.items ≡ options.nodes }
+    ensures listen { result.listen ≡ Some options.listen }
+{
+    let ServeOptions {
+        genesis: _genesis,
+        journal: _journal,
+        signer,
+        listen,
+        token: _token,
+        watch: _watch,
+        slots: _slots,
+        connections: _connections,
+        nodes,
+    } = options;
+    Places {
+        files,
+        signer: Some(signer),
+        nodes: nodes.into_vec(),
+        listen: Some(listen),
     }
 }
 
@@ -84,6 +140,7 @@ fn plan_files(alloc: Global, plan: &Plan) -> Result<Option<(String, String)>, Al
             Some(path) => path.as_str(),
             None => return Ok(None),
         },
+        Plan::Serve(options) => options.journal.as_str(),
         Plan::Merge { journal, .. } | Plan::Show { journal, .. } => journal.as_str(),
         Plan::Rehearse { .. } | Plan::Shown(_) => return Ok(None),
     };
@@ -119,37 +176,126 @@ fn memory_disks(alloc: Global) -> Result<Disks<MemDisk>, AllocError>
     })
 }
 
-/// A run of the words over these disks, with the signing service at this address, or with a signer in
-/// memory where there is none.
-fn run_signing<R: Threads + Wait + Sync + Input + Print + Net + Clock, D: Disk + Drop>(
+/// A link to a service, which is not yet connected.
+fn link_to<'a, R: Net + Eprint>(
+    rt: &'a R,
+    alloc: Global,
+    service: &ServiceUrl,
+) -> Result<TcpLink<&'a R>, AllocError> {
+    let host = String::from_str(alloc, service.dial_host())?;
+    Ok(TcpLink::new(alloc, rt, host, service.port()))
+}
+
+/// The beacon nodes at these addresses, in their order.
+fn nodes_at<'a, R: Net + Eprint>(
+    rt: &'a R,
+    alloc: Global,
+    services: Vec<ServiceUrl>,
+) -> Result<Vec<BeaconNode<TcpLink<&'a R>>>, AllocError> {
+    let mut nodes = Vec::new(alloc);
+    'services: for service in services {
+        let link = link_to(rt, alloc, &service)?;
+        nodes.push(BeaconNode::new(link, service))?;
+    }
+    Ok(nodes)
+}
+
+/// The door at an address; where there is none, one that is never opened.
+fn door_at<'a, R: Net + Eprint>(
+    rt: &'a R,
+    alloc: Global,
+    listen: Option<ListenAddress>,
+) -> Result<TcpDoor<&'a R>, AllocError> {
+    let (host, port) = match listen {
+        Some(address) => {
+            let host = address.host;
+            (format!(in alloc; "{host}")?, address.port)
+        }
+        None => (String::new(alloc), 0),
+    };
+    Ok(TcpDoor::new(alloc, rt, host, port))
+}
+
+/// A run of the words over these disks, with the services that they name; with a signer in memory where they name none.
+fn run_signing<R: Threads + Wait + Sync + Input + Print + Eprint + Net + Clock, D: Disk + Drop>(
     rt: &R,
     alloc: Global,
     words: &[String],
     disks: Disks<D>,
     service: Option<ServiceUrl>,
+    nodes: Vec<ServiceUrl>,
+    listen: Option<ListenAddress>,
 ) -> Status {
     let Some(service) = service else {
         let signer = MemSigner::new(alloc, Vec::new(alloc), Vec::new(alloc));
-        return run(rt, alloc, words, disks, signer);
+        return run_asking(rt, alloc, words, disks, signer, nodes, listen);
     };
-    let Ok(host) = String::from_str(alloc, service.dial_host()) else {
+    let Ok(link) = link_to(rt, alloc, &service) else {
         return Status::OutOfMemory;
     };
-    let link = TcpLink::new(alloc, rt, host, service.port());
-    run(rt, alloc, words, disks, Web3Signer::new(link, service))
+    let signer = Web3Signer::new(link, service);
+    run_asking(rt, alloc, words, disks, signer, nodes, listen)
 }
 
-/// A run of the words over these disks, with this signer.
-fn run<R: Threads + Wait + Sync + Input + Print + Clock, D: Disk + Drop, S: Signer + Drop>(
+/// A run of the words over these disks, with this signer, beacon nodes at these addresses, and a door at that.
+fn run_asking<
+    R: Threads + Wait + Sync + Input + Print + Eprint + Net + Clock,
+    D: Disk + Drop,
+    S: Signer + Drop,
+>(
     rt: &R,
     alloc: Global,
     words: &[String],
     disks: Disks<D>,
     signer: S,
+    nodes: Vec<ServiceUrl>,
+    listen: Option<ListenAddress>,
 ) -> Status {
-    let mut input = Reading::new(rt.reader());
-    let mut output = Writing::new(io::writer(rt));
-    let nodes: Vec<Unused> = Vec::new(alloc);
+    match nodes_at(rt, alloc, nodes) {
+        Ok(nodes) => run_listening(rt, alloc, words, disks, signer, nodes, listen),
+        Err(AllocError) => Status::OutOfMemory,
+    }
+}
+
+/// A run of the words over these disks, with this signer and these nodes, and a door at this address.
+fn run_listening<
+    R: Threads + Wait + Sync + Input + Print + Eprint + Net + Clock,
+    D: Disk + Drop,
+    S: Signer + Drop,
+    N: Node + Drop,
+>(
+    rt: &R,
+    alloc: Global,
+    words: &[String],
+    disks: Disks<D>,
+    signer: S,
+    nodes: Vec<N>,
+    listen: Option<ListenAddress>,
+) -> Status {
+    match door_at(rt, alloc, listen) {
+        Ok(door) => run(rt, alloc, words, disks, signer, nodes, door),
+        Err(AllocError) => Status::OutOfMemory,
+    }
+}
+
+/// A run of the words over these objects.
+fn run<
+    R: Threads + Wait + Sync + Input + Print + Eprint + Clock,
+    D: Disk + Drop,
+    S: Signer + Drop,
+    N: Node + Drop,
+    E: Door + Drop,
+>(
+    rt: &R,
+    alloc: Global,
+    words: &[String],
+    disks: Disks<D>,
+    signer: S,
+    nodes: Vec<N>,
+    door: E,
+) -> Status {
+    let mut input = Reading::new(rt.reader(), rt);
+    let mut output = Writing::new(io::writer(rt), rt);
     let ending = run_validator(
         rt,
         alloc,
@@ -158,7 +304,7 @@ fn run<R: Threads + Wait + Sync + Input + Print + Clock, D: Disk + Drop, S: Sign
         signer,
         nodes,
         SystemClock::new(rt),
-        Unused,
+        door,
         &mut input,
         &mut output,
     );
@@ -166,24 +312,35 @@ fn run<R: Threads + Wait + Sync + Input + Print + Clock, D: Disk + Drop, S: Sign
 }
 
 /// The status of a run whose words are known: over the files of the journal that they name, else over disks
-/// in memory; and with the signing service that they name, else with a signer in memory.
+/// in memory; and with the services that they name.
 fn main(rt: HostRuntime) -> ExitCode {
     let alloc = rt.alloc();
     let Ok(words) = words(&rt) else {
         return ExitCode::from(Status::OutOfMemory.code());
     };
-    let Ok((files, service)) = named(alloc, words.as_slice()) else {
+    let Ok(
+        Places {
+            files,
+            signer,
+            nodes,
+            listen,
+        },
+    ) = named(alloc, words.as_slice())
+    else {
         return ExitCode::from(Status::OutOfMemory.code());
     };
+    let words = words.as_slice();
     if let Some((first, second)) = files {
         let disks = Disks {
             first: FileDisk::new(&rt, first),
             second: FileDisk::new(&rt, second),
         };
-        return ExitCode::from(run_signing(&rt, alloc, words.as_slice(), disks, service).code());
+        let status = run_signing(&rt, alloc, words, disks, signer, nodes, listen);
+        return ExitCode::from(status.code());
     }
     let Ok(disks) = memory_disks(alloc) else {
         return ExitCode::from(Status::OutOfMemory.code());
     };
-    ExitCode::from(run_signing(&rt, alloc, words.as_slice(), disks, service).code())
+    let status = run_signing(&rt, alloc, words, disks, signer, nodes, listen);
+    ExitCode::from(status.code())
 }

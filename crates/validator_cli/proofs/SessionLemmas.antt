@@ -24,6 +24,7 @@ use Rattle.validator_cli.specs.Endings.{Outside, IsSessionComplete, SessionEnds,
 -- the domains of a plan, if it has any
 abbrev pub domains_of : Domains → Plan → Domains
 domains_of none (plan.Session genesis journal fork signer watch) = record { fork = fork; genesis = genesis }
+domains_of none (plan.Serve options) = none
 domains_of none (plan.Merge genesis journal) = none
 domains_of none (plan.Show genesis journal) = none
 domains_of none (plan.Rehearse number size) = none
@@ -32,6 +33,7 @@ domains_of none (plan.Shown text) = none
 -- whether keys are watched by a plan, if it says
 abbrev pub watch_of : Bool → Plan → Bool
 watch_of none (plan.Session genesis journal fork signer watch) = watch
+watch_of none (plan.Serve options) = none
 watch_of none (plan.Merge genesis journal) = none
 watch_of none (plan.Show genesis journal) = none
 watch_of none (plan.Rehearse number size) = none
@@ -58,7 +60,7 @@ module _ {D : Type 0} (shows : D → List ℕ → Type 0) (moment : D → ℕ) (
 
   module _ (watch : Bool) (first last : Disks D) (events : List DeskEvent) (opening : Opening shows moment leaves faults first domains.genesis watch 0 opened) (handed : Handed ended last events) (ends : Served result) where
     pub session_ended : LeavesDesk moment leaves (disks_in ended) ended.contents → SessionEnds shows moment leaves faults domains watch first last before now events result
-    session_ended left = inr (had_desk moment leaves faults shows domains.genesis watch first last events
+    session_ended left = inr (had_desk moment leaves faults shows domains.genesis watch 0 first last events
         (λ o e. Ends moment leaves faults domains (bench_at o before) (bench_at e now) (wires_of before.view) (wires_of now.view) result) opened ended opening ends
         (fares_as faults opened ended (ends_fares moment leaves faults domains (bench_at opened before) (bench_at ended now) (wires_of before.view) (wires_of now.view) result ends)) left handed)
 
@@ -82,6 +84,8 @@ module _ {D : Type 0} (shows : D → List ℕ → Type 0) (moment : D → ℕ) (
       at status.Damaged is = tt
       at status.GenesisDiffers is = tt
       at status.Usage is = absurd (subst Served is ends).ends
+      at status.NoNode is = absurd (subst Served is ends).ends
+      at status.DoorFault is = absurd (subst Served is ends).ends
       at status.FileRefused is = absurd (subst Served is ends).ends
       at status.ReadFault is = absurd (reads (session_read is))
       at status.WriteFault is = absurd (writes (session_write is))

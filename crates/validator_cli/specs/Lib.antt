@@ -1,2 +1,3 @@
 pub mod Rehearsing
 pub mod Endings
+pub mod Clients

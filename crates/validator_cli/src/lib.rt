@@ -2,16 +2,15 @@
 #![tactic(auto)]
 
 mod ending;
-mod node;
 mod rehearse;
 mod run;
+mod serve;
 mod session;
 mod usage;
 
 pub use command_line::{Plan, ShownText, Usage, plan};
 pub use ending::{Ending, LaneEnd};
 pub use journal_commands::{run_merge, run_show};
-pub use node::Node;
 pub use program_end::{Limit, Status};
 pub use rehearse::run_rehearse;
 pub use run::run_validator;

@@ -2,13 +2,17 @@
 ghost use Rattle.std.specs.Prelude.{◌≡◌, ◌⊎◌, ◌≤◌, ℕ, List, [], map, string_bytes};
 ghost use Rattle.edge_kit.specs.Causes.{Rose};
 ghost use Rattle.record_journal.specs.TwoDisks.{EitherRose};
-ghost use Rattle.command_line.specs.Plans.{asked_of, nothing};
+ghost use Rattle.keymanager_loop.specs.Doors.{link_seen};
+ghost use Rattle.command_line.specs.Plans.{asked_of, nothing, serve};
+ghost use Rattle.command_line.specs.declared.serve_options.ServeOptions.{ServeOptions};
 ghost use Rattle.journal_commands.specs.Views.{Unwritten, output_of};
-ghost use Rattle.validator_cli.specs.Endings.{Causes, IsComplete, IsWithin, NoCommand, RunEnds, outside_of};
+ghost use Rattle.serve_run.specs.Ends.{Because};
+ghost use Rattle.validator_cli.specs.Clients.{ClientRuns, parts_of};
+ghost use Rattle.validator_cli.specs.Endings.{Causes, IsComplete, IsOther, IsWithin, NoCommand, RunEnds, outside_of};
 
 use crate::ending::Ending;
-use crate::node::Node;
 use crate::rehearse::run_rehearse;
+use crate::serve::{is_serve, run_client};
 use crate::session::run_session;
 use crate::usage::usage_line;
 use check_sign::Events;
@@ -16,6 +20,7 @@ use command_line::{Plan, Usage, plan};
 use edge_clock::Clock;
 use edge_kit::{Disk, Disks, Door, Sink, Source};
 use journal_commands::{run_merge, run_show};
+use node_calls::Node;
 use program_end::{ClosingLine, Status, close, finish};
 use signer_link::Signer;
 use std::alloc::{AllocError, Global};
@@ -28,25 +33,29 @@ pub fn run_validator<
     T: Threads + Wait + Sync,
     D: Disk,
     S: Signer,
-    N: Node,
+    N: Node + Drop,
     C: Clock + Drop,
     R: Door,
     I: Source,
     O: Sink,
 >(
-    _rt: &T,
+    rt: &T,
     alloc: Global,
     words: &[String],
     disks: Disks<D>,
     signer: S,
     nodes: Vec<N>,
-    _clock: C,
+    clock: C,
     door: R,
     input: &mut I,
     out: &mut O,
 ) -> Ending<D, S, N, R>
-    ensures ending { RunEnds D.shows D.moment D.leaves D.faults (asked_of (map string_bytes words.now)) disks result.disks
+    ensures ending { IsOther (asked_of (map string_bytes words.now)) → RunEnds D.shows D.moment D.leaves D.faults (asked_of (map string_bytes words.now)) disks result.disks
         (outside_of I.left I.faults O.held O.faults S.told S.faults S.denials input.old out.old signer) (outside_of I.left I.faults O.held O.faults S.told S.faults S.denials input.new out.new result.signer) result.events result.status }
+    ensures serves { (options : ServeOptions) → asked_of (map string_bytes words.now) ≡ serve options
+        → ClientRuns D.shows D.moment D.leaves D.faults (link_seen R.Conn.left R.Conn.held R.Conn.faults) (C.start clock) options disks result.disks
+        (parts_of S.told S.faults S.denials N.told N.faults R.coming R.finished R.faults O.held O.faults signer nodes.items [] door out.old)
+        (λ flags. parts_of S.told S.faults S.denials N.told N.faults R.coming R.finished R.faults O.held O.faults result.signer result.nodes.items flags result.door out.new) result.events result.status }
     ensures usage { result.status ≡ Status.Usage → asked_of (map string_bytes words.now) ≡ nothing }
     ensures no_command { asked_of (map string_bytes words.now) ≡ nothing
         → (result.status ≡ Status.Usage) ⊎ (result.status ≡ Status.WriteFault) ⊎ (result.status ≡ Status.OutOfMemory) }
@@ -56,6 +65,63 @@ pub fn run_validator<
     ensures complete { IsWithin (asked_of (map string_bytes words.now)) (I.left input.old)
         → ¬ (Rose (I.faults input.old) (I.faults input.new)) → ¬ (Rose (O.faults out.old) (O.faults out.new)) → ¬ (EitherRose D.faults disks result.disks)
         → IsComplete (asked_of (map string_bytes words.now)) result.status }
+    ensures served { (options : ServeOptions) → asked_of (map string_bytes words.now) ≡ serve options
+        → Because (Rose (O.faults out.old) (O.faults out.new)) (EitherRose D.faults disks result.disks) (Rose (R.faults door) (R.faults result.door)) result.status }
+    ensures unread { (options : ServeOptions) → asked_of (map string_bytes words.now) ≡ serve options → input.new ≡ input.old }
+    ensures nodes { IsOther (asked_of (map string_bytes words.now)) → result.nodes ≡ nodes }
+    ensures door { IsOther (asked_of (map string_bytes words.now)) → result.door ≡ door }
+    ensures lanes { result.lanes.items ≡ [] }
+{
+    match is_serve(alloc, words) {
+        Ok(Some(plan)) => run_client(rt, alloc, &plan, disks, signer, nodes, &clock, door, out),
+        Ok(None) => run_other(alloc, words, disks, signer, nodes, door, input, out),
+        Err(AllocError) => unbegun(alloc, disks, signer, nodes, door),
+    }
+}
+
+/// Nothing was begun, since memory ran out.
+fn unbegun<D, S, N, R>(
+    alloc: Global,
+    disks: Disks<D>,
+    signer: S,
+    nodes: Vec<N>,
+    door: R,
+) -> Ending<D, S, N, R>
+    ensures status { result.status ≡ Status.OutOfMemory }
+    ensures disks { result.disks ≡ disks }
+    ensures signer { result.signer ≡ signer }
+    ensures nodes { result.nodes ≡ nodes }
+    ensures door { result.door ≡ door }
+    ensures lanes { result.lanes.items ≡ [] }
+    ensures events { result.events ≡ [] }
+{
+    Ending {
+        status: Status::OutOfMemory,
+        disks,
+        signer,
+        nodes,
+        door,
+        lanes: Vec::new(alloc),
+        events: Events::new(alloc),
+    }
+}
+
+/// Does what words say that ask for something else than the validator client.
+fn run_other<D: Disk, S: Signer, N, R, I: Source, O: Sink>(
+    alloc: Global,
+    words: &[String],
+    disks: Disks<D>,
+    signer: S,
+    nodes: Vec<N>,
+    door: R,
+    input: &mut I,
+    out: &mut O,
+) -> Ending<D, S, N, R>
+    requires { IsOther (asked_of (map string_bytes words.now)) }
+    ensures ending { RunEnds D.shows D.moment D.leaves D.faults (asked_of (map string_bytes words.now)) disks result.disks
+        (outside_of I.left I.faults O.held O.faults S.told S.faults S.denials input.old out.old signer) (outside_of I.left I.faults O.held O.faults S.told S.faults S.denials input.new out.new result.signer) result.events result.status }
+    ensures causes { Causes (asked_of (map string_bytes words.now)) (I.left input.old)
+        (Rose (I.faults input.old) (I.faults input.new)) (Rose (O.faults out.old) (O.faults out.new)) (EitherRose D.faults disks result.disks) result.status }
     ensures nodes { result.nodes ≡ nodes }
     ensures door { result.door ≡ door }
     ensures lanes { result.lanes.items ≡ [] }
@@ -72,7 +138,7 @@ pub fn run_validator<
     }
 }
 
-/// Does what the words say.
+/// Does what these words say.
 fn run_words<D: Disk, S: Signer, I: Source, O: Sink>(
     alloc: Global,
     words: &[String],
@@ -81,6 +147,7 @@ fn run_words<D: Disk, S: Signer, I: Source, O: Sink>(
     input: &mut I,
     out: &mut O,
 ) -> (Status, Disks<D>, S, Events)
+    requires { IsOther (asked_of (map string_bytes words.now)) }
     ensures ending { RunEnds D.shows D.moment D.leaves D.faults (asked_of (map string_bytes words.now)) disks result.1
         (outside_of I.left I.faults O.held O.faults S.told S.faults S.denials input.old out.old signer) (outside_of I.left I.faults O.held O.faults S.told S.faults S.denials input.new out.new result.2) result.3 result.0 }
     ensures causes { Causes (asked_of (map string_bytes words.now)) (I.left input.old)
@@ -95,6 +162,7 @@ fn run_words<D: Disk, S: Signer, I: Source, O: Sink>(
         Err(AllocError) => return (Status::OutOfMemory, disks, signer, Events::new(alloc)),
     };
     match &planned {
+        Plan::Serve(_) => unreachable!(),
         Plan::Session { .. } => run_session(alloc, &planned, disks, signer, input, out),
         Plan::Merge { .. } => {
             let (status, disks, events) = run_merge(alloc, &planned, disks, input, out);

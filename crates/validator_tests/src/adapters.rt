@@ -1,5 +1,6 @@
 //! Readers as sources, and writers as sinks.
-use edge_kit::{Failed, Reading, Sink, Source, Writing};
+use edge_kit::{Failed, Sink, Source};
+use edge_system::{Reading, Writing};
 use std::io;
 use std::io::{Read, Write};
 
@@ -43,11 +44,12 @@ impl<T: Write> Write for Halting<T> {
 fn a_reader_is_a_source(rt: HostRuntime) {
     let bytes: &[u8] = b"abcdefg";
     let (step, calls) = (3, 0);
-    let mut source = Reading::new(Halting {
+    let halting = Halting {
         inner: bytes,
         step,
         calls,
-    });
+    };
+    let mut source = Reading::new(halting, &rt);
     let mut piece = [0; 4];
     let wanted: [(Result<usize, Failed>, &[u8]); 5] = [
         (Ok(3), b"abc"),
@@ -68,7 +70,7 @@ fn a_writer_is_a_sink(rt: HostRuntime) {
     let (step, calls) = (3, 0);
     {
         let inner: &mut [u8] = &mut held;
-        let mut sink = Writing::new(Halting { inner, step, calls });
+        let mut sink = Writing::new(Halting { inner, step, calls }, &rt);
         let wanted: [(&[u8], Result<usize, Failed>); 6] = [
             (b"abcd", Ok(3)),
             (b"", Ok(0)),

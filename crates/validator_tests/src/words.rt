@@ -41,8 +41,8 @@ const FAULTY: [(&str, &str); 8] = [
         "invalid value '0x00' for '--genesis <HEX32>'",
     ),
     (
-        "validator serve --genesis <G0>",
-        "unrecognized subcommand 'serve'",
+        "validator attest --genesis <G0>",
+        "unrecognized subcommand 'attest'",
     ),
     (
         "validator session --genesis <G0> more",

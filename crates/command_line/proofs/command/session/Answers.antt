@@ -12,8 +12,8 @@ returns c =
     c.in_ok-arg.ensures.shape c.genesis-genesis.ensures.local ∙ ap₂ with_rule session_is c.genesis-genesis.ensures.rule in
     let second : app_of c.in_ok-arg-2.field-0 ≡ with_rule (with_rule start genesis_rule) (journal_rule false) =
     c.in_ok-arg-2.ensures.shape c.journal-journal.ensures.local ∙ ap₂ with_rule first c.journal-journal.ensures.rule in
-    let third : app_of c.in_ok-arg-3.field-0 ≡ with_rule (with_rule (with_rule start genesis_rule) (journal_rule false)) signer_rule =
+    let third : app_of c.in_ok-arg-3.field-0 ≡ with_rule (with_rule (with_rule start genesis_rule) (journal_rule false)) (signer_rule false) =
     c.in_ok-arg-3.ensures.shape c.signer-signer.ensures.local ∙ ap₂ with_rule second c.signer-signer.ensures.rule in
-    let fourth : app_of c.in_ok-arg-4.field-0 ≡ with_rule (with_rule (with_rule (with_rule start genesis_rule) (journal_rule false)) signer_rule) fork_rule =
+    let fourth : app_of c.in_ok-arg-4.field-0 ≡ with_rule (with_rule (with_rule (with_rule start genesis_rule) (journal_rule false)) (signer_rule false)) fork_rule =
     c.in_ok-arg-4.ensures.shape c.fork-fork.ensures.local ∙ ap₂ with_rule third c.fork-fork.ensures.rule in
     IfOk-weaker c.arg-5.result _ _ (λ r h. ap (λ (a : App). a.top) (h.shape c.watch-watch.ensures.local ∙ ap₂ with_rule fourth c.watch-watch.ensures.rule)) c.arg-5.ensures

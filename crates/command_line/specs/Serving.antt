@@ -1,0 +1,141 @@
+-- What the values of the options of `serve` write: where it listens, its token, when it ends, and its nodes.
+use Rattle.std.specs.Prelude.{ℕ, ◌==◌, ◌&&◌, nat_le, nat_lt, Bool, List, [], ◌∷◌, length, Option, Some, None, is_some, option_map, filter_map, if◌then◌else◌, codes}
+use Rattle.std.specs.Char.{is_ascii_graphic}
+use Rattle.std.specs.List.{list_all, slice_split}
+use Rattle.std.specs.Option.{option_map_or}
+use Rattle.std.specs.Str.{bytes_eq}
+use Rattle.edge_kit.specs.Texts.{quoted_number}
+use Rattle.service_url.specs.Services.{Service, service_at}
+use Rattle.clap.specs.Words.{Row, Text, all_of, first_of}
+use Rattle.command_line.specs.Forks.{at_colon}
+use Rattle.command_line.specs.Options.{at_most, genesis_in, journal_in, watch_in}
+use Rattle.command_line.specs.declared.listen_address.ListenAddress.{ListenAddress}
+use Rattle.command_line.specs.declared.listen_address.ListenHost.{ListenHost}
+use Rattle.command_line.specs.declared.listen_address.ListenHost.TheVariants.{Localhost, Ipv4}
+use Rattle.command_line.specs.declared.serve_options.DoorOptions.{DoorOptions}
+use Rattle.command_line.specs.declared.serve_options.EndOptions.{EndOptions}
+use Rattle.command_line.specs.declared.serve_options.ServeOptions.{ServeOptions}
+use Rattle.command_line.specs.declared.serve_options.SigningOptions.{SigningOptions}
+
+-- the next reading, where this one gave a value
+infixl 10 ◌>>=◌
+abbrev pub ◌>>=◌ : {A B : Type 0} → Option A → (A → Option B) → Option B
+(Some x) >>= f = f x
+None >>= f = None
+
+-- ---- where it listens
+
+-- the byte is `.`
+abbrev pub is_dot : ℕ → Bool
+is_dot byte = byte == 46
+
+-- a decimal of at most 255
+abbrev pub octet_at : Text → Option ℕ
+octet_at text = quoted_number text >>= at_most 255
+
+-- the address of four octets: none of fewer texts or of more
+abbrev pub ipv4_of : List Text → Option (List ℕ)
+ipv4_of (a ∷ b ∷ c ∷ d ∷ []) = do
+  first ← octet_at a
+  second ← octet_at b
+  third ← octet_at c
+  fourth ← octet_at d
+  Some (first ∷ second ∷ third ∷ fourth ∷ [])
+ipv4_of _ = None
+
+-- `localhost`, or the address whose octets stand between the dots of the text
+abbrev pub host_at : Text → Option ListenHost
+host_at text = if bytes_eq text (codes "localhost") then Some Localhost else option_map Ipv4 (ipv4_of (slice_split is_dot text))
+
+-- a port, in decimal
+abbrev pub port_at : Text → Option ℕ
+port_at text = quoted_number text >>= at_most 65535
+
+-- the host before the first `:` of a text, and the port behind it
+abbrev pub listen_at : Text → Option ListenAddress
+listen_at text = do
+  parts ← at_colon text
+  host ← host_at parts.0
+  port ← port_at parts.1
+  Some (record { host = host; port = port })
+
+-- ---- the token
+
+-- 1 to 256 visible ASCII characters, `!` to `~`
+abbrev pub is_token : Text → Bool
+is_token text = nat_le 1 (length text) && nat_le (length text) 256 && list_all is_ascii_graphic text
+
+abbrev pub token_at : Text → Option (List ℕ)
+token_at text = if is_token text then Some text else None
+
+-- ---- the nodes
+
+-- a text is the address of a service
+abbrev pub is_address : Text → Bool
+is_address text = is_some (service_at text)
+
+-- the services of one address or more: none where there is no text, or one that is no address
+abbrev pub services_of : List Text → Option (List Service)
+services_of texts = if nat_lt 0 (length texts) && list_all is_address texts then Some (filter_map service_at texts) else None
+
+-- ---- the options
+
+-- the service that the value of `--signer` writes
+abbrev pub signer_in : List Row → Option Service
+signer_in options = first_of (codes "signer") options >>= service_at
+
+-- what it signs for and where it keeps that
+abbrev pub signing_in : List Row → Option SigningOptions
+signing_in options = do
+  genesis ← genesis_in options
+  journal ← journal_in options
+  signer ← signer_in options
+  Some (record { genesis = genesis; journal = journal; signer = signer })
+
+-- the address that the value of `--listen` writes, and the token that the value of `--token` is
+abbrev pub listen_in : List Row → Option ListenAddress
+listen_in options = first_of (codes "listen") options >>= listen_at
+
+abbrev pub token_in : List Row → Option (List ℕ)
+token_in options = first_of (codes "token") options >>= token_at
+
+-- where it answers the Keymanager API, and for whom
+abbrev pub door_in : List Row → Option DoorOptions
+door_in options = do
+  listen ← listen_in options
+  token ← token_in options
+  Some (record { listen = listen; token = token })
+
+-- the number that the value of an option writes in decimal, or, where it is absent, one that is never reached
+abbrev pub limit_in : Text → List Row → Option ℕ
+limit_in id options = option_map_or quoted_number (first_of id options) (Some 18446744073709551615)
+
+-- after how many slots and connections it ends
+abbrev pub ends_in : List Row → Option EndOptions
+ends_in options = do
+  slots ← limit_in (codes "slots") options
+  connections ← limit_in (codes "connections") options
+  Some (record { slots = slots; connections = connections })
+
+-- the nodes, in the order of the words
+abbrev pub nodes_in : List Row → Option (List Service)
+nodes_in options = all_of (codes "node") options >>= services_of
+
+-- all options of a server
+abbrev pub serve_options_in : List Row → Option ServeOptions
+serve_options_in options = do
+  signing ← signing_in options
+  door ← door_in options
+  ends ← ends_in options
+  nodes ← nodes_in options
+  Some (record {
+    genesis = signing.genesis;
+    journal = signing.journal;
+    signer = signing.signer;
+    listen = door.listen;
+    token = door.token;
+    watch = watch_in options;
+    slots = ends.slots;
+    connections = ends.connections;
+    nodes = nodes;
+  })

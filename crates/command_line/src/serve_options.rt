@@ -1,0 +1,68 @@
+//! The options of a server.
+use crate::listen_address::ListenAddress;
+use crate::path_text::PathText;
+use crate::token_text::TokenText;
+use edge_kit::{Items, Root};
+use service_url::ServiceUrl;
+use std::fmt;
+
+/// The options of a server. `{:?}` writes no token.
+#[derive(Drop)]
+pub struct ServeOptions {
+    /// The genesis validators root of the chain.
+    pub genesis: Root,
+    /// The path of the journal that keeps what is signed.
+    pub journal: PathText,
+    /// The address of the signing service.
+    pub signer: ServiceUrl,
+    /// Where requests of the Keymanager API are answered.
+    pub listen: ListenAddress,
+    /// The token that they must carry.
+    pub token: TokenText,
+    /// Whether a key that becomes active signs only once it was told not live in the two epochs after.
+    pub watch: bool,
+    /// After how many slots the duties end.
+    pub slots: u64,
+    /// After how many connections the Keymanager API ends.
+    pub connections: u64,
+    /// The addresses of the beacon nodes, in the order of the words, at least one.
+    pub nodes: Items<ServiceUrl>,
+}
+
+impl fmt::Debug for ServeOptions {
+    fn fmt<W: fmt::Write>(&self, f: &mut fmt::Formatter<W>) -> fmt::Result {
+        f.debug_struct("ServeOptions")
+            .field("genesis", &self.genesis)
+            .field("journal", &self.journal)
+            .field("signer", &self.signer)
+            .field("listen", &self.listen)
+            .field("token", &self.token)
+            .field("watch", &self.watch)
+            .field("slots", &self.slots)
+            .field("connections", &self.connections)
+            .field("nodes", &self.nodes.as_slice())
+            .finish()
+    }
+}
+
+/// What a server signs for, where it keeps that, and who signs.
+#[derive(Drop)]
+pub(crate) struct SigningOptions {
+    pub(crate) genesis: Root,
+    pub(crate) journal: PathText,
+    pub(crate) signer: ServiceUrl,
+}
+
+/// Where a server answers the Keymanager API, and the token that it wants.
+#[derive(Drop)]
+pub(crate) struct DoorOptions {
+    pub(crate) listen: ListenAddress,
+    pub(crate) token: TokenText,
+}
+
+/// After how many slots and connections a server ends.
+#[derive(Clone, Copy)]
+pub(crate) struct EndOptions {
+    pub(crate) slots: u64,
+    pub(crate) connections: u64,
+}

@@ -1,0 +1,4 @@
+pub mod GivesLemmas
+pub mod PartLemmas
+pub mod TurnLemmas
+pub mod EndLemmas

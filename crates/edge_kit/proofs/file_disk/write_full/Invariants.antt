@@ -1,5 +1,0 @@
-use Rattle.std.proofs.Common.{◌≤◌, length}
-use Rattle.edge_kit.proofs.file_disk.write_full.Given as goal
-
-abbrev pub invariant-writing : goal.invariant-writing
-invariant-writing g l = l.done ≤ length l.bytes

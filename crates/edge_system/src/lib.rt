@@ -1,0 +1,16 @@
+//! The system's streams, files and sockets, by the meanings that every layer takes of them. Each opens the real thing
+//! at its first call. They are trusted in what they read and write, and tell nothing of it.
+#![tactic(auto)]
+
+mod adapters;
+mod address;
+mod file_disk;
+mod tcp_door;
+mod tcp_link;
+mod tcp_stream;
+mod told;
+
+pub use adapters::{Reading, Writing};
+pub use file_disk::FileDisk;
+pub use tcp_door::{TcpConn, TcpDoor};
+pub use tcp_link::TcpLink;

@@ -1,0 +1,194 @@
+//! A TCP listener of the system as a door. It tells nothing of its connections.
+ghost use Rattle.std.specs.Prelude.{◌≡◌, None};
+ghost use Rattle.std.specs.Result.{result_ok};
+ghost use Rattle.edge_kit.specs.Causes.{HasCause};
+
+use crate::address::Address;
+use crate::tcp_stream::{limited, recv_over, send_over};
+use crate::told::counted;
+use edge_kit::{Door, Failed, Link, count_fault};
+use std::alloc::Global;
+use std::io;
+use std::io::{BufReader, Eprint, ErrorKind, Read, Write};
+use std::net::{Net, OpenListener, TcpListener};
+use std::time::Duration;
+
+/// How many seconds each read and write of an accepted connection may last.
+const LIMIT_SECONDS: u64 = 10;
+
+/// A door at an address, or a host's name, and a port, with a count of its failures. It listens from the first
+/// `accept` on. What the system says of a failure is told on standard error. A connection that ends while it is
+/// accepted is passed over.
+#[derive(Drop)]
+pub struct TcpDoor<N: Net + Eprint + Drop> {
+    alloc: Global,
+    handle: N,
+    host: String,
+    port: u16,
+    listener: Option<N::Listener>,
+    faults: u64,
+}
+
+/// A connection that was accepted, with a count of its failures. Each read and write may last 10 seconds. It was
+/// begun by its peer, so `connect` begins no other, and fails.
+#[derive(Drop)]
+pub struct TcpConn<S: Read + Write + Drop> {
+    stream: Option<BufReader<S>>,
+    faults: u64,
+}
+
+impl<N: Net + Eprint + Drop> TcpDoor<N> {
+    /// A door that doesn't listen yet.
+    pub fn new(alloc: Global, handle: N, host: String, port: u16) -> Self
+        ensures { result.faults ≡ 0 }
+    {
+        TcpDoor {
+            alloc,
+            handle,
+            host,
+            port,
+            listener: None,
+            faults: 0,
+        }
+    }
+
+    // The next connection that didn't end while it was accepted, of the listener, which listens from now on.
+    fn next(&mut self) -> io::Result<N::Stream>
+        ensures { self.new.faults ≡ self.old.faults }
+    {
+        let listener = match self.listener.take() {
+            Some(listener) => listener,
+            None => TcpListener::bind(&self.handle, (self.host.as_str(), self.port))?,
+        };
+        let next = next_of(&listener);
+        self.listener = Some(listener);
+        next
+    }
+}
+
+// The next connection of a listener that didn't end while it was accepted.
+fn next_of<L: OpenListener>(listener: &L) -> io::Result<L::Stream> {
+    'accepting: for _ in 0..u64::MAX {
+        match listener.accept() {
+            Ok((stream, _)) => return Ok(stream),
+            Err(e) if is_passing(e.kind()) => {}
+            Err(e) => return Err(e),
+        }
+    }
+    Err(io::Error::from(ErrorKind::Interrupted))
+}
+
+// Whether a failure is that of one connection, or of none.
+fn is_passing(kind: ErrorKind) -> bool {
+    matches!(
+        kind,
+        ErrorKind::Interrupted | ErrorKind::ConnectionAborted | ErrorKind::ConnectionReset
+    )
+}
+
+impl<N: Net + Eprint + Drop> Door for TcpDoor<N> {
+    type Conn = TcpConn<N::Stream>;
+
+    ghost coming = { λ _. None };
+
+    ghost finished = { λ _. None };
+
+    ghost lent = { λ _. None };
+
+    ghost faults = { λ d. d.faults };
+
+    fn accept(&mut self) -> Result<Option<TcpConn<N::Stream>>, Failed> {
+        let next = self.next();
+        let address = Address {
+            host: &self.host,
+            port: self.port,
+        };
+        let stream = counted(next, &self.handle, address, &mut self.faults)?;
+        Ok(Some(TcpConn {
+            stream: limited(self.alloc, stream, Duration::from_secs(LIMIT_SECONDS)).ok(),
+            faults: 0,
+        }))
+    }
+
+    fn finish(&mut self, _conn: TcpConn<N::Stream>) {}
+}
+
+impl<S: Read + Write + Drop> TcpConn<S> {
+    // What the system answered, whose failure is counted.
+    fn counted<T>(&mut self, done: io::Result<T>) -> Result<T, Failed>
+        ensures same { result_ok result ≡ result_ok done }
+        ensures cause { HasCause self.old.faults self.new.faults result }
+    {
+        match done {
+            Ok(value) => Ok(value),
+            Err(_) => Err(count_fault(&mut self.faults)),
+        }
+    }
+}
+
+impl<S: Read + Write + Drop> Link for TcpConn<S> {
+    ghost left = { λ _. None };
+
+    ghost coming = { λ _. None };
+
+    ghost held = { λ _. None };
+
+    ghost faults = { λ s. s.faults };
+
+    fn connect(&mut self) -> Result<(), Failed> {
+        self.stream = None;
+        Err(count_fault(&mut self.faults))
+    }
+
+    fn send(&mut self, piece: &[u8]) -> Result<usize, Failed> {
+        let sent = send_over(&mut self.stream, piece);
+        self.counted(sent)
+    }
+
+    fn recv(&mut self, buf: &mut [u8]) -> Result<usize, Failed> {
+        let read = recv_over(&mut self.stream, buf);
+        self.counted(read)
+    }
+
+    fn hang_up(&mut self) -> Result<(), Failed> {
+        self.stream = None;
+        Ok(())
+    }
+}
+
+#[cfg(test)]
+mod tests {
+    use super::*;
+    use std::net::TcpStream;
+    use std::test::Fail;
+
+    #[test]
+    fn a_listener_is_a_door(rt: HostRuntime) -> Result<(), Fail> {
+        let free = TcpListener::bind(&rt, "127.0.0.1:0")?;
+        let port = free.local_addr()?.port();
+        let host = String::from_str(rt.alloc(), "127.0.0.1")?;
+        let mut door = TcpDoor::new(rt.alloc(), &rt, host, port);
+        assert!(rt; door.accept().is_err());
+        drop(free);
+        door.listener = Some(TcpListener::bind(&rt, ("127.0.0.1", port))?);
+        let mut peer = TcpStream::connect(&rt, ("127.0.0.1", port))?;
+        peer.write_all(b"a")?;
+        let accepted = door.accept();
+        assert!(rt; matches!(accepted, Ok(Some(_))));
+        if let Ok(Some(mut conn)) = accepted {
+            let mut byte = [0u8; 1];
+            assert_eq!(rt; conn.recv(&mut byte), Ok(1));
+            assert_eq!(rt; byte, *b"a");
+            assert_eq!(rt; conn.send(b"z"), Ok(1));
+            peer.read_exact(&mut byte)?;
+            assert_eq!(rt; byte, *b"z");
+            assert_eq!(rt; conn.hang_up(), Ok(()));
+            assert_eq!(rt; conn.send(b"z"), Err(Failed));
+            assert_eq!(rt; conn.connect(), Err(Failed));
+            assert_eq!(rt; conn.faults, 2);
+            door.finish(conn);
+        }
+        assert_eq!(rt; door.faults, 1);
+        Ok(())
+    }
+}

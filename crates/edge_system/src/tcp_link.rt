@@ -1,0 +1,150 @@
+//! A TCP connection of the system as a link. It tells nothing of its bytes.
+ghost use Rattle.std.specs.Prelude.{◌≡◌, None};
+ghost use Rattle.std.specs.Result.{result_ok};
+ghost use Rattle.edge_kit.specs.Causes.{HasCause};
+
+use crate::address::Address;
+use crate::tcp_stream::{limited, recv_over, send_over};
+use crate::told::counted;
+use edge_kit::{Failed, Link};
+use std::alloc::Global;
+use std::io;
+use std::io::{BufReader, Eprint, ErrorKind};
+use std::net::{Net, OpenStream, ToSocketAddrs};
+use std::time::Duration;
+
+/// A link to a host, by its address or its name, with a count of its failures. It looks the name up and
+/// connects at `connect`, and reads ahead, so that reading byte by byte is cheap. What the system says of a
+/// failure is told on standard error.
+#[derive(Drop)]
+pub struct TcpLink<N: Net + Eprint + Drop> {
+    alloc: Global,
+    handle: N,
+    host: String,
+    port: u16,
+    limit: Duration,
+    stream: Option<BufReader<N::Stream>>,
+    faults: u64,
+}
+
+impl<N: Net + Eprint + Drop> TcpLink<N> {
+    /// A link that is not yet connected. Each connect, read and write may last 10 seconds.
+    pub fn new(alloc: Global, handle: N, host: String, port: u16) -> Self
+        ensures { result.faults ≡ 0 }
+    {
+        TcpLink {
+            alloc,
+            handle,
+            host,
+            port,
+            limit: Duration::from_secs(10),
+            stream: None,
+            faults: 0,
+        }
+    }
+
+    /// From the next `connect` on each connect, read and write may last so long.
+    pub fn set_limit(&mut self, limit: Duration)
+        ensures limit { self.new.limit ≡ limit }
+        ensures faults { self.new.faults ≡ self.old.faults }
+    {
+        self.limit = limit;
+    }
+
+    // A connection to the first address of the host that takes one.
+    fn open(&self) -> io::Result<N::Stream> {
+        let mut last = io::Error::from(ErrorKind::NotFound);
+        for address in (self.host.as_str(), self.port).to_socket_addrs(&self.handle)? {
+            match self.handle.connect_timeout(address, self.limit) {
+                Ok(stream) => return Ok(stream),
+                Err(e) => last = e,
+            }
+        }
+        Err(last)
+    }
+
+    // The same, with its limit and with room to read ahead.
+    fn open_limited(&self) -> io::Result<BufReader<N::Stream>> {
+        limited(self.alloc, self.open()?, self.limit)
+    }
+
+    // What the system answered, whose failure is counted and told.
+    fn counted<T>(&mut self, done: io::Result<T>) -> Result<T, Failed>
+        ensures same { result_ok result ≡ result_ok done }
+        ensures cause { HasCause self.old.faults self.new.faults result }
+    {
+        let address = Address {
+            host: &self.host,
+            port: self.port,
+        };
+        counted(done, &self.handle, address, &mut self.faults)
+    }
+}
+
+impl<N: Net + Eprint + Drop> Link for TcpLink<N> {
+    ghost left = { λ _. None };
+
+    ghost coming = { λ _. None };
+
+    ghost held = { λ _. None };
+
+    ghost faults = { λ s. s.faults };
+
+    fn connect(&mut self) -> Result<(), Failed> {
+        self.stream = None;
+        let stream = self.open_limited();
+        self.stream = Some(self.counted(stream)?);
+        Ok(())
+    }
+
+    fn send(&mut self, piece: &[u8]) -> Result<usize, Failed> {
+        let sent = send_over(&mut self.stream, piece);
+        self.counted(sent)
+    }
+
+    fn recv(&mut self, buf: &mut [u8]) -> Result<usize, Failed> {
+        let read = recv_over(&mut self.stream, buf);
+        self.counted(read)
+    }
+
+    fn hang_up(&mut self) -> Result<(), Failed> {
+        self.stream = None;
+        Ok(())
+    }
+}
+
+#[cfg(test)]
+mod tests {
+    use super::*;
+    use std::io::{Read, Write};
+    use std::net::TcpListener;
+    use std::test::Fail;
+
+    #[test]
+    fn a_connection_is_a_link(rt: HostRuntime) -> Result<(), Fail> {
+        let listener = TcpListener::bind(&rt, "127.0.0.1:0")?;
+        let port = listener.local_addr()?.port();
+        let host = String::from_str(rt.alloc(), "localhost")?;
+        let mut link = TcpLink::new(rt.alloc(), &rt, host, port);
+        link.set_limit(Duration::from_millis(200));
+        let mut byte = [0u8; 1];
+        assert_eq!(rt; link.send(b"x"), Err(Failed));
+        assert_eq!(rt; link.connect(), Ok(()));
+        let (mut peer, _) = listener.accept()?;
+        assert_eq!(rt; link.send(b"x"), Ok(1));
+        peer.read_exact(&mut byte)?;
+        assert_eq!(rt; byte, *b"x");
+        peer.write_all(b"ab")?;
+        assert_eq!(rt; link.recv(&mut byte), Ok(1));
+        assert_eq!(rt; link.recv(&mut byte), Ok(1));
+        assert_eq!(rt; byte, *b"b");
+        assert_eq!(rt; link.recv(&mut byte), Err(Failed));
+        drop(peer);
+        assert_eq!(rt; link.recv(&mut byte), Ok(0));
+        assert_eq!(rt; link.hang_up(), Ok(()));
+        drop(listener);
+        assert_eq!(rt; link.connect(), Err(Failed));
+        assert_eq!(rt; link.faults, 3);
+        Ok(())
+    }
+}

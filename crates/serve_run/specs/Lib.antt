@@ -1,0 +1,4 @@
+pub mod Starting
+pub mod Clients
+pub mod Serving
+pub mod Ends

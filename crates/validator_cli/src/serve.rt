@@ -1,0 +1,81 @@
+//! The validator client over the objects that are handed in.
+ghost use Rattle.std.specs.Prelude.{◌≡◌, [], IfOk, IfSome, IfNone, map, string_bytes};
+ghost use Rattle.edge_kit.specs.Causes.{Rose};
+ghost use Rattle.record_journal.specs.TwoDisks.{EitherRose};
+ghost use Rattle.keymanager_loop.specs.Doors.{link_seen};
+ghost use Rattle.command_line.specs.Plans.{asked_of, serve};
+ghost use Rattle.command_line.specs.declared.serve_options.ServeOptions.{ServeOptions};
+ghost use Rattle.serve_run.specs.Ends.{Because, IsServe};
+ghost use Rattle.validator_cli.specs.Clients.{ClientEnds, parts_of};
+ghost use Rattle.validator_cli.specs.Endings.{IsOther};
+
+use crate::ending::Ending;
+use command_line::{Plan, plan};
+use edge_clock::Clock;
+use edge_kit::{Disk, Disks, Door, Sink};
+use node_calls::Node;
+use node_fallback::Nodes;
+use serve_run::run_serve;
+use signer_link::Signer;
+use std::alloc::{AllocError, Global};
+use std::sync::Wait;
+
+/// The plan of words that ask for the validator client; none where they ask for something else.
+pub(crate) fn is_serve(alloc: Global, words: &[String]) -> Result<Option<Plan>, AllocError>
+    ensures serve { IfOk result (λ found. IfSome found IsServe) }
+    ensures plan { IfOk result (λ found. IfSome found (λ p. (options : ServeOptions) → asked_of (map string_bytes words.now) ≡ serve options → p ≡ Plan.Serve options)) }
+    ensures client { IfOk result (λ found. IfSome found (λ p. ¬ (IsOther (asked_of (map string_bytes words.now))))) }
+    ensures other { IfOk result (λ found. IfNone found (IsOther (asked_of (map string_bytes words.now)))) }
+{
+    let Ok(planned) = plan(alloc, words)? else {
+        return Ok(None);
+    };
+    match planned {
+        Plan::Serve(options) => Ok(Some(Plan::Serve(options))),
+        Plan::Session { .. } | Plan::Merge { .. } | Plan::Show { .. } => Ok(None),
+        Plan::Rehearse { .. } | Plan::Shown(_) => Ok(None),
+    }
+}
+
+/// Runs the validator client of a plan.
+pub(crate) fn run_client<T: Wait, D: Disk, S: Signer, N: Node + Drop, C: Clock, R: Door, O: Sink>(
+    rt: &T,
+    alloc: Global,
+    plan: &Plan,
+    disks: Disks<D>,
+    mut signer: S,
+    nodes: Vec<N>,
+    clock: &C,
+    mut door: R,
+    out: &mut O,
+) -> Ending<D, S, N, R>
+    requires { IsServe plan.now }
+    ensures ends { (options : ServeOptions) → plan.now ≡ Plan.Serve options
+        → ClientEnds D.shows D.moment D.leaves D.faults (link_seen R.Conn.left R.Conn.held R.Conn.faults) (C.start clock.now) options disks result.disks
+        (parts_of S.told S.faults S.denials N.told N.faults R.coming R.finished R.faults O.held O.faults signer nodes.items [] door out.old)
+        (λ flags. parts_of S.told S.faults S.denials N.told N.faults R.coming R.finished R.faults O.held O.faults result.signer result.nodes.items flags result.door out.new) result.events result.status }
+    ensures causes { Because (Rose (O.faults out.old) (O.faults out.new)) (EitherRose D.faults disks result.disks) (Rose (R.faults door) (R.faults result.door)) result.status }
+    ensures lanes { result.lanes.items ≡ [] }
+{
+    let mut nodes = Nodes::new(alloc, nodes);
+    let (status, disks, events) = run_serve(
+        rt,
+        alloc,
+        plan,
+        disks,
+        &mut signer,
+        &mut nodes,
+        clock,
+        &mut door,
+        out,
+    );
+    Ending {
+        status,
+        disks,
+        signer,
+        nodes: nodes.into_nodes(),
+        door,
+        lanes: Vec::new(alloc),
+        events,
+    }
+}
