@@ -1,0 +1,73 @@
+//! How a run begins, and runs in which nothing is to be done.
+use crate::runs::{Run, look_at};
+use crate::said::Said;
+use std::test::Fail;
+use validator_cli::Status;
+
+/// A request that makes K1 active.
+pub const ACTIVATE: &str = r#"{"op":"activate","pubkey":"<K1>"}
+"#;
+
+/// A node of the chain G0 that says nothing of its slots.
+pub const OF_G0: Said = Said {
+    failing: &[],
+    root: 0,
+    slots: 0,
+    due: &[],
+};
+
+const FAULTY: Said = Said {
+    failing: &[0, 1, 2, 3],
+    ..OF_G0
+};
+
+const OF_G1: Said = Said {
+    root: 0x11,
+    ..OF_G0
+};
+
+/// One slot without a duty, with K1 active.
+pub const ONE_SLOT: Run = Run {
+    shows: "a slot without a duty",
+    before: ACTIVATE,
+    options: "--slots 1 --connections 0",
+    nodes: &[Said { slots: 1, ..OF_G0 }],
+    callers: &[],
+    door_fails: &[],
+    status: Status::Done,
+    output: "",
+    sent: &[],
+    is_opened: true,
+};
+
+const STARTS: [Run; 4] = [
+    Run {
+        shows: "no node answers",
+        before: "",
+        nodes: &[FAULTY, FAULTY],
+        status: Status::NoNode,
+        output: "validator: no node: fault, fault\n",
+        is_opened: false,
+        ..ONE_SLOT
+    },
+    Run {
+        shows: "the node is of another chain",
+        before: "",
+        nodes: &[OF_G1],
+        status: Status::GenesisDiffers,
+        output: "validator: genesis differs: kept <G0>, given <G1>\n",
+        is_opened: false,
+        ..ONE_SLOT
+    },
+    Run {
+        shows: "the second node answers where the first fails",
+        nodes: &[FAULTY, Said { slots: 1, ..OF_G0 }],
+        ..ONE_SLOT
+    },
+    ONE_SLOT,
+];
+
+#[test]
+fn a_run_begins_where_a_node_of_the_chain_answers(rt: HostRuntime) -> Result<(), Fail> {
+    look_at(&rt, rt.alloc(), &STARTS)
+}
