@@ -1,6 +1,7 @@
 use edge_kit::{Items, PubKey, Root};
 use node_calls::{Answer, Ask, AttesterRow, ProposerRow, aggregation_bits};
-use std::alloc::Global;
+use std::alloc::{AllocError, Global};
+use std::process::Abort;
 use std::test::Fail;
 
 const KEY: PubKey = PubKey([0x11; 48]);
@@ -22,22 +23,24 @@ fn attester(pubkey: PubKey, slot: u64, place: u64, length: u64) -> AttesterRow {
     }
 }
 
-fn attesters(alloc: Global, rows: &[AttesterRow]) -> Result<Answer, Fail> {
+fn attesters(alloc: Global, rows: &[AttesterRow]) -> Result<Answer, AllocError> {
+    let rows = Vec::from_slice(alloc, rows)?;
     Ok(Answer::Attester {
         dependent_root: ROOT,
-        rows: Items::from_vec(Vec::from_slice(alloc, rows)?),
+        rows: Items::from_vec(rows),
     })
 }
 
-fn proposers(alloc: Global, slots: &[u64]) -> Result<Answer, Fail> {
-    let mut rows = Vec::new(alloc);
-    for slot in slots {
-        rows.push(ProposerRow {
-            pubkey: KEY,
-            validator_index: 7,
-            slot: *slot,
-        })?;
+fn proposer(slot: u64) -> ProposerRow {
+    ProposerRow {
+        pubkey: KEY,
+        validator_index: 7,
+        slot,
     }
+}
+
+fn proposers(alloc: Global, rows: &[ProposerRow]) -> Result<Answer, AllocError> {
+    let rows = Vec::from_slice(alloc, rows)?;
     Ok(Answer::Proposer {
         dependent_root: ROOT,
         rows: Items::from_vec(rows),
@@ -45,68 +48,179 @@ fn proposers(alloc: Global, slots: &[u64]) -> Result<Answer, Fail> {
 }
 
 /// Whether these can be the votes of epoch 3.
-fn vote(alloc: Global, rows: &[AttesterRow]) -> Result<bool, Fail> {
+fn vote(alloc: Global, rows: &[AttesterRow]) -> Result<bool, AllocError> {
+    let answer = attesters(alloc, rows)?;
     let ask = Ask::Attester {
         epoch: 3,
         indices: Items::new(alloc),
     };
-    Ok(attesters(alloc, rows)?.fits(alloc, &ask)?)
+    answer.fits(alloc, &ask)
 }
+
+/// Whether these can be the blocks of an epoch.
+fn block(alloc: Global, rows: &[ProposerRow], epoch: u64) -> Result<bool, AllocError> {
+    let answer = proposers(alloc, rows)?;
+    answer.fits(alloc, &Ask::Proposer { epoch })
+}
+
+/// A vote of `KEY` at this slot, place and committee length, and whether it can be one of epoch 3.
+#[derive(Clone, Copy)]
+struct OneVote {
+    slot: u64,
+    place: u64,
+    length: u64,
+    fits: bool,
+}
+
+const ONE_VOTE: &[OneVote] = &[
+    OneVote {
+        slot: 95,
+        place: 0,
+        length: 1,
+        fits: false,
+    },
+    OneVote {
+        slot: 96,
+        place: 0,
+        length: 1,
+        fits: true,
+    },
+    OneVote {
+        slot: 127,
+        place: 2047,
+        length: 2048,
+        fits: true,
+    },
+    OneVote {
+        slot: 128,
+        place: 0,
+        length: 1,
+        fits: false,
+    },
+    OneVote {
+        slot: 100,
+        place: 1,
+        length: 1,
+        fits: false,
+    },
+    OneVote {
+        slot: 100,
+        place: 0,
+        length: 0,
+        fits: false,
+    },
+    OneVote {
+        slot: 100,
+        place: 0,
+        length: 2049,
+        fits: false,
+    },
+];
 
 #[test]
 fn votes_are_of_the_epoch_that_was_asked_for(rt: HostRuntime) -> Result<(), Fail> {
-    let alloc = rt.alloc();
-    for (row, fits) in [
-        (attester(KEY, 95, 0, 1), false),
-        (attester(KEY, 96, 0, 1), true),
-        (attester(KEY, 127, 2047, 2048), true),
-        (attester(KEY, 128, 0, 1), false),
-        (attester(KEY, 100, 1, 1), false),
-        (attester(KEY, 100, 0, 0), false),
-        (attester(KEY, 100, 0, 2049), false),
-    ] {
-        assert_eq!(rt; vote(alloc, &[row])?, fits);
+    for row in ONE_VOTE {
+        let one = attester(KEY, row.slot, row.place, row.length);
+        let fits = vote(rt.alloc(), &[one])?;
+        assert_eq!(rt; fits, row.fits);
     }
     Ok(())
 }
 
 #[test]
 fn no_two_votes_are_of_one_key(rt: HostRuntime) -> Result<(), Fail> {
-    let alloc = rt.alloc();
     let first = attester(KEY, 96, 0, 1);
-    for (second, fits) in [
-        (attester(KEY, 97, 0, 1), false),
-        (attester(OTHER, 96, 0, 1), true),
-    ] {
-        assert_eq!(rt; vote(alloc, &[first, second])?, fits);
+    let of_one_key = vote(rt.alloc(), &[first, attester(KEY, 97, 0, 1)])?;
+    assert!(rt; !of_one_key);
+    let of_two_keys = vote(rt.alloc(), &[first, attester(OTHER, 96, 0, 1)])?;
+    assert!(rt; of_two_keys);
+    Ok(())
+}
+
+/// The slots of two blocks, and whether they can be blocks of an epoch.
+#[derive(Clone, Copy)]
+struct TwoBlocks {
+    first: u64,
+    second: u64,
+    epoch: u64,
+    fits: bool,
+}
+
+const TWO_BLOCKS: &[TwoBlocks] = &[
+    TwoBlocks {
+        first: 0,
+        second: 31,
+        epoch: 0,
+        fits: true,
+    },
+    TwoBlocks {
+        first: 0,
+        second: 0,
+        epoch: 0,
+        fits: false,
+    },
+    TwoBlocks {
+        first: 0,
+        second: 32,
+        epoch: 0,
+        fits: false,
+    },
+    TwoBlocks {
+        first: 32,
+        second: 33,
+        epoch: 1,
+        fits: true,
+    },
+];
+
+#[test]
+fn no_two_blocks_are_for_one_slot(rt: HostRuntime) -> Result<(), Fail> {
+    for row in TWO_BLOCKS {
+        let rows = [proposer(row.first), proposer(row.second)];
+        let fits = block(rt.alloc(), &rows, row.epoch)?;
+        assert_eq!(rt; fits, row.fits);
     }
     Ok(())
 }
 
-#[test]
-fn no_two_blocks_are_for_one_slot(rt: HostRuntime) -> Result<(), Fail> {
-    let alloc = rt.alloc();
-    for (first, second, epoch, fits) in [
-        (0, 31, 0, true),
-        (0, 0, 0, false),
-        (0, 32, 0, false),
-        (32, 33, 1, true),
-    ] {
-        let answer = proposers(alloc, &[first, second])?;
-        assert_eq!(rt; answer.fits(alloc, &Ask::Proposer { epoch })?, fits);
-    }
+/// A member's place in a committee of so many, and the bits of its vote.
+#[derive(Clone, Copy)]
+struct Member {
+    place: u64,
+    length: u64,
+    bits: &'static [bool],
+}
+
+const MEMBERS: &[Member] = &[
+    Member {
+        place: 0,
+        length: 1,
+        bits: &[true],
+    },
+    Member {
+        place: 2,
+        length: 4,
+        bits: &[false, false, true, false],
+    },
+    Member {
+        place: 3,
+        length: 4,
+        bits: &[false, false, false, true],
+    },
+];
+
+/// Compares the bits of a member's vote.
+fn vote_so<T: Abort>(rt: &T, alloc: Global, member: &Member) -> Result<(), Fail> {
+    assert!(rt; member.place < member.length && member.length <= 2048);
+    let bits = aggregation_bits(alloc, member.place, member.length)?;
+    assert_eq!(rt; bits.as_slice(), member.bits);
     Ok(())
 }
 
 #[test]
 fn one_member_votes(rt: HostRuntime) -> Result<(), Fail> {
-    let alloc = rt.alloc();
-    for (place, length, bits) in [(0, 1, "1"), (2, 4, "0010"), (3, 4, "0001")] {
-        let mut text = String::new(alloc);
-        for bit in aggregation_bits(alloc, place, length)?.as_slice() {
-            text.push(if *bit { '1' } else { '0' })?;
-        }
-        assert_eq!(rt; text.as_str(), bits);
+    for member in MEMBERS {
+        vote_so(&rt, rt.alloc(), member)?;
     }
     Ok(())
 }

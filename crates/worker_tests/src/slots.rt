@@ -1,7 +1,7 @@
 //! The duties of one slot: each result, by the first call that failed.
 use check_sign::{Desk, DeskReply};
 use duty_schedule::Duty;
-use duty_workers::{DutySetup, run_slot};
+use duty_workers::{DutyResult, DutySetup, run_slot};
 use edge_kit::{Disks, MemDisk, PubKey, Root, Sig};
 use node_calls::{Answer, AttesterRow, MemNode, NodeCall, ProposerRow};
 use node_fallback::Nodes;
@@ -34,18 +34,33 @@ const SETUP: DutySetup = DutySetup {
     slots: 1,
 };
 
-/// What the nodes and the signer do in a slot: the slot and the committee of each answer, and which calls fail.
+/// What the node and the signer do in a slot: the slot and the committee of each answer, the keys that the signer lacks,
+/// and which calls fail.
 #[derive(Clone, Copy)]
 struct Outside {
     answers: &'static [(u64, u64)],
-    lacks_key: bool,
+    lacking: &'static [PubKey],
     failing_signs: &'static [u64],
     failing_asks: &'static [u64],
 }
 
+/// A slot, and what becomes of its duties: their results, the number of posts, and that of the desk's events.
+struct Case {
+    outside: Outside,
+    ended: &'static str,
+}
+
+/// What a slot's duties are done over.
+#[derive(Drop)]
+struct Stage {
+    desk: Desk<MemDisk>,
+    signer: MemSigner,
+    nodes: Nodes<MemNode>,
+}
+
 const WELL: Outside = Outside {
     answers: &[(SLOT, 2), (SLOT, 2), (SLOT, 2)],
-    lacks_key: false,
+    lacking: &[],
     failing_signs: &[],
     failing_asks: &[],
 };
@@ -84,34 +99,33 @@ const BLOCKS: [Duty; 3] = [
     Duty::Block(BLOCK),
 ];
 
+fn checkpoint(epoch: u64) -> Checkpoint {
+    Checkpoint {
+        epoch,
+        root: Root([0; 32]),
+    }
+}
+
 /// What a committee is to vote: from epoch 0 to epoch 1.
 fn details(slot: u64, index: u64, root: u8) -> AttestationData {
     AttestationData {
         slot,
         index,
         beacon_block_root: Root([root; 32]),
-        source: Checkpoint {
-            epoch: 0,
-            root: Root([0; 32]),
-        },
-        target: Checkpoint {
-            epoch: 1,
-            root: Root([0; 32]),
-        },
+        source: checkpoint(0),
+        target: checkpoint(1),
     }
 }
 
-fn no_items<T: Drop, const LIMIT: usize>(
-    alloc: Global,
-) -> Result<BoundedList<T, LIMIT>, AllocError> {
+fn no_items<T: Drop, const LIMIT: usize>(alloc: Global) -> BoundedList<T, LIMIT> {
     match BoundedList::try_new(Vec::new(alloc)) {
-        Ok(list) => Ok(list),
-        Err(_) => Err(AllocError),
+        Ok(list) => list,
+        Err(_) => unreachable!(),
     }
 }
 
-fn block(alloc: Global, slot: u64, root: u8) -> Result<BeaconBlock, AllocError> {
-    let body = BeaconBlockBody {
+fn empty_body(alloc: Global) -> BeaconBlockBody {
+    BeaconBlockBody {
         randao_reveal: Sig([0; 96]),
         eth1_data: Eth1Data {
             deposit_root: Root([0; 32]),
@@ -119,63 +133,147 @@ fn block(alloc: Global, slot: u64, root: u8) -> Result<BeaconBlock, AllocError> 
             block_hash: Root([0; 32]),
         },
         graffiti: [0; 32],
-        proposer_slashings: no_items(alloc)?,
-        attester_slashings: no_items(alloc)?,
-        attestations: no_items(alloc)?,
-        deposits: no_items(alloc)?,
-        voluntary_exits: no_items(alloc)?,
-    };
-    Ok(BeaconBlock {
+        proposer_slashings: no_items(alloc),
+        attester_slashings: no_items(alloc),
+        attestations: no_items(alloc),
+        deposits: no_items(alloc),
+        voluntary_exits: no_items(alloc),
+    }
+}
+
+fn block(alloc: Global, slot: u64, root: u8) -> BeaconBlock {
+    BeaconBlock {
         slot,
         proposer_index: 7,
         parent_root: Root([root; 32]),
         state_root: Root([0; 32]),
-        body,
-    })
+        body: empty_body(alloc),
+    }
 }
 
-/// A desk with one active key.
-fn desk_of_one<T: Abort>(rt: &T, alloc: Global) -> Result<Desk<MemDisk>, AllocError> {
-    let disks = Disks {
-        first: MemDisk::new(alloc, Vec::new(alloc), Vec::new(alloc), None)?,
-        second: MemDisk::new(alloc, Vec::new(alloc), Vec::new(alloc), None)?,
-    };
-    let Ok(mut desk) = Desk::open(alloc, disks, SETUP.genesis, false, 0) else {
-        return rt.panic("not opened");
-    };
+/// A block, or what is to be voted.
+fn answer(alloc: Global, blocks: bool, slot: u64, index: u64, root: u8) -> Answer {
+    if blocks {
+        Answer::Block(block(alloc, slot, root))
+    } else {
+        Answer::Data(details(slot, index, root))
+    }
+}
+
+/// The answers of a node, of which the first has another root than the others.
+fn answers_of(alloc: Global, outside: &Outside, blocks: bool) -> Result<Vec<Answer>, AllocError> {
+    let mut answers = Vec::new(alloc);
+    let mut root = 0;
+    for (slot, index) in outside.answers {
+        answers.push(answer(alloc, blocks, *slot, *index, root))?;
+        root = 1;
+    }
+    Ok(answers)
+}
+
+/// A node that answers with blocks, or with what is to be voted.
+fn nodes_of(alloc: Global, outside: &Outside, blocks: bool) -> Result<Nodes<MemNode>, AllocError> {
+    let failing = outside.failing_asks.to_vec(alloc)?;
+    let answers = answers_of(alloc, outside, blocks)?;
+    let nodes = vec![in alloc; MemNode::new(alloc, answers, failing)]?;
+    Ok(Nodes::new(alloc, nodes))
+}
+
+fn signer_of(alloc: Global, outside: &Outside) -> Result<MemSigner, AllocError> {
+    let failing = outside.failing_signs.to_vec(alloc)?;
+    let lacking = outside.lacking.to_vec(alloc)?;
+    Ok(MemSigner::new(alloc, lacking, failing))
+}
+
+fn empty_disk(alloc: Global) -> Result<MemDisk, AllocError> {
+    MemDisk::new(alloc, Vec::new(alloc), Vec::new(alloc), None)
+}
+
+fn empty_disks(alloc: Global) -> Result<Disks<MemDisk>, AllocError> {
+    let first = empty_disk(alloc)?;
+    let second = empty_disk(alloc)?;
+    Ok(Disks { first, second })
+}
+
+/// A desk that keeps no key.
+fn empty_desk<T: Abort>(rt: &T, alloc: Global) -> Result<Desk<MemDisk>, AllocError> {
+    let disks = empty_disks(alloc)?;
+    match Desk::open(alloc, disks, SETUP.genesis, false, 0) {
+        Ok(desk) => Ok(desk),
+        Err(_) => rt.panic("not opened"),
+    }
+}
+
+/// Makes a key active.
+fn activate<T: Abort>(rt: &T, desk: &mut Desk<MemDisk>) {
     match desk.activate(KEY, 0) {
-        DeskReply::Active => Ok(desk),
+        DeskReply::Active => {}
         _ => rt.panic("not activated"),
     }
 }
 
-/// A node that answers with blocks, or with what is to be voted.
-fn node(alloc: Global, outside: &Outside, blocks: bool) -> Result<MemNode, AllocError> {
-    let mut answers = Vec::new(alloc);
-    let mut root = 0;
-    for (slot, index) in outside.answers {
-        let answer = if blocks {
-            Answer::Block(block(alloc, *slot, root)?)
-        } else {
-            Answer::Data(details(*slot, *index, root))
-        };
-        answers.push(answer)?;
-        root = 1;
-    }
-    let failing = outside.failing_asks.to_vec(alloc)?;
-    Ok(MemNode::new(alloc, answers, failing))
+/// A desk with one active key, a signer and a node.
+fn stage_of<T: Abort>(
+    rt: &T,
+    alloc: Global,
+    outside: &Outside,
+    blocks: bool,
+) -> Result<Stage, AllocError> {
+    let signer = signer_of(alloc, outside)?;
+    let nodes = nodes_of(alloc, outside, blocks)?;
+    let mut desk = empty_desk(rt, alloc)?;
+    activate(rt, &mut desk);
+    Ok(Stage {
+        desk,
+        signer,
+        nodes,
+    })
 }
 
-fn signer(alloc: Global, outside: &Outside) -> Result<MemSigner, AllocError> {
-    let mut lacking = Vec::new(alloc);
-    if outside.lacks_key {
-        lacking.push(KEY)?;
-    }
-    let failing = outside.failing_signs.to_vec(alloc)?;
-    Ok(MemSigner::new(alloc, lacking, failing))
+/// Does `VOTES`.
+fn vote(alloc: Global, stage: &mut Stage) -> Result<Vec<DutyResult>, AllocError> {
+    run_slot(
+        alloc,
+        &SETUP,
+        &Domains::new(FORK, SETUP.genesis),
+        SLOT,
+        1,
+        &VOTES,
+        &mut stage.desk,
+        &mut stage.signer,
+        &mut stage.nodes,
+    )
 }
 
-/// How many posts the node tells.
+/// Does `BLOCKS`.
+fn propose(alloc: Global, stage: &mut Stage) -> Result<Vec<DutyResult>, AllocError> {
+    run_slot(
+        alloc,
+        &SETUP,
+        &Domains::new(FORK, SETUP.genesis),
+        SLOT,
+        1,
+        &BLOCKS,
+        &mut stage.desk,
+        &mut stage.signer,
+        &mut stage.nodes,
+    )
+}
+
+/// Does the votes or the blocks of the slot.
+fn take_slot(
+    alloc: Global,
+    blocks: bool,
+    stage: &mut Stage,
+) -> Result<Vec<DutyResult>, AllocError> {
+    if blocks {
+        propose(alloc, stage)
+    } else {
+        vote(alloc, stage)
+    }
+}
+
+/// How many posts a node tells.
 fn posts(node: &MemNode) -> usize {
     node.told()
         .iter()
@@ -183,158 +281,188 @@ fn posts(node: &MemNode) -> usize {
         .count()
 }
 
-/// Does the votes or the blocks of the slot, and gives their results, the number of posts, and that of the desk's
-/// events.
-fn results<T: Abort>(
-    rt: &T,
-    alloc: Global,
-    outside: &Outside,
-    blocks: bool,
-) -> Result<String, Fail> {
-    let mut desk = desk_of_one(rt, alloc)?;
-    let mut signer = signer(alloc, outside)?;
-    let nodes = vec![in alloc; node(alloc, outside, blocks)?]?;
-    let mut nodes = Nodes::new(alloc, nodes);
-    let domains = Domains::new(FORK, SETUP.genesis);
-    let duties = if blocks { BLOCKS } else { VOTES };
-    let ended = run_slot(
-        alloc,
-        &SETUP,
-        &domains,
-        SLOT,
-        1,
-        &duties,
-        &mut desk,
-        &mut signer,
-        &mut nodes,
-    )?;
-    let mut text = String::new(alloc);
-    for result in &ended {
+/// How many posts the first of some nodes tells.
+fn first_posts(nodes: Nodes<MemNode>) -> usize {
+    match nodes.into_nodes().first() {
+        Some(node) => posts(node),
+        None => 0,
+    }
+}
+
+/// How many posts the node tells, and how many events the desk.
+fn counts_of(stage: Stage) -> (usize, usize) {
+    let Stage {
+        desk,
+        signer: _,
+        nodes,
+    } = stage;
+    (first_posts(nodes), desk.events().len())
+}
+
+fn write_results(text: &mut String, results: &[DutyResult]) -> Result<(), AllocError> {
+    for result in results {
         write!(text, "{result}; ")?;
     }
-    for node in &nodes.into_nodes() {
-        write!(text, "{} posts; ", posts(node))?;
+    Ok(())
+}
+
+/// Puts the results behind a text, and the numbers of posts and of events.
+fn write_ended(
+    text: &mut String,
+    results: &[DutyResult],
+    counts: (usize, usize),
+) -> Result<(), AllocError> {
+    write_results(text, results)?;
+    let (posts, events) = counts;
+    write!(text, "{posts} posts; {events} events")
+}
+
+/// Compares the results, and the numbers of posts and of events, with what is expected.
+fn compare<T: Abort>(
+    rt: &T,
+    alloc: Global,
+    results: &[DutyResult],
+    counts: (usize, usize),
+    ended: &str,
+) -> Result<(), AllocError> {
+    let mut text = String::new(alloc);
+    write_ended(&mut text, results, counts)?;
+    assert_eq!(rt; text.as_str(), ended);
+    Ok(())
+}
+
+/// Does the votes or the blocks of the slot, and looks at what becomes of them.
+fn look_at_slot<T: Abort>(
+    rt: &T,
+    alloc: Global,
+    case: &Case,
+    blocks: bool,
+) -> Result<(), AllocError> {
+    let mut stage = stage_of(rt, alloc, &case.outside, blocks)?;
+    let results = take_slot(alloc, blocks, &mut stage)?;
+    let counts = counts_of(stage);
+    compare(rt, alloc, results.as_slice(), counts, case.ended)
+}
+
+/// Looks at each slot.
+fn look_at<T: Abort>(
+    rt: &T,
+    alloc: Global,
+    cases: &[Case],
+    blocks: bool,
+) -> Result<(), AllocError> {
+    for case in cases {
+        look_at_slot(rt, alloc, case, blocks)?;
     }
-    write!(text, "{} events", desk.events().len())?;
-    Ok(text)
+    Ok(())
 }
 
 /// What becomes of `VOTES`. A message that was granted stays in the record, whatever became of it.
-const VOTED: [(Outside, &str); 6] = [
-    (
-        WELL,
-        "sent; refused unknown; refused double_vote; 1 posts; 3 events",
-    ),
-    (
-        Outside {
+const VOTED: [Case; 6] = [
+    Case {
+        outside: WELL,
+        ended: "sent; refused unknown; refused double_vote; 1 posts; 3 events",
+    },
+    Case {
+        outside: Outside {
             answers: &[],
             ..WELL
         },
-        "nodata none; nodata none; nodata none; 0 posts; 1 events",
-    ),
-    (
-        Outside {
+        ended: "nodata none; nodata none; nodata none; 0 posts; 1 events",
+    },
+    Case {
+        outside: Outside {
             answers: &[(SLOT, 3), (34, 2), (SLOT, 2)],
             ..WELL
         },
-        "nodata differs; nodata differs; sent; 1 posts; 3 events",
-    ),
-    (
-        Outside {
-            lacks_key: true,
+        ended: "nodata differs; nodata differs; sent; 1 posts; 3 events",
+    },
+    Case {
+        outside: Outside {
+            lacking: &[KEY],
             ..WELL
         },
-        "unsigned no_key; refused unknown; refused double_vote; 0 posts; 3 events",
-    ),
-    (
-        Outside {
+        ended: "unsigned no_key; refused unknown; refused double_vote; 0 posts; 3 events",
+    },
+    Case {
+        outside: Outside {
             failing_signs: &[0],
             ..WELL
         },
-        "unsigned fault; refused unknown; refused double_vote; 0 posts; 3 events",
-    ),
-    (
-        Outside {
+        ended: "unsigned fault; refused unknown; refused double_vote; 0 posts; 3 events",
+    },
+    Case {
+        outside: Outside {
             failing_asks: &[1],
             ..WELL
         },
-        "unposted; refused unknown; refused double_vote; 1 posts; 3 events",
-    ),
+        ended: "unposted; refused unknown; refused double_vote; 1 posts; 3 events",
+    },
 ];
 
 /// What becomes of `BLOCKS`. Each but the first has leave for its reveal, which is settled too.
-const PROPOSED: [(Outside, &str); 8] = [
-    (
-        WELL,
-        "refused unknown; sent; refused double_block; 1 posts; 7 events",
-    ),
-    (
-        Outside {
+const PROPOSED: [Case; 8] = [
+    Case {
+        outside: WELL,
+        ended: "refused unknown; sent; refused double_block; 1 posts; 7 events",
+    },
+    Case {
+        outside: Outside {
             answers: &[],
             ..WELL
         },
-        "refused unknown; nodata none; nodata none; 0 posts; 5 events",
-    ),
-    (
-        Outside {
+        ended: "refused unknown; nodata none; nodata none; 0 posts; 5 events",
+    },
+    Case {
+        outside: Outside {
             answers: &[(34, 0), (SLOT, 0)],
             ..WELL
         },
-        "refused unknown; nodata differs; sent; 1 posts; 7 events",
-    ),
-    (
-        Outside {
-            lacks_key: true,
+        ended: "refused unknown; nodata differs; sent; 1 posts; 7 events",
+    },
+    Case {
+        outside: Outside {
+            lacking: &[KEY],
             ..WELL
         },
-        "refused unknown; unsigned no_key; unsigned no_key; 0 posts; 5 events",
-    ),
-    (
-        Outside {
+        ended: "refused unknown; unsigned no_key; unsigned no_key; 0 posts; 5 events",
+    },
+    Case {
+        outside: Outside {
             failing_signs: &[0],
             ..WELL
         },
-        "refused unknown; unsigned fault; sent; 1 posts; 7 events",
-    ),
-    (
-        Outside {
+        ended: "refused unknown; unsigned fault; sent; 1 posts; 7 events",
+    },
+    Case {
+        outside: Outside {
             failing_signs: &[1],
             ..WELL
         },
-        "refused unknown; unsigned fault; refused double_block; 0 posts; 7 events",
-    ),
-    (
-        Outside {
+        ended: "refused unknown; unsigned fault; refused double_block; 0 posts; 7 events",
+    },
+    Case {
+        outside: Outside {
             failing_asks: &[1],
             ..WELL
         },
-        "refused unknown; unposted; refused double_block; 1 posts; 7 events",
-    ),
-    (
-        Outside {
+        ended: "refused unknown; unposted; refused double_block; 1 posts; 7 events",
+    },
+    Case {
+        outside: Outside {
             failing_asks: &[0],
             ..WELL
         },
-        "refused unknown; nodata none; sent; 1 posts; 7 events",
-    ),
+        ended: "refused unknown; nodata none; sent; 1 posts; 7 events",
+    },
 ];
 
 #[test]
 fn each_vote_ends_by_its_first_call_that_failed(rt: HostRuntime) -> Result<(), Fail> {
-    let alloc = rt.alloc();
-    for (outside, wanted) in &VOTED {
-        let ended = results(&rt, alloc, outside, false)?;
-        assert_eq!(rt; ended.as_str(), *wanted);
-    }
-    Ok(())
+    Ok(look_at(&rt, rt.alloc(), &VOTED, false)?)
 }
 
 #[test]
 fn each_block_ends_by_its_first_call_that_failed(rt: HostRuntime) -> Result<(), Fail> {
-    let alloc = rt.alloc();
-    for (outside, wanted) in &PROPOSED {
-        let ended = results(&rt, alloc, outside, true)?;
-        assert_eq!(rt; ended.as_str(), *wanted);
-    }
-    Ok(())
+    Ok(look_at(&rt, rt.alloc(), &PROPOSED, true)?)
 }
