@@ -1,6 +1,6 @@
 //! The checks of a request in their order, each with its reply.
 use crate::exchange::{refuse, run};
-use crate::outside::{ROOM, desk, serve, signer};
+use crate::outside::{ROOM, serve_on, stage_of};
 use std::test::Fail;
 
 const NO_MESSAGES: &str = r#">
@@ -207,9 +207,8 @@ const NO_TEXT_TOLD: &str =
 #[test]
 fn a_coding_that_is_no_text_is_told_as_one(rt: HostRuntime) -> Result<(), Fail> {
     let alloc = rt.alloc();
-    let mut desk = desk(&rt, alloc, None)?;
-    let mut signer = signer(alloc, None)?;
-    let (sent, _) = serve(alloc, NO_TEXT, ROOM, None, &mut desk, &mut signer)?;
+    let mut stage = stage_of(&rt, alloc, None, None)?;
+    let (sent, _) = serve_on(alloc, NO_TEXT, ROOM, None, stage.as_mut())?;
     assert_eq!(rt; sent.as_slice(), NO_TEXT_TOLD.as_bytes());
     Ok(())
 }

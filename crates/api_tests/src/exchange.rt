@@ -1,5 +1,5 @@
 //! Exchanges one after another, as scripts tell them.
-use crate::outside::{ROOM, desk, did, in_lines, is_untouched, serve, signer};
+use crate::outside::{ROOM, Stage, did, in_lines, is_untouched, serve, stage_of};
 use check_sign::Desk;
 use edge_kit::MemDisk;
 use keymanager_api::Served;
@@ -79,6 +79,57 @@ pub fn exchange<S: Signer>(
     }
 }
 
+/// The request that was made last, and the reply to it.
+#[derive(Drop)]
+struct Talk {
+    asked: String,
+    sent: Vec<u8>,
+}
+
+/// Makes a request.
+fn ask<S: Signer>(
+    alloc: Global,
+    said: String,
+    talk: &mut Talk,
+    desk: &mut Desk<MemDisk>,
+    signer: &mut S,
+) -> Result<(), Fail> {
+    talk.sent = exchange(alloc, said.as_str(), desk, signer)?;
+    talk.asked = said;
+    Ok(())
+}
+
+/// Compares the last reply with a line of a script.
+fn compare<T: Abort>(
+    rt: &T,
+    alloc: Global,
+    line: &str,
+    text: &str,
+    talk: &Talk,
+) -> Result<(), Fail> {
+    let (sign, _) = line.split_once(' ').unwrap_or((line, ""));
+    let is_so = is_reply(alloc, sign, text, talk.sent.as_slice())?;
+    assert!(rt; is_so, "{}\n{line}", talk.asked.as_str());
+    Ok(())
+}
+
+/// Plays one line of a script.
+fn play_line<T: Abort, S: Signer>(
+    rt: &T,
+    alloc: Global,
+    line: &str,
+    talk: &mut Talk,
+    desk: &mut Desk<MemDisk>,
+    signer: &mut S,
+) -> Result<(), Fail> {
+    let (sign, text) = line.split_once(' ').unwrap_or((line, ""));
+    let text = filled(alloc, text)?;
+    match said_in(alloc, sign, text.as_str())? {
+        Some(said) => ask(alloc, said, talk, desk, signer),
+        None => compare(rt, alloc, line, text.as_str(), talk),
+    }
+}
+
 /// Plays the lines of a script, whose marks are filled in. `>` begins the bytes of a request and `+` its method and its
 /// body, of a request of the keystores with the token; `=` begins the bytes of the reply, `<` its status and its body,
 /// and `!` its status and its message. In bytes each `|` stands for the end of a line.
@@ -89,21 +140,37 @@ pub fn play<T: Abort, S: Signer>(
     desk: &mut Desk<MemDisk>,
     signer: &mut S,
 ) -> Result<(), Fail> {
-    let (mut asked, mut sent) = (String::new(alloc), Vec::new(alloc));
+    let mut talk = Talk {
+        asked: String::new(alloc),
+        sent: Vec::new(alloc),
+    };
     for line in script.lines() {
-        let (sign, text) = line.split_once(' ').unwrap_or((line, ""));
-        let text = filled(alloc, text)?;
-        match said_in(alloc, sign, text.as_str())? {
-            Some(said) => {
-                sent = exchange(alloc, said.as_str(), desk, signer)?;
-                asked = said;
-            }
-            None => {
-                let is_so = is_reply(alloc, sign, text.as_str(), sent.as_slice())?;
-                assert!(rt; is_so, "{}\n{line}", asked.as_str());
-            }
-        }
+        play_line(rt, alloc, line, &mut talk, desk, signer)?;
     }
+    Ok(())
+}
+
+/// Plays a script over a stage.
+pub fn play_on<T: Abort, S: Signer>(
+    rt: &T,
+    alloc: Global,
+    script: &str,
+    stage: &mut Stage<S>,
+) -> Result<(), Fail> {
+    play(rt, alloc, script, &mut stage.desk, &mut stage.signer)
+}
+
+/// Plays a script over a stage, and compares the events of the desk.
+pub fn play_to<T: Abort, S: Signer>(
+    rt: &T,
+    alloc: Global,
+    script: &str,
+    events: &str,
+    stage: &mut Stage<S>,
+) -> Result<(), Fail> {
+    play_on(rt, alloc, script, stage)?;
+    let is_done = did(alloc, &stage.desk, events)?;
+    assert!(rt; is_done, "{events}");
     Ok(())
 }
 
@@ -116,12 +183,8 @@ pub fn run<T: Abort>(
     script: &str,
     events: &str,
 ) -> Result<(), Fail> {
-    let mut desk = desk(rt, alloc, None)?;
-    let mut signer = signer(alloc, failing)?;
-    play(rt, alloc, script, &mut desk, &mut signer)?;
-    let is_done = did(alloc, &desk, events)?;
-    assert!(rt; is_done, "{events}");
-    Ok(())
+    let mut stage = stage_of(rt, alloc, None, failing)?;
+    play_to(rt, alloc, script, events, stage.as_mut())
 }
 
 /// What makes the first call of the signer, which fails.
@@ -130,10 +193,9 @@ const FIRST_CALL: &str = r#"+ POST {"keystores":["{'pubkey':'<K2>'}"],"passwords
 
 /// Plays a script of requests that are refused, over one desk and one signer, which are as before then.
 pub fn refuse<T: Abort>(rt: &T, alloc: Global, script: &str) -> Result<(), Fail> {
-    let mut desk = desk(rt, alloc, None)?;
-    let mut signer = signer(alloc, Some(0))?;
-    play(rt, alloc, script, &mut desk, &mut signer)?;
-    play(rt, alloc, FIRST_CALL, &mut desk, &mut signer)?;
-    assert!(rt; is_untouched(desk));
+    let mut stage = stage_of(rt, alloc, None, Some(0))?;
+    play_on(rt, alloc, script, stage.as_mut())?;
+    play_on(rt, alloc, FIRST_CALL, stage.as_mut())?;
+    assert!(rt; is_untouched(stage));
     Ok(())
 }

@@ -1,6 +1,6 @@
 //! Keys that are taken in, listed and given up.
-use crate::exchange::{play, run};
-use crate::outside::{OPENING, desk, did, signer};
+use crate::exchange::{play_on, play_to, run};
+use crate::outside::{OPENING, stage_of};
 use std::alloc::Global;
 use std::process::Abort;
 use std::test::Fail;
@@ -108,10 +108,9 @@ const DISK: &str =
 
 /// Plays that script over a disk that stops at so many calls behind the desk's opening.
 fn fail_in_the_merge<T: Abort>(rt: &T, alloc: Global, call: u64) -> Result<(), Fail> {
-    let mut desk = desk(rt, alloc, Some(OPENING.saturating_add(call)))?;
-    let mut signer = signer(alloc, Some(0))?;
-    play(rt, alloc, DISK, &mut desk, &mut signer)?;
-    assert!(rt; desk.failed() && desk.events().is_empty());
+    let mut stage = stage_of(rt, alloc, Some(OPENING.saturating_add(call)), Some(0))?;
+    play_on(rt, alloc, DISK, stage.as_mut())?;
+    assert!(rt; stage.desk.failed() && stage.desk.events().is_empty());
     Ok(())
 }
 
@@ -137,10 +136,7 @@ const DISK_LATER: &str =
 #[test]
 fn a_disk_that_fails_later_is_an_error_of_the_key(rt: HostRuntime) -> Result<(), Fail> {
     let alloc = rt.alloc();
-    let mut desk = desk(&rt, alloc, Some(OPENING + 4))?;
-    let mut signer = signer(alloc, None)?;
-    play(&rt, alloc, DISK_LATER, &mut desk, &mut signer)?;
-    let is_done = did(alloc, &desk, "7 activated <K1>|7 close begun <K1>|")?;
-    assert!(rt; is_done);
-    Ok(())
+    let mut stage = stage_of(&rt, alloc, Some(OPENING + 4), None)?;
+    let events = "7 activated <K1>|7 close begun <K1>|";
+    play_to(&rt, alloc, DISK_LATER, events, stage.as_mut())
 }

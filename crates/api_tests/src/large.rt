@@ -1,6 +1,7 @@
 //! Requests that are large.
 use crate::exchange::{refusal, request};
-use crate::outside::{ROOM, desk, is_untouched, serve, signer};
+use crate::outside::{ROOM, Stage, is_untouched, serve_on, stage_of};
+use signer_link::MemSigner;
 use std::alloc::{AllocError, Global};
 use std::process::Abort;
 use std::test::Fail;
@@ -14,15 +15,20 @@ fn with_pieces(alloc: Global, text: &str, count: u32, piece: &str) -> Result<Str
     Ok(pieces)
 }
 
+/// The reply to this request of the keystores.
+fn reply_to(alloc: Global, text: &str, stage: &mut Stage<MemSigner>) -> Result<Vec<u8>, Fail> {
+    let said = request(alloc, text)?;
+    let (sent, _) = serve_on(alloc, said.as_bytes(), ROOM, None, stage)?;
+    Ok(sent)
+}
+
 /// Sends this request of the keystores, and compares the reply, which is a refusal; the desk has done nothing then.
 fn refuse_large<T: Abort>(rt: &T, alloc: Global, text: &str, wanted: &str) -> Result<(), Fail> {
-    let mut desk = desk(rt, alloc, None)?;
-    let mut signer = signer(alloc, None)?;
-    let said = request(alloc, text)?;
-    let (sent, _) = serve(alloc, said.as_bytes(), ROOM, None, &mut desk, &mut signer)?;
     let wanted = refusal(alloc, wanted)?;
+    let mut stage = stage_of(rt, alloc, None, None)?;
+    let sent = reply_to(alloc, text, stage.as_mut())?;
     assert_eq!(rt; sent.as_slice(), wanted.as_bytes());
-    assert!(rt; is_untouched(desk));
+    assert!(rt; is_untouched(stage));
     Ok(())
 }
 

@@ -1,9 +1,10 @@
 //! Links that fail, and requests that come over none.
 use crate::exchange::{exchange, reply, request};
-use crate::outside::{NOW, ROOM, TOKEN, desk, did, is_untouched, serve, signer};
+use crate::outside::{NOW, ROOM, Stage, TOKEN, did, is_untouched, serve_on, stage_of};
 use http::Method;
-use http_wire::{Field, Request};
+use http_wire::{Field, Request, Response};
 use keymanager_api::{Served, answer};
+use signer_link::MemSigner;
 use std::alloc::{AllocError, Global};
 use std::process::Abort;
 use std::test::Fail;
@@ -17,8 +18,20 @@ const HEAD: &str =
 const WHOLE: &str =
     "HTTP/1.1 200 OK\r\nContent-Type: application/json\r\nContent-Length: 11\r\nConnection: close\r\n\r\n{\"data\":[]}";
 
-/// Asks for the keys of a desk that keeps none over a link with room for so many bytes sent, which fails so many calls
-/// behind the one that reads the request's last byte, and compares what was sent and what became of the connection.
+/// Asks for the keys of a stage over a link with room for so many bytes sent, which fails so many calls behind the one
+/// that reads the request's last byte, and gives what was sent and what became of the connection.
+fn list(
+    alloc: Global,
+    room: usize,
+    call: u64,
+    stage: &mut Stage<MemSigner>,
+) -> Result<(Vec<u8>, Served), Fail> {
+    let said = request(alloc, "GET")?;
+    let failing = (said.len() as u64).saturating_add(call);
+    serve_on(alloc, said.as_bytes(), room, Some(failing), stage)
+}
+
+/// Asks so for the keys of a desk that keeps none, and compares what was sent and what became of the connection.
 fn end_so<T: Abort>(
     rt: &T,
     alloc: Global,
@@ -27,21 +40,11 @@ fn end_so<T: Abort>(
     wanted: &str,
     ending: Served,
 ) -> Result<(), Fail> {
-    let mut desk = desk(rt, alloc, None)?;
-    let mut signer = signer(alloc, Some(0))?;
-    let said = request(alloc, "GET")?;
-    let failing = (said.len() as u64).saturating_add(call);
-    let (sent, served) = serve(
-        alloc,
-        said.as_bytes(),
-        room,
-        Some(failing),
-        &mut desk,
-        &mut signer,
-    )?;
+    let mut stage = stage_of(rt, alloc, None, Some(0))?;
+    let (sent, served) = list(alloc, room, call, stage.as_mut())?;
     assert_eq!(rt; sent.as_slice(), wanted.as_bytes());
     assert_eq!(rt; served, ending);
-    assert!(rt; is_untouched(desk));
+    assert!(rt; is_untouched(stage));
     Ok(())
 }
 
@@ -66,18 +69,44 @@ fn a_connection_is_hung_up_behind_the_reply(rt: HostRuntime) -> Result<(), Fail>
     end_so(&rt, alloc, ROOM, 4, WHOLE, Served::Replied { status: 200 })
 }
 
-/// Sends an import whose reply finds no room, and then again, as a client does that got no reply.
-fn import_twice<T: Abort>(rt: &T, alloc: Global) -> Result<(), Fail> {
-    let mut desk = desk(rt, alloc, None)?;
-    let mut signer = signer(alloc, None)?;
+/// The request of an import.
+fn import(alloc: Global) -> Result<String, AllocError> {
     let said = filled(alloc, IMPORT)?;
-    let said = request(alloc, said.as_str())?;
-    let (sent, served) = serve(alloc, said.as_bytes(), 0, None, &mut desk, &mut signer)?;
+    request(alloc, said.as_str())
+}
+
+/// Sends a request whose reply finds no room.
+fn lose_reply<T: Abort>(
+    rt: &T,
+    alloc: Global,
+    said: &str,
+    stage: &mut Stage<MemSigner>,
+) -> Result<(), Fail> {
+    let (sent, served) = serve_on(alloc, said.as_bytes(), 0, None, stage)?;
     assert!(rt; sent.is_empty() && served == Served::Dropped);
-    let again = exchange(alloc, said.as_str(), &mut desk, &mut signer)?;
+    Ok(())
+}
+
+/// Sends a request, and compares the reply.
+fn send_again<T: Abort>(
+    rt: &T,
+    alloc: Global,
+    said: &str,
+    stage: &mut Stage<MemSigner>,
+) -> Result<(), Fail> {
+    let again = exchange(alloc, said, &mut stage.desk, &mut stage.signer)?;
     let wanted = reply(alloc, DUPLICATE)?;
     assert_eq!(rt; again.as_slice(), wanted.as_bytes());
-    let is_done = did(alloc, &desk, "7 activated <K1>|")?;
+    Ok(())
+}
+
+/// Sends an import whose reply finds no room, and then again, as a client does that got no reply.
+fn import_twice<T: Abort>(rt: &T, alloc: Global) -> Result<(), Fail> {
+    let said = import(alloc)?;
+    let mut stage = stage_of(rt, alloc, None, None)?;
+    lose_reply(rt, alloc, said.as_str(), stage.as_mut())?;
+    send_again(rt, alloc, said.as_str(), stage.as_mut())?;
+    let is_done = did(alloc, &stage.desk, "7 activated <K1>|")?;
     assert!(rt; is_done);
     Ok(())
 }
@@ -91,21 +120,34 @@ fn what_was_done_stays_done_where_its_reply_was_lost(rt: HostRuntime) -> Result<
     import_twice(&rt, rt.alloc())
 }
 
+/// The field that bears this token.
+fn field_bearing(alloc: Global, token: &str) -> Result<Field, AllocError> {
+    let name = Vec::from_slice(alloc, b"Authorization")?;
+    let value = format!(in alloc; "Bearer {token}")?.into_bytes();
+    Ok(Field { name, value })
+}
+
 /// A request of the keystores that bears this token, read off no link.
 fn request_bearing(alloc: Global, token: &str) -> Result<Request, AllocError> {
-    let value = format!(in alloc; "Bearer {token}")?;
-    let fields = vec![in alloc;
-        Field {
-            name: Vec::from_slice(alloc, b"Authorization")?,
-            value: value.into_bytes(),
-        },
-    ]?;
+    let fields = vec![in alloc; field_bearing(alloc, token)?]?;
+    let target = Vec::from_slice(alloc, b"/eth/v1/keystores")?;
     Ok(Request {
         method: Method::GET,
-        target: Vec::from_slice(alloc, b"/eth/v1/keystores")?,
+        target,
         fields,
         body: Vec::new(alloc),
     })
+}
+
+/// The response to such a request.
+fn answer_bearing(
+    alloc: Global,
+    token: &str,
+    stage: &mut Stage<MemSigner>,
+) -> Result<Response, AllocError> {
+    let request = request_bearing(alloc, token)?;
+    let (desk, signer) = (&mut stage.desk, &mut stage.signer);
+    answer(alloc, &request, TOKEN, NOW, desk, signer)
 }
 
 /// Compares the response to such a request.
@@ -116,10 +158,8 @@ fn answer_so<T: Abort>(
     status: u16,
     body: &str,
 ) -> Result<(), Fail> {
-    let mut desk = desk(rt, alloc, None)?;
-    let mut signer = signer(alloc, None)?;
-    let request = request_bearing(alloc, token)?;
-    let response = answer(alloc, &request, TOKEN, NOW, &mut desk, &mut signer)?;
+    let mut stage = stage_of(rt, alloc, None, None)?;
+    let response = answer_bearing(alloc, token, stage.as_mut())?;
     assert_eq!(rt; response.status, status);
     assert!(rt; response.fields.is_empty());
     assert_eq!(rt; response.body.as_slice(), body.as_bytes());

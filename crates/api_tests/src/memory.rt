@@ -1,9 +1,13 @@
 //! Replies where memory runs out in what is done.
-use crate::exchange::play;
-use crate::outside::{desk, did, signer};
+use crate::exchange::{play, play_on, play_to};
+use crate::outside::{Stage, stage_of};
 use edge_kit::PubKey;
-use signer_link::{DeleteReply, ImportReply, PlainRequest, SignReply, SignRequest, Signer};
+use signer_link::{
+    DeleteReply, ImportReply, MemSigner, PlainRequest, SignReply, SignRequest, Signer,
+};
 use slash_defs::Granted;
+use std::alloc::Global;
+use std::process::Abort;
 use std::test::Fail;
 
 /// A signer that wants memory at each call.
@@ -56,17 +60,23 @@ const GIVEN_UP: &str = r#"+ DELETE {"pubkeys":["<K1>"]}
 const GIVEN_UP_AGAIN: &str = r#"+ DELETE {"pubkeys":["<K1>"]}
 < 200 OK|{"data":[{"message":"","status":"deleted"}],"slashing_protection":"<file>{'pubkey':'<K1>','signed_attestations':[],'signed_blocks':[{'slot':'5'}]}</file>"}"#;
 
+/// Plays a script over the desk of a stage and the signer that wants memory.
+fn play_exhausted<T: Abort>(
+    rt: &T,
+    alloc: Global,
+    script: &str,
+    stage: &mut Stage<MemSigner>,
+) -> Result<(), Fail> {
+    play(rt, alloc, script, &mut stage.desk, &mut Exhausted)
+}
+
 #[test]
 fn what_was_done_before_memory_ran_out_stays_done(rt: HostRuntime) -> Result<(), Fail> {
     let alloc = rt.alloc();
-    let mut desk = desk(&rt, alloc, None)?;
-    let mut signer = signer(alloc, None)?;
-    play(&rt, alloc, TAKEN_IN, &mut desk, &mut Exhausted)?;
-    play(&rt, alloc, TAKEN_IN_AGAIN, &mut desk, &mut signer)?;
-    play(&rt, alloc, GIVEN_UP, &mut desk, &mut Exhausted)?;
-    play(&rt, alloc, GIVEN_UP_AGAIN, &mut desk, &mut signer)?;
+    let mut stage = stage_of(&rt, alloc, None, None)?;
+    play_exhausted(&rt, alloc, TAKEN_IN, stage.as_mut())?;
+    play_on(&rt, alloc, TAKEN_IN_AGAIN, stage.as_mut())?;
+    play_exhausted(&rt, alloc, GIVEN_UP, stage.as_mut())?;
     let events = "0 merged 1|0 merged 1|7 activated <K1>|7 close begun <K1>|7 closed <K1> 1 0|";
-    let is_done = did(alloc, &desk, events)?;
-    assert!(rt; is_done);
-    Ok(())
+    play_to(&rt, alloc, GIVEN_UP_AGAIN, events, stage.as_mut())
 }

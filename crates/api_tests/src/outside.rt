@@ -20,17 +20,23 @@ pub const ROOM: usize = 65_536;
 /// How many calls of the disk open a desk that keeps no key.
 pub const OPENING: u64 = 9;
 
-/// A desk that keeps no key, whose disk stops at a call, if one is given.
-pub fn desk<T: Abort>(
-    rt: &T,
-    alloc: Global,
-    stop: Option<u64>,
-) -> Result<Desk<MemDisk>, AllocError> {
-    let disks = Disks {
-        first: MemDisk::new(alloc, Vec::new(alloc), Vec::new(alloc), stop)?,
-        second: MemDisk::new(alloc, Vec::new(alloc), Vec::new(alloc), None)?,
-    };
-    match Desk::open(alloc, disks, Root([0; 32]), false, 0) {
+/// What requests are served over.
+#[derive(Drop)]
+pub struct Stage<S> {
+    pub desk: Desk<MemDisk>,
+    pub signer: S,
+}
+
+/// An empty disk that stops at a call, if one is given.
+fn disk(alloc: Global, stop: Option<u64>) -> Result<MemDisk, AllocError> {
+    MemDisk::new(alloc, Vec::new(alloc), Vec::new(alloc), stop)
+}
+
+/// A desk that keeps no key, whose first disk stops at a call, if one is given.
+fn desk<T: Abort>(rt: &T, alloc: Global, stop: Option<u64>) -> Result<Desk<MemDisk>, AllocError> {
+    let first = disk(alloc, stop)?;
+    let second = disk(alloc, None)?;
+    match Desk::open(alloc, Disks { first, second }, Root([0; 32]), false, 0) {
         Ok(desk) => Ok(desk),
         Err(_) => rt.panic("not opened"),
     }
@@ -43,20 +49,49 @@ pub fn did(alloc: Global, desk: &Desk<MemDisk>, events: &str) -> Result<bool, Al
     is_text(alloc, words.as_bytes(), events.as_str())
 }
 
-/// Whether a desk has done nothing since it was opened, and its disk neither.
-pub fn is_untouched(desk: Desk<MemDisk>) -> bool {
-    let is_idle = desk.events().is_empty() && !desk.failed();
+/// How many calls the first disk of a stage had.
+fn disk_calls(stage: Box<Stage<MemSigner>>) -> u64 {
+    let Stage { desk, signer: _ } = Box::into_inner(stage);
     let (disks, _) = desk.end();
-    is_idle && disks.first.calls() == OPENING
+    disks.first.calls()
 }
 
-/// A signer that holds every key, whose call of this number fails, if one is given.
-pub fn signer(alloc: Global, failing: Option<u64>) -> Result<MemSigner, AllocError> {
-    let failing = match failing {
-        Some(call) => vec![in alloc; call]?,
-        None => Vec::new(alloc),
-    };
-    Ok(MemSigner::new(alloc, Vec::new(alloc), failing))
+/// Whether the desk of a stage has done nothing since it was opened, and its disk neither.
+pub fn is_untouched(stage: Box<Stage<MemSigner>>) -> bool {
+    let is_idle = stage.desk.events().is_empty() && !stage.desk.failed();
+    let calls = disk_calls(stage);
+    is_idle && calls == OPENING
+}
+
+/// The calls that fail, of which there is at most one.
+fn calls(alloc: Global, failing: Option<u64>) -> Result<Vec<u64>, AllocError> {
+    match failing {
+        Some(call) => Ok(vec![in alloc; call]?),
+        None => Ok(Vec::new(alloc)),
+    }
+}
+
+/// A desk that keeps no key, whose disk stops at a call, if one is given, beside a signer.
+pub fn stage_over<T: Abort, S: Drop>(
+    rt: &T,
+    alloc: Global,
+    stop: Option<u64>,
+    signer: S,
+) -> Result<Box<Stage<S>>, AllocError> {
+    let desk = desk(rt, alloc, stop)?;
+    Ok(Box::new(alloc, Stage { desk, signer })?)
+}
+
+/// Such a desk beside a signer that holds every key, whose call of this number fails, if one is given.
+pub fn stage_of<T: Abort>(
+    rt: &T,
+    alloc: Global,
+    stop: Option<u64>,
+    failing: Option<u64>,
+) -> Result<Box<Stage<MemSigner>>, AllocError> {
+    let failing = calls(alloc, failing)?;
+    let signer = MemSigner::new(alloc, Vec::new(alloc), failing);
+    stage_over(rt, alloc, stop, signer)
 }
 
 /// The text with this end in the place of each `|`.
@@ -80,10 +115,7 @@ fn connected(
     failing: Option<u64>,
 ) -> Result<MemLink, Fail> {
     let conversations = vec![in alloc; Vec::from_slice(alloc, said)?]?;
-    let failing = match failing {
-        Some(call) => vec![in alloc; call]?,
-        None => Vec::new(alloc),
-    };
+    let failing = calls(alloc, failing)?;
     let mut link = MemLink::new(alloc, conversations, room, failing)?;
     match link.connect() {
         Ok(()) => Ok(link),
@@ -103,4 +135,22 @@ pub fn serve<S: Signer>(
     let mut link = connected(alloc, said, room, failing)?;
     let served = serve_connection(alloc, &mut link, TOKEN, NOW, desk, signer);
     Ok((link.into_sent(), served))
+}
+
+/// Serves such a connection over a stage.
+pub fn serve_on<S: Signer>(
+    alloc: Global,
+    said: &[u8],
+    room: usize,
+    failing: Option<u64>,
+    stage: &mut Stage<S>,
+) -> Result<(Vec<u8>, Served), Fail> {
+    serve(
+        alloc,
+        said,
+        room,
+        failing,
+        &mut stage.desk,
+        &mut stage.signer,
+    )
 }

@@ -1,25 +1,35 @@
 //! Replies by what a signing service says.
-use crate::exchange::play;
-use crate::outside::{desk, did, in_lines};
+use crate::exchange::{play_on, play_to};
+use crate::outside::{Stage, in_lines, stage_over};
 use edge_kit::MemLink;
 use service_url::ServiceUrl;
-use std::alloc::Global;
+use std::alloc::{AllocError, Global};
 use std::test::Fail;
 use test_texts::{filled, is_text};
 use web3_signer::Web3Signer;
 
-/// A signing service that says these responses, one on each line.
-fn service(alloc: Global, said: &str) -> Result<Web3Signer<MemLink>, Fail> {
+/// The bytes of a response.
+fn response(alloc: Global, line: &str) -> Result<Vec<u8>, AllocError> {
+    let line = filled(alloc, line)?;
+    Ok(in_lines(alloc, line.as_str(), "\r\n")?.into_bytes())
+}
+
+/// The link to a service that says these responses, one on each line.
+fn link(alloc: Global, said: &str) -> Result<MemLink, AllocError> {
     let mut conversations = Vec::new(alloc);
     for line in said.lines() {
-        let line = filled(alloc, line)?;
-        conversations.push(in_lines(alloc, line.as_str(), "\r\n")?.into_bytes())?;
+        conversations.push(response(alloc, line)?)?;
     }
-    let link = MemLink::new(alloc, conversations, 65_536, Vec::new(alloc))?;
-    match ServiceUrl::read(alloc, "http://signer:9000")? {
-        Some(url) => Ok(Web3Signer::new(link, url)),
-        None => Err(Fail::new("no address")),
-    }
+    MemLink::new(alloc, conversations, 65_536, Vec::new(alloc))
+}
+
+/// A signing service that says these responses, one on each line.
+fn service(alloc: Global, said: &str) -> Result<Web3Signer<MemLink>, Fail> {
+    let Some(url) = ServiceUrl::read(alloc, "http://signer:9000")? else {
+        return Err(Fail::new("no address"));
+    };
+    let link = link(alloc, said)?;
+    Ok(Web3Signer::new(link, url))
 }
 
 /// What the service says of five imports and of two deletions; its last words of an import are 292 characters.
@@ -50,16 +60,10 @@ const TOLD: &str = r#"+ POST {"keystores":["{'pubkey':'<K1>'}"],"passwords":["x"
 #[test]
 fn what_a_signing_service_says_is_the_message_of_the_key(rt: HostRuntime) -> Result<(), Fail> {
     let alloc = rt.alloc();
-    let mut desk = desk(&rt, alloc, None)?;
-    let mut signer = service(alloc, SAID)?;
-    play(&rt, alloc, TOLD, &mut desk, &mut signer)?;
-    let is_done = did(
-        alloc,
-        &desk,
-        "7 activated <K1>|7 close begun <K1>|7 closed <K1> 0 0|",
-    )?;
-    assert!(rt; is_done);
-    Ok(())
+    let signer = service(alloc, SAID)?;
+    let mut stage = stage_over(&rt, alloc, None, signer)?;
+    let events = "7 activated <K1>|7 close begun <K1>|7 closed <K1> 0 0|";
+    play_to(&rt, alloc, TOLD, events, stage.as_mut())
 }
 
 const BOTH_DONE: &str = r#"HTTP/1.1 200 X||{"data":[{"message":"","status":"imported"}]}
@@ -75,14 +79,25 @@ const BOTH: &str =
 const SENT: &str =
     r#"POST /eth/v1/keystores HTTP/1.1|Host: signer:9000|Accept: application/json|Connection: close|Content-Type: application/json|Content-Length: 167||{"keystores":["{'pubkey':'<K1>','version':4}"],"passwords":["x y"]}DELETE /eth/v1/keystores HTTP/1.1|Host: signer:9000|Accept: application/json|Connection: close|Content-Type: application/json|Content-Length: 114||{"pubkeys":["<K1>"]}"#;
 
+/// What the signing service of a stage was sent.
+fn sent_on(stage: Box<Stage<Web3Signer<MemLink>>>) -> Vec<u8> {
+    let Stage { desk: _, signer } = Box::into_inner(stage);
+    signer.into_link().into_sent()
+}
+
+/// Whether these bytes are `SENT`.
+fn is_sent(alloc: Global, sent: &[u8]) -> Result<bool, AllocError> {
+    let wanted = in_lines(alloc, SENT, "\r\n")?;
+    is_text(alloc, sent, wanted.as_str())
+}
+
 #[test]
 fn a_signing_service_is_asked_once_for_each_key(rt: HostRuntime) -> Result<(), Fail> {
     let alloc = rt.alloc();
-    let mut desk = desk(&rt, alloc, None)?;
-    let mut signer = service(alloc, BOTH_DONE)?;
-    play(&rt, alloc, BOTH, &mut desk, &mut signer)?;
-    let sent = signer.into_link().into_sent();
-    let wanted = in_lines(alloc, SENT, "\r\n")?;
-    assert!(rt; is_text(alloc, sent.as_slice(), wanted.as_str())?);
+    let signer = service(alloc, BOTH_DONE)?;
+    let mut stage = stage_over(&rt, alloc, None, signer)?;
+    play_on(&rt, alloc, BOTH, stage.as_mut())?;
+    let sent = sent_on(stage);
+    assert!(rt; is_sent(alloc, sent.as_slice())?);
     Ok(())
 }

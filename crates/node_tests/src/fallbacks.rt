@@ -3,14 +3,36 @@ use duty_schedule::{DutyRows, Schedule, Taken};
 use edge_kit::{Items, PubKey, Root};
 use node_calls::{Answer, Ask, AttesterRow, MemNode};
 use node_fallback::{Cause, NoAnswer, Nodes};
-use std::alloc::Global;
+use std::alloc::{AllocError, Global};
+use std::fmt::Write;
+use std::process::Abort;
 use std::test::Fail;
 
 const KEY: PubKey = PubKey([0x11; 48]);
 
 /// An answer of one vote at a slot of epoch 3, under the root of this byte.
-fn answer(alloc: Global, root: u8, slot: u64) -> Result<Answer, Fail> {
-    let row = AttesterRow {
+struct Vote {
+    root: u8,
+    slot: u64,
+}
+
+/// What the nodes' answer to the question for epoch 3 becomes at the schedule, in a word, and how many duties there are
+/// then at slots 96 and 97.
+struct Turn {
+    word: &'static str,
+    first: usize,
+    second: usize,
+}
+
+/// Nodes, and the schedule that takes their answers.
+#[derive(Drop)]
+struct Stage {
+    nodes: Nodes<MemNode>,
+    schedule: Schedule,
+}
+
+fn row(slot: u64) -> AttesterRow {
+    AttesterRow {
         pubkey: KEY,
         validator_index: 7,
         committee_index: 2,
@@ -18,90 +40,186 @@ fn answer(alloc: Global, root: u8, slot: u64) -> Result<Answer, Fail> {
         committees_at_slot: 64,
         validator_committee_index: 3,
         slot,
-    };
+    }
+}
+
+fn answer(alloc: Global, vote: &Vote) -> Result<Answer, AllocError> {
+    let rows = vec![in alloc; row(vote.slot)]?;
     Ok(Answer::Attester {
-        dependent_root: Root([root; 32]),
-        rows: Items::from_vec(vec![in alloc; row]?),
+        dependent_root: Root([vote.root; 32]),
+        rows: Items::from_vec(rows),
     })
 }
 
-/// What becomes of an answer, in a word.
-fn take(alloc: Global, schedule: &mut Schedule, answer: Answer) -> Result<String, Fail> {
-    let (root, rows) = match answer {
-        Answer::Attester {
-            dependent_root,
-            rows,
-        } => (dependent_root, rows),
-        _other => return Err(Fail::new("another answer")),
-    };
-    let asked = Items::from_vec(vec![in alloc; 7]?);
-    let word = match schedule.take_answer(3, asked, root, DutyRows::Attester(rows)) {
-        Taken::Replaced => "replaced",
-        Taken::Kept => "kept",
-    };
-    Ok(String::from_str(alloc, word)?)
+fn answers(alloc: Global, votes: &[Vote]) -> Result<Vec<Answer>, AllocError> {
+    let mut answers = Vec::new(alloc);
+    for vote in votes {
+        answers.push(answer(alloc, vote)?)?;
+    }
+    Ok(answers)
 }
 
-/// The causes, each behind a space.
-fn words_of(alloc: Global, causes: &[Cause]) -> Result<String, Fail> {
+/// A node with these answers, whose calls of these numbers fail.
+fn node(alloc: Global, votes: &[Vote], failing: &[u64]) -> Result<MemNode, AllocError> {
+    let failing = failing.to_vec(alloc)?;
+    let answers = answers(alloc, votes)?;
+    Ok(MemNode::new(alloc, answers, failing))
+}
+
+const FIRST: [Vote; 2] = [
+    Vote {
+        root: 0xaa,
+        slot: 96,
+    },
+    Vote {
+        root: 0xbb,
+        slot: 96,
+    },
+];
+
+const SECOND: [Vote; 1] = [Vote {
+    root: 0xbb,
+    slot: 97,
+}];
+
+/// A node of which the second call and the fourth fail, and one of which the second does.
+fn nodes(alloc: Global) -> Result<Nodes<MemNode>, AllocError> {
+    let first = node(alloc, &FIRST, &[1, 3])?;
+    let second = node(alloc, &SECOND, &[1])?;
+    Ok(Nodes::new(alloc, vec![in alloc; first, second]?))
+}
+
+fn indices(alloc: Global) -> Result<Items<u64>, AllocError> {
+    Ok(Items::from_vec(vec![in alloc; 7]?))
+}
+
+/// What the nodes answer to the question for epoch 3.
+fn asked(
+    alloc: Global,
+    nodes: &mut Nodes<MemNode>,
+) -> Result<Result<Answer, NoAnswer>, AllocError> {
+    let ask = Ask::Attester {
+        epoch: 3,
+        indices: indices(alloc)?,
+    };
+    Ok(nodes.ask(&ask))
+}
+
+/// Puts the causes behind a text, each behind a space.
+fn write_causes(text: &mut String, causes: &[Cause]) -> Result<(), AllocError> {
+    for cause in causes {
+        write!(text, " {cause}")?;
+    }
+    Ok(())
+}
+
+/// Why there is no answer.
+fn no_answer<T: Abort>(rt: &T, alloc: Global, why: &NoAnswer) -> Result<String, AllocError> {
     let mut text = String::from_str(alloc, "no node:")?;
-    'causes: for cause in causes {
-        let word = format!(in alloc; " {cause}")?;
-        text.push_str(word.as_str())?;
+    match why {
+        NoAnswer::NoNode(causes) => write_causes(&mut text, causes.as_slice())?,
+        NoAnswer::OutOfMemory => rt.panic("no memory"),
     }
     Ok(text)
 }
 
-/// What the nodes answer to the question for epoch 3, taken by the schedule, in a word.
-fn taken(
+/// What becomes of an answer, in a word.
+fn take<T: Abort>(
+    rt: &T,
     alloc: Global,
-    nodes: &mut Nodes<MemNode>,
     schedule: &mut Schedule,
-) -> Result<String, Fail> {
-    let ask = Ask::Attester {
-        epoch: 3,
-        indices: Items::from_vec(vec![in alloc; 7]?),
+    answer: Answer,
+) -> Result<&'static str, AllocError> {
+    let asked = indices(alloc)?;
+    let Answer::Attester {
+        dependent_root,
+        rows,
+    } = answer
+    else {
+        return rt.panic("another answer");
     };
-    let reply = nodes.ask(&ask);
-    match reply {
-        Ok(answer) => take(alloc, schedule, answer),
-        Err(NoAnswer::NoNode(causes)) => words_of(alloc, causes.as_slice()),
-        Err(NoAnswer::OutOfMemory) => Err(Fail::new("no memory")),
+    match schedule.take_answer(3, asked, dependent_root, DutyRows::Attester(rows)) {
+        Taken::Replaced => Ok("replaced"),
+        Taken::Kept => Ok("kept"),
     }
 }
 
-/// How many duties there are at slots 96 and 97.
-fn due(schedule: &Schedule) -> Result<(usize, usize), Fail> {
-    let first = schedule.due(96, &[KEY])?.len();
-    Ok((first, schedule.due(97, &[KEY])?.len()))
+/// What the nodes answer to the question for epoch 3, taken by the schedule, in a word.
+fn taken<T: Abort>(rt: &T, alloc: Global, stage: &mut Stage) -> Result<String, AllocError> {
+    match asked(alloc, &mut stage.nodes)? {
+        Ok(answer) => {
+            let word = take(rt, alloc, &mut stage.schedule, answer)?;
+            String::from_str(alloc, word)
+        }
+        Err(why) => no_answer(rt, alloc, &why),
+    }
+}
+
+/// How many duties there are at a slot.
+fn due(stage: &Stage, slot: u64) -> Result<usize, AllocError> {
+    Ok(stage.schedule.due(slot, &[KEY])?.len())
+}
+
+fn compare_taken<T: Abort>(
+    rt: &T,
+    alloc: Global,
+    stage: &mut Stage,
+    word: &str,
+) -> Result<(), AllocError> {
+    let said = taken(rt, alloc, stage)?;
+    assert_eq!(rt; said.as_str(), word);
+    Ok(())
+}
+
+fn look_at_turn<T: Abort>(
+    rt: &T,
+    alloc: Global,
+    stage: &mut Stage,
+    turn: &Turn,
+) -> Result<(), AllocError> {
+    compare_taken(rt, alloc, stage, turn.word)?;
+    assert_eq!(rt; due(stage, 96)?, turn.first);
+    assert_eq!(rt; due(stage, 97)?, turn.second);
+    Ok(())
+}
+
+const TURNS: [Turn; 4] = [
+    Turn {
+        word: "replaced",
+        first: 1,
+        second: 0,
+    },
+    Turn {
+        word: "replaced",
+        first: 0,
+        second: 1,
+    },
+    Turn {
+        word: "kept",
+        first: 0,
+        second: 1,
+    },
+    Turn {
+        word: "no node: fault fault",
+        first: 0,
+        second: 1,
+    },
+];
+
+fn look_at_turns<T: Abort>(rt: &T, alloc: Global, stage: &mut Stage) -> Result<(), AllocError> {
+    for turn in &TURNS {
+        look_at_turn(rt, alloc, stage, turn)?;
+    }
+    Ok(())
 }
 
 #[test]
 fn another_dependent_root_from_the_second_node_replaces_the_duties(
     rt: HostRuntime,
 ) -> Result<(), Fail> {
-    let alloc = rt.alloc();
-    let first = MemNode::new(
-        alloc,
-        vec![in alloc; answer(alloc, 0xaa, 96)?, answer(alloc, 0xbb, 96)?]?,
-        vec![in alloc; 1, 3]?,
-    );
-    let second = MemNode::new(
-        alloc,
-        vec![in alloc; answer(alloc, 0xbb, 97)?]?,
-        vec![in alloc; 1]?,
-    );
-    let mut nodes = Nodes::new(alloc, vec![in alloc; first, second]?);
-    let mut schedule = Schedule::new(alloc);
-    for (word, duties) in [
-        ("replaced", (1, 0)),
-        ("replaced", (0, 1)),
-        ("kept", (0, 1)),
-        ("no node: fault fault", (0, 1)),
-    ] {
-        let said = taken(alloc, &mut nodes, &mut schedule)?;
-        assert_eq!(rt; said.as_str(), word);
-        assert_eq!(rt; due(&schedule)?, duties);
-    }
-    Ok(())
+    let mut stage = Stage {
+        nodes: nodes(rt.alloc())?,
+        schedule: Schedule::new(rt.alloc()),
+    };
+    Ok(look_at_turns(&rt, rt.alloc(), &mut stage)?)
 }

@@ -6,4 +6,8 @@ mod bodies;
 #[cfg(test)]
 mod fallbacks;
 #[cfg(test)]
+mod nodes;
+#[cfg(test)]
 mod replies;
+#[cfg(test)]
+mod requests;
