@@ -6,7 +6,7 @@ use signer_link::{
     DeleteReply, ImportReply, MemSigner, PlainRequest, SignReply, SignRequest, Signer,
 };
 use slash_defs::Granted;
-use std::alloc::Global;
+use std::alloc::{AllocError, Global};
 use std::process::Abort;
 use std::test::Fail;
 
@@ -37,6 +37,10 @@ impl Signer for Exhausted {
 
     fn delete(&mut self, _key: &PubKey) -> DeleteReply {
         DeleteReply::OutOfMemory
+    }
+
+    fn twin(&self, _alloc: Global) -> Result<Self, AllocError> {
+        Ok(*self)
     }
 }
 

@@ -1,13 +1,14 @@
 //! A beacon node that is called over HTTP.
 ghost use Rattle.std.specs.Prelude.{◌≡◌, ◌≤◌, [], true, None, Some, Err, IfOk, option_map, string_bytes};
 ghost use Rattle.edge_kit.specs.Causes.{Rose};
+ghost use Rattle.edge_kit.specs.Links.{Stays};
 ghost use Rattle.edge_kit.specs.Tellings.{Tells};
 ghost use Rattle.http_call.specs.Calls.{IsCall, called_text};
 ghost use Rattle.node_calls.specs.Asking.{posted, told_ask, told_post};
 ghost use Rattle.node_calls.specs.Fitting.{fits};
 ghost use Rattle.beacon_node.specs.Calls.{IsAsked, IsPosted, IsSilent, kept};
 
-use crate::keeping::{make_room, post_call, tell_ask, tell_post};
+use crate::keeping::{kept_copy, make_room, post_call, tell_ask, tell_post};
 use crate::readings::{ask_reply, post_reply};
 use crate::requests::{NodeRequest, ask_request, post_request};
 use edge_kit::{Link, PubKey};
@@ -16,6 +17,7 @@ use http_wire::{Response, WireFault};
 use node_calls::{Answer, Ask, Node, NodeCall, NodeFault, Post};
 use service_url::ServiceUrl;
 use slash_defs::{Granted, Message};
+use std::alloc::{AllocError, Global};
 
 /// A beacon node that is called over a link by the Beacon API, one connection a call. Its faults are its link's.
 /// It tells its calls where it was made to.
@@ -162,5 +164,22 @@ impl<L: Link + Drop> Node for BeaconNode<L> {
     {
         let message = grant.what().copied();
         self.post_signed(grant.key(), message, post)
+    }
+
+    /// The node at the same address, over the link's twin. It tells where this one does, and begins with what this
+    /// one told.
+    fn twin(&self, alloc: Global) -> Result<Self, AllocError>
+        ensures told { IfOk result (λ t. kept t.told ≡ kept self.now.told) }
+        ensures faults { IfOk result (λ t. L.faults t.link ≡ 0) }
+        ensures url { IfOk result (λ t. t.url ≡ self.now.url) }
+        ensures left { IfOk result (λ t. Stays (L.left self.now.link) (L.left t.link)) }
+        ensures coming { IfOk result (λ t. Stays (L.coming self.now.link) (L.coming t.link)) }
+        ensures held { IfOk result (λ t. Stays (L.held self.now.link) (L.held t.link)) }
+    {
+        Ok(BeaconNode {
+            link: self.link.twin(alloc)?,
+            url: self.url.copy(alloc)?,
+            told: kept_copy(alloc, &self.told)?,
+        })
     }
 }

@@ -5,7 +5,7 @@ ghost use Rattle.node_calls.specs.Asking.{posted, told_ask, told_post};
 ghost use Rattle.beacon_node.specs.Calls.{HasRoom, IsReady, IsSilent, kept, told_ready};
 
 use edge_kit::PubKey;
-use node_calls::{Answer, Ask, NodeCall, NodeFault, Post, PostCall};
+use node_calls::{Answer, Ask, NodeCall, NodeFault, Post, PostCall, calls_copy};
 use slash_defs::Message;
 use std::alloc::{AllocError, Global};
 
@@ -17,6 +17,19 @@ pub(crate) fn make_room(told: &mut Option<Vec<NodeCall>>) -> Result<(), AllocErr
     match told {
         Some(calls) => calls.reserve(1),
         None => Ok(()),
+    }
+}
+
+/// The calls so far with their replies again, where calls are kept. The error is want of memory.
+pub(crate) fn kept_copy(
+    alloc: Global,
+    told: &Option<Vec<NodeCall>>,
+) -> Result<Option<Vec<NodeCall>>, AllocError>
+    ensures { IfOk result (λ copy. kept copy ≡ kept told.now) }
+{
+    match told {
+        Some(calls) => Ok(Some(calls_copy(alloc, calls.as_slice())?)),
+        None => Ok(None),
     }
 }
 

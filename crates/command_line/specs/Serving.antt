@@ -1,4 +1,4 @@
--- What the values of the options of `serve` write: where it listens, its token, when it ends, and its nodes.
+-- What the values of the options of `serve` write: where it listens, its token, when it ends, its lanes, and its nodes.
 use Rattle.std.specs.Prelude.{ℕ, ◌==◌, ◌&&◌, nat_le, nat_lt, Bool, List, [], ◌∷◌, length, Option, Some, None, is_some, option_map, filter_map, if◌then◌else◌, codes}
 use Rattle.std.specs.Char.{is_ascii_graphic}
 use Rattle.std.specs.List.{list_all, slice_split}
@@ -8,7 +8,7 @@ use Rattle.edge_kit.specs.Texts.{quoted_number}
 use Rattle.service_url.specs.Services.{Service, service_at}
 use Rattle.clap.specs.Words.{Row, Text, all_of, first_of}
 use Rattle.command_line.specs.Forks.{at_colon}
-use Rattle.command_line.specs.Options.{at_most, genesis_in, journal_in, watch_in}
+use Rattle.command_line.specs.Options.{at_most, between, genesis_in, journal_in, watch_in}
 use Rattle.command_line.specs.declared.listen_address.ListenAddress.{ListenAddress}
 use Rattle.command_line.specs.declared.listen_address.ListenHost.{ListenHost}
 use Rattle.command_line.specs.declared.listen_address.ListenHost.TheVariants.{Localhost, Ipv4}
@@ -68,6 +68,12 @@ is_token text = nat_le 1 (length text) && nat_le (length text) 256 && list_all i
 abbrev pub token_at : Text → Option (List ℕ)
 token_at text = if is_token text then Some text else None
 
+-- ---- the lanes
+
+-- in how many lanes duties are done: 1 to 64, in decimal
+abbrev pub lanes_at : Text → Option ℕ
+lanes_at text = quoted_number text >>= between 1 64
+
 -- ---- the nodes
 
 -- a text is the address of a service
@@ -110,12 +116,17 @@ door_in options = do
 abbrev pub limit_in : Text → List Row → Option ℕ
 limit_in id options = option_map_or quoted_number (first_of id options) (Some 18446744073709551615)
 
--- after how many slots and connections it ends
+-- the number of lanes that the value of `--lanes` writes, or, where it is absent, four
+abbrev pub lanes_in : List Row → Option ℕ
+lanes_in options = option_map_or lanes_at (first_of (codes "lanes") options) (Some 4)
+
+-- after how many slots and connections it ends, and in how many lanes it does its duties
 abbrev pub ends_in : List Row → Option EndOptions
 ends_in options = do
   slots ← limit_in (codes "slots") options
   connections ← limit_in (codes "connections") options
-  Some (record { slots = slots; connections = connections })
+  lanes ← lanes_in options
+  Some (record { slots = slots; connections = connections; lanes = lanes })
 
 -- the nodes, in the order of the words
 abbrev pub nodes_in : List Row → Option (List Service)
@@ -137,5 +148,6 @@ serve_options_in options = do
     watch = watch_in options;
     slots = ends.slots;
     connections = ends.connections;
+    lanes = ends.lanes;
     nodes = nodes;
   })

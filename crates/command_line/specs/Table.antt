@@ -68,7 +68,7 @@ token_rule = record (new_rule (codes "token")) {
   required = true;
 }
 
--- `--slots N` or `--connections N`
+-- `--slots N`, `--connections N` or `--lanes N`
 abbrev pub limit_rule : Text → Rule
 limit_rule id = record (new_rule id) {
   long = Some id;
@@ -94,7 +94,7 @@ door_rules = listen_rule ∷ token_rule ∷ []
 
 -- what a server may do without
 abbrev pub end_rules : List Rule
-end_rules = watch_rule ∷ limit_rule (codes "slots") ∷ limit_rule (codes "connections") ∷ []
+end_rules = watch_rule ∷ limit_rule (codes "slots") ∷ limit_rule (codes "connections") ∷ limit_rule (codes "lanes") ∷ []
 
 -- the command `serve` with its options, and its nodes last
 abbrev pub serve_shape : Shape

@@ -39,6 +39,8 @@ Options of serve:
       --connections <N>
           The Keymanager API ends after so many connections; for tests and scripts
           [default: no end]
+      --lanes <N>
+          How many duties are done beside each other, 1 to 64 [default: 4]
       <NODE>...
           Beacon nodes, as http://127.0.0.1:5052, one or more, behind the options [required]
 
@@ -46,13 +48,13 @@ Options of merge and show:
       --genesis <HEX32>
           Genesis validators root of the chain: 0x and 64 hex digits [required]
       --journal <PATH>
-          Journal of a session, in PATH.a and PATH.b [required]
+          Journal of a session or of serve, in PATH.a and PATH.b [required]
 
 A session reads requests from standard input, one JSON object a line, and writes the answer to each
 to standard output, until the input ends. Hex digits may be of either case.";
 
 /// What `--journal` names where a command needs it.
-const JOURNAL_OF_A_SESSION: &str = "Journal of a session, in PATH.a and PATH.b";
+const JOURNAL_OF_A_RUN: &str = "Journal of a session or of serve, in PATH.a and PATH.b";
 
 /// The whole command line.
 pub(crate) fn program<'a>(alloc: Global) -> Result<Command<'a>, AllocError>
@@ -155,7 +157,12 @@ fn with_ends<'a>(alloc: Global, command: Command<'a>) -> Result<Command<'a>, All
         "connections",
         "The Keymanager API ends after so many connections;{n}for tests and scripts [default: no end]",
     );
-    command.arg(watch)?.arg(slots)?.arg(connections)
+    let lanes = limit(
+        alloc,
+        "lanes",
+        "How many duties are done beside each other, 1 to 64 [default: 4]",
+    );
+    command.arg(watch)?.arg(slots)?.arg(connections)?.arg(lanes)
 }
 
 /// The command `merge`.
@@ -163,7 +170,7 @@ pub(crate) fn merge<'a>(alloc: Global) -> Result<Command<'a>, AllocError>
     ensures { IfOk result (λ c. shape_of c ≡ merge_shape) }
 {
     let genesis = genesis(alloc);
-    let journal = journal(alloc, JOURNAL_OF_A_SESSION, true);
+    let journal = journal(alloc, JOURNAL_OF_A_RUN, true);
     Command::new(alloc, "merge")
         .about("Merges the interchange file (EIP-3076) on the input into a journal")
         .arg(genesis)?
@@ -175,7 +182,7 @@ pub(crate) fn show<'a>(alloc: Global) -> Result<Command<'a>, AllocError>
     ensures { IfOk result (λ c. shape_of c ≡ show_shape) }
 {
     let genesis = genesis(alloc);
-    let journal = journal(alloc, JOURNAL_OF_A_SESSION, true);
+    let journal = journal(alloc, JOURNAL_OF_A_RUN, true);
     Command::new(alloc, "show")
         .about("Prints what each key of a journal has")
         .arg(genesis)?
@@ -318,7 +325,7 @@ fn token<'a>(alloc: Global) -> Arg<'a>
         .action(ArgAction::Set)
 }
 
-/// The option `--slots` or `--connections`.
+/// The option `--slots`, `--connections` or `--lanes`.
 fn limit<'a>(alloc: Global, id: &'a str, about: &'a str) -> Arg<'a>
     ensures local { result.global ≡ false }
     ensures rule { rule_of result ≡ limit_rule id.now }

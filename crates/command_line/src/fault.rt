@@ -39,6 +39,9 @@ pub(crate) enum Fault<'a> {
     /// The value of `--connections` is out of form.
     #[error("error: invalid value '{0}' for '--connections <N>': a number in decimal below 2^64 is wanted")]
     Connections(&'a str),
+    /// The lanes are out of form, none, or too many.
+    #[error("error: invalid value '{0}' for '--lanes <N>': 1 to 64 in decimal is wanted")]
+    Lanes(&'a str),
     /// A node's address is no address of a service.
     #[error("error: invalid value '{0}' for '<NODE>...': a URL of scheme http with a host is wanted, without user, password, query or fragment")]
     Node(&'a str),

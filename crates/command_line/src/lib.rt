@@ -4,6 +4,7 @@
 mod command;
 mod fault;
 mod fork_text;
+mod lane_count;
 mod listen_address;
 mod options;
 mod path_text;
@@ -14,6 +15,7 @@ mod serving;
 mod token_text;
 mod words;
 
+pub use lane_count::LaneCount;
 pub use listen_address::{ListenAddress, ListenHost};
 pub use path_text::PathText;
 pub use planned::{Plan, ShownText, Usage};

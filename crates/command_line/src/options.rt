@@ -1,10 +1,11 @@
 //! The values of options, as `clap` found them.
 ghost use Rattle.std.specs.Prelude.{◌≡◌, ◌<◌, ◌≤◌, IfOk, IfSome, map, option_map};
 ghost use Rattle.clap.specs.Words.{all_of, first_of, found_of, rows_of};
-ghost use Rattle.command_line.specs.Serving.{limit_in, listen_in, signer_in, token_in};
+ghost use Rattle.command_line.specs.Serving.{lanes_in, limit_in, listen_in, signer_in, token_in};
 ghost use Rattle.command_line.specs.Options.{clients_in, fork_in, genesis_in, journal_in, number_in, steps_in, watch_in};
 
 use crate::fork_text::read_fork;
+use crate::lane_count::LaneCount;
 use crate::listen_address::{ListenAddress, read_listen};
 use crate::path_text::{PathText, read_path};
 use crate::token_text::{TokenText, read_token};
@@ -136,5 +137,15 @@ pub(crate) fn limit_of(options: &ArgMatches<'_>, id: &str) -> Option<u64>
     match text_of(options, id) {
         Some(text) => read_quoted(text),
         None => Some(u64::MAX),
+    }
+}
+
+/// The value of `--lanes`, if it has its form; where it is absent, four.
+pub(crate) fn lanes_of(options: &ArgMatches<'_>) -> Option<LaneCount>
+    ensures { result ≡ lanes_in (rows_of (found_of options.now)) }
+{
+    match text_of(options, "lanes") {
+        Some(text) => LaneCount::read(text),
+        None => Some(LaneCount::four()),
     }
 }

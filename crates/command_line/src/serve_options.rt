@@ -1,4 +1,5 @@
 //! The options of a server.
+use crate::lane_count::LaneCount;
 use crate::listen_address::ListenAddress;
 use crate::path_text::PathText;
 use crate::token_text::TokenText;
@@ -25,6 +26,8 @@ pub struct ServeOptions {
     pub slots: u64,
     /// After how many connections the Keymanager API ends.
     pub connections: u64,
+    /// In how many lanes duties are done beside each other.
+    pub lanes: LaneCount,
     /// The addresses of the beacon nodes, in the order of the words, at least one.
     pub nodes: Items<ServiceUrl>,
 }
@@ -40,6 +43,7 @@ impl fmt::Debug for ServeOptions {
             .field("watch", &self.watch)
             .field("slots", &self.slots)
             .field("connections", &self.connections)
+            .field("lanes", &self.lanes)
             .field("nodes", &self.nodes.as_slice())
             .finish()
     }
@@ -60,9 +64,10 @@ pub(crate) struct DoorOptions {
     pub(crate) token: TokenText,
 }
 
-/// After how many slots and connections a server ends.
+/// After how many slots and connections a server ends, and in how many lanes it does its duties.
 #[derive(Clone, Copy)]
 pub(crate) struct EndOptions {
     pub(crate) slots: u64,
     pub(crate) connections: u64,
+    pub(crate) lanes: LaneCount,
 }

@@ -7,7 +7,8 @@ ghost use Rattle.command_line.specs.Serving.{door_in, ends_in, nodes_in, serve_o
 
 use crate::fault::{Fault, refused};
 use crate::options::{
-    genesis_of, journal_of, limit_of, listen_of, signer_of, text_of, texts_of, token_of, watch_of,
+    genesis_of, journal_of, lanes_of, limit_of, listen_of, signer_of, text_of, texts_of, token_of,
+    watch_of,
 };
 use crate::planned::{Plan, Usage};
 use crate::serve_options::{DoorOptions, EndOptions, ServeOptions, SigningOptions};
@@ -61,6 +62,7 @@ fn read_options<'a>(
         watch: watch_of(options),
         slots: ends.slots,
         connections: ends.connections,
+        lanes: ends.lanes,
         nodes,
     }))
 }
@@ -104,7 +106,7 @@ fn read_door<'a>(
     Ok(Ok(DoorOptions { listen, token }))
 }
 
-/// After how many slots and connections a server ends.
+/// After how many slots and connections a server ends, and in how many lanes it does its duties.
 fn read_ends<'a>(options: &ArgMatches<'a>) -> Result<EndOptions, Fault<'a>>
     ensures { result_ok result ≡ ends_in (rows_of (found_of options.now)) }
 {
@@ -114,7 +116,14 @@ fn read_ends<'a>(options: &ArgMatches<'a>) -> Result<EndOptions, Fault<'a>>
     let Some(connections) = limit_of(options, "connections") else {
         return Err(Fault::Connections(value_of(options, "connections")));
     };
-    Ok(EndOptions { slots, connections })
+    let Some(lanes) = lanes_of(options) else {
+        return Err(Fault::Lanes(value_of(options, "lanes")));
+    };
+    Ok(EndOptions {
+        slots,
+        connections,
+        lanes,
+    })
 }
 
 /// The beacon nodes.

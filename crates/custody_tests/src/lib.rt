@@ -4,4 +4,6 @@
 #[cfg(test)]
 mod custody;
 #[cfg(test)]
+mod stages;
+#[cfg(test)]
 mod stops;

@@ -17,6 +17,7 @@ use desk_lock::{Pass, Shared};
 use desk_machine::{DeskCall, DeskCalls, DeskReply};
 use edge_kit::{Disk, PubKey};
 use std::sync::Wait;
+use std::thread;
 
 /// A seat at a shared desk: a pass that takes the desk's calls by turns. What was made of it are the pass's own calls,
 /// each answered as the desk answers it at its place in the history of all passes.
@@ -77,7 +78,7 @@ impl<'a, D: Disk, W: Wait> Seated<'a, D, W> {
     {
         for _ in self.rt.forever() {
             match DeskCalls::call(self, DeskCall::FinishClose { key: *key }) {
-                DeskReply::Busy { grants: _ } => (),
+                DeskReply::Busy { grants: _ } => thread::yield_now(),
                 reply => return reply,
             }
         }

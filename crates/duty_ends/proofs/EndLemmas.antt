@@ -13,17 +13,17 @@ use Rattle.duty_plans.specs.Steps.{Calls, Replies}
 use Rattle.duty_plans.specs.declared.setup.DutySetup.{DutySetup}
 use Rattle.duty_turns.specs.declared.held.DutyEnd.TheVariants as end
 use Rattle.duty_turns.specs.Standing.{Standing}
-use Rattle.duty_turns.specs.TurnSteps.{Does, Fits, House, TurnStep, Waits, Refreshes, Own, LooksUp, Works, Writes, Woke, Refreshed, Owned, Due, Worked, Wrote}
+use Rattle.duty_turns.specs.TurnSteps.{Does, Fits, House, TurnStep, Waits, Refreshes, RefreshesLanes, Own, LooksUp, Works, Writes, Woke, Refreshed, LanesRefreshed, Owned, Due, Worked, Wrote}
 use Rattle.duty_turns.specs.Turns.{turns_plan}
-use Rattle.duty_loop.specs.Guarding.{duty_steps, own_steps}
+use Rattle.duty_loop.specs.Guarding.{loop_steps, own_steps}
 use Rattle.duty_ends.specs.Ends.{EndAtFailedDisk}
 use Rattle.duty_ends.proofs.TurnLemmas.{why_end}
 
-pub disk_end : (setup : DutySetup) (n : ℕ) (s : Standing) (steps : List TurnStep) → Follows Fits (turns_plan setup n s) steps (Some (Err end.Disk)) → EndAtFailedDisk (duty_steps steps)
+pub disk_end : (setup : DutySetup) (n : ℕ) (s : Standing) (steps : List TurnStep) → Follows Fits (turns_plan setup n s) steps (Some (Err end.Disk)) → EndAtFailedDisk (loop_steps steps)
 disk_end setup n s steps f =
     let why = why_end setup n s steps end.Disk f in
     let last : List TurnStep = (Own (Calls call.HasFailed), Owned (Replies (reply.HasFailed true))) ∷ [] in
-    (duty_steps why.0, ap duty_steps why.1 ∙ flat_map-append own_steps why.0 last)
+    (loop_steps why.0, ap loop_steps why.1 ∙ flat_map-append own_steps why.0 last)
 
 pub no_memory_end : (setup : DutySetup) (n : ℕ) (s : Standing) (steps : List TurnStep) → Follows Fits (turns_plan setup n s) steps (Some (Err end.OutOfMemory)) → ⊥
 no_memory_end setup n s steps f = why_end setup n s steps end.OutOfMemory f
@@ -34,10 +34,11 @@ module _ {K : Type 0} (leads : K → List (DeskCall × DeskReply) → K → Type
 
   step_later : (a b : House K) (s : TurnStep) → Does leads start a s b → a.out.faults ≤ b.out.faults
   step_later a b (Waits moment, Woke reached) d = same_later a b (ap (λ (h : House K). h.out) d.1)
-  step_later a b (Refreshes, Refreshed whole replies) d = same_later a b (ap (λ (h : House K). h.out) d.2)
-  step_later a b (Own c, Owned r) d = same_later a b d.1
+  step_later a b (Refreshes, Refreshed whole replies) d = same_later a b (ap (λ (h : House K). h.out) d.1)
+  step_later a b (RefreshesLanes, LanesRefreshed whole replies) d = same_later a b (ap (λ (h : House K). h.out) d.1)
+  step_later a b (Own c, Owned r) d = same_later a b (ap (λ (h : House K). h.out) d.1)
   step_later a b (LooksUp answers slot active, Due found) d = same_later a b (ap (λ (h : House K). h.out) d)
-  step_later a b (Works work found, Worked steps results) d = same_later a b d.1
+  step_later a b (Works work place found, Worked lanes results) d = same_later a b (ap (λ (h : House K). h.out) d.1)
   step_later a b (Writes text, Wrote whole piece) d = d.0.later
   step_later a b s d = absurd d
 

@@ -15,8 +15,8 @@ use Rattle.call_plans.proofs.PlanLemmas.{follows_split}
 use Rattle.duty_plans.specs.Steps.{Asks, Calls}
 use Rattle.duty_plans.specs.declared.result.DutyResult.{DutyResult}
 use Rattle.duty_plans.specs.declared.work.SlotWork.{SlotWork}
-use Rattle.duty_turns.specs.TurnSteps.{TurnCall, TurnPlan, TurnReply, TurnStep, Fits, Waits, Refreshes, Own, LooksUp, Works, Woke, Refreshed, Due, Worked}
-use Rattle.duty_turns.specs.Turns.{asks, calls, found, looks_up, own_answer, own_reply, refreshed, refreshes, waits, woken, worked, works}
+use Rattle.duty_turns.specs.TurnSteps.{TurnCall, TurnPlan, TurnReply, TurnStep, Fits, Waits, Refreshes, RefreshesLanes, Own, LooksUp, Works, Woke, Refreshed, LanesRefreshed, Due, Worked}
+use Rattle.duty_turns.specs.Turns.{asks, calls, found, lanes_refreshed, looks_up, own_answer, own_reply, refreshed, refreshes, refreshes_lanes, waits, woken, worked, works}
 
 -- what is said of a value and of all steps up to it
 abbrev pub Said : Type 0 → Type 1
@@ -75,12 +75,16 @@ refreshed_always : {X : Type 0} (W : Said X) (next : TurnPlan X) → Always W ne
 refreshed_always W next h (Refreshed true replies) = h
 refreshed_always W next h r = stop_always W
 
+lanes_refreshed_always : {X : Type 0} (W : Said X) (next : TurnPlan X) → Always W next → (r : TurnReply) → Always W (lanes_refreshed r next)
+lanes_refreshed_always W next h (LanesRefreshed true replies) = h
+lanes_refreshed_always W next h r = stop_always W
+
 found_always : {X : Type 0} (W : Said X) (next : List Duty → TurnPlan X) → ((ds : List Duty) → Always W (next ds)) → (r : TurnReply) → Always W (found r next)
 found_always W next h (Due ds) = h ds
 found_always W next h r = stop_always W
 
 worked_always : {X : Type 0} (W : Said X) (next : List DutyResult → TurnPlan X) → ((results : List DutyResult) → Always W (next results)) → (r : TurnReply) → Always W (worked r next)
-worked_always W next h (Worked steps (Some results)) = h results
+worked_always W next h (Worked lanes (Some results)) = h results
 worked_always W next h r = stop_always W
 
 pub waits_always : {X : Type 0} (W : Said X) (moment : ℕ) (next : ℕ → TurnPlan X) → ((reached : ℕ) → Always W (next reached)) → Always W (waits moment next)
@@ -88,6 +92,9 @@ waits_always W moment next h = ask_always W (Waits moment) (λ r. woken r next) 
 
 pub refreshes_always : {X : Type 0} (W : Said X) (next : TurnPlan X) → Always W next → Always W (refreshes next)
 refreshes_always W next h = ask_always W Refreshes (λ r. refreshed r next) (refreshed_always W next h)
+
+pub refreshes_lanes_always : {X : Type 0} (W : Said X) (next : TurnPlan X) → Always W next → Always W (refreshes_lanes next)
+refreshes_lanes_always W next h = ask_always W RefreshesLanes (λ r. lanes_refreshed r next) (lanes_refreshed_always W next h)
 
 pub asks_always : {X : Type 0} (W : Said X) (a : Ask) (next : Result Answer NoAnswer → TurnPlan X) → ((r : Result Answer NoAnswer) → Always W (next r)) → Always W (asks a next)
 asks_always W a next h = ask_always W (Own (Asks a)) (λ r. next (own_answer r)) (λ r. h (own_answer r))
@@ -99,6 +106,6 @@ pub looks_up_always : {X : Type 0} (W : Said X) (answers : List TakenAnswer) (sl
     → ((ds : List Duty) → Always W (next ds)) → Always W (looks_up answers slot active next)
 looks_up_always W answers slot active next h = ask_always W (LooksUp answers slot active) (λ r. found r next) (found_always W next h)
 
-pub works_always : {X : Type 0} (W : Said X) (work : SlotWork) (ds : List Duty) (next : List DutyResult → TurnPlan X)
-    → ((results : List DutyResult) → Always W (next results)) → Always W (works work ds next)
-works_always W work ds next h = ask_always W (Works work ds) (λ r. worked r next) (worked_always W next h)
+pub works_always : {X : Type 0} (W : Said X) (work : SlotWork) (place : ℕ) (ds : List Duty) (next : List DutyResult → TurnPlan X)
+    → ((results : List DutyResult) → Always W (next results)) → Always W (works work place ds next)
+works_always W work place ds next h = ask_always W (Works work place ds) (λ r. worked r next) (worked_always W next h)

@@ -1,5 +1,5 @@
 -- What the last step was where the turns end before their number.
-use Rattle.std.proofs.Common.{◌≡◌, ℕ, zero, suc, true, false, List, [], ◌∷◌, ◌++◌, Option, Some, None, Result, Ok, Err, refl}
+use Rattle.std.proofs.Common.{◌≡◌, ℕ, zero, suc, true, false, List, [], ◌∷◌, ◌++◌, length, Option, Some, None, Result, Ok, Err, refl}
 use Rattle.std.specs.Prelude.{nat_lt}
 use Rattle.edge_kit.specs.declared.bytes.PubKey.{PubKey}
 use Rattle.desk_machine.specs.declared.call.DeskCall.TheVariants as call
@@ -16,8 +16,8 @@ use Rattle.duty_turns.specs.Lines.{duty_lines}
 use Rattle.duty_turns.specs.Standing.{Standing}
 use Rattle.duty_turns.specs.Times.{is_first_slot, next_slot, slot_of, slot_start, votes_start}
 use Rattle.duty_turns.specs.TurnSteps.{TurnPlan, TurnReply, TurnStep, Fits, Own, Owned, Writes, Wrote}
-use Rattle.duty_turns.specs.Turns.{Next, NextPlan, active_of, asked_plan, at_slot, blocks_in, calls, close_plan, closed_plan, compacted, due_plan, failed_plan, listed_plan, next_turn, own_reply, ready_plan, refreshes, shortens, size_limit, sized, turn_plan, turns_plan, votes_in, votes_plan, waits, with_active, woken_plan, work_of, works}
-use Rattle.duty_ends.proofs.GivesLemmas.{Always, Gives, Said, calls_always, gives_ask, gives_bind, gives_done, if_always, looks_up_always, refreshes_always, stop_always, waits_always, works_always}
+use Rattle.duty_turns.specs.Turns.{Next, NextPlan, active_of, asked_plan, at_slot, blocks_in, calls, close_plan, closed_plan, compacted, due_plan, failed_plan, listed_plan, next_turn, own_reply, ready_plan, refreshes, refreshes_lanes, shortens, size_limit, sized, turn_plan, turns_plan, votes_in, votes_plan, waits, with_active, woken_plan, work_of, works}
+use Rattle.duty_ends.proofs.GivesLemmas.{Always, Gives, Said, calls_always, gives_ask, gives_bind, gives_done, if_always, looks_up_always, refreshes_always, refreshes_lanes_always, stop_always, waits_always, works_always}
 use Rattle.duty_ends.proofs.PartLemmas.{EndInCut, WhyNone, asked_part}
 
 -- with the last of these steps the desk said that its disk failed
@@ -75,17 +75,18 @@ shortens_turn s p h = if_always (Why Standing) (is_first_slot s.slot) (calls cal
 votes_turn : (setup : DutySetup) (s : Standing) (ds : List Duty) (proposed : List DutyResult) (reached : ℕ) → IsTurn (votes_plan setup s ds proposed reached)
 votes_turn setup s ds proposed reached =
     let now = slot_of setup.genesis_time reached in
+    let place = length (blocks_in ds) in
     let all : List Duty = blocks_in ds ++ votes_in ds in
     let behind : List DutyResult → NextPlan = λ cast. close_plan s.slot all (proposed ++ cast) (at_slot (next_slot s.slot) s) in
-    if_always (Why Standing) (nat_lt s.slot now) (close_plan s.slot (blocks_in ds) proposed (at_slot now s)) (works (work_of setup s) (votes_in ds) behind)
+    if_always (Why Standing) (nat_lt s.slot now) (close_plan s.slot (blocks_in ds) proposed (at_slot now s)) (works (work_of setup s) place (votes_in ds) behind)
     (close_turn s.slot (blocks_in ds) proposed (at_slot now s))
-    (works_always (Why Standing) (work_of setup s) (votes_in ds) behind (λ cast. close_turn s.slot all (proposed ++ cast) (at_slot (next_slot s.slot) s)))
+    (works_always (Why Standing) (work_of setup s) place (votes_in ds) behind (λ cast. close_turn s.slot all (proposed ++ cast) (at_slot (next_slot s.slot) s)))
 
 due_turn : (setup : DutySetup) (s : Standing) (ds : List Duty) → IsTurn (due_plan setup s ds)
 due_turn setup s ds =
     let moment = votes_start setup.genesis_time s.slot in
     let behind : List DutyResult → NextPlan = λ proposed. waits moment (votes_plan setup s ds proposed) in
-    works_always (Why Standing) (work_of setup s) (blocks_in ds) behind (λ proposed. waits_always (Why Standing) moment (votes_plan setup s ds proposed) (votes_turn setup s ds proposed))
+    works_always (Why Standing) (work_of setup s) 0 (blocks_in ds) behind (λ proposed. waits_always (Why Standing) moment (votes_plan setup s ds proposed) (votes_turn setup s ds proposed))
 
 ready_turn : (setup : DutySetup) (active : List PubKey) (mid : List TurnStep) (o : Option Standing) → WhyNone mid o → Gives (Why Standing) mid (ready_plan setup active o)
 ready_turn setup active mid None w = gives_done (Why Standing) mid (Err end.Write) w
@@ -103,9 +104,11 @@ woken_turn : (setup : DutySetup) (s : Standing) (reached : ℕ) → IsTurn (woke
 woken_turn setup s reached =
     let now = slot_of setup.genesis_time reached in
     let keys = calls call.Keys (listed_plan setup s) in
-    if_always (Why Standing) (nat_lt s.slot now) (close_plan s.slot [] [] (at_slot now s)) (refreshes (shortens s keys))
+    let part = shortens s keys in
+    if_always (Why Standing) (nat_lt s.slot now) (close_plan s.slot [] [] (at_slot now s)) (refreshes (refreshes_lanes part))
     (close_turn s.slot [] [] (at_slot now s))
-    (refreshes_always (Why Standing) (shortens s keys) (shortens_turn s keys (calls_always (Why Standing) call.Keys (listed_plan setup s) (listed_turn setup s))))
+    (refreshes_always (Why Standing) (refreshes_lanes part) (refreshes_lanes_always (Why Standing) part
+    (shortens_turn s keys (calls_always (Why Standing) call.Keys (listed_plan setup s) (listed_turn setup s)))))
 
 turn_ends : (setup : DutySetup) (s : Standing) → IsTurn (turn_plan setup s)
 turn_ends setup s = waits_always (Why Standing) (slot_start setup.genesis_time s.slot) (woken_plan setup s) (woken_turn setup s)

@@ -10,7 +10,6 @@ use Rattle.desk_machine.specs.declared.call.DeskReply.TheVariants as reply
 use Rattle.desk_machine.specs.declared.call.KeyStanding.{KeyStanding}
 use Rattle.desk_machine.specs.Grants.{IsGrantFor}
 use Rattle.desk_machine.specs.Kinds.{IsKind}
-use Rattle.client_calls.specs.Seats.{SignerSeen}
 use Rattle.client_calls.proofs.SeatLemmas.{Leads, NoneLed}
 use Rattle.node_calls.specs.declared.ask.Ask.{Ask}
 use Rattle.node_calls.specs.declared.ask.Ask.TheVariants as ask
@@ -32,6 +31,7 @@ use Rattle.duty_asks.specs.declared.ask.Asked.TheVariants as asked
 use Rattle.duty_asks.specs.declared.ask.Stop.{Stop}
 use Rattle.duty_asks.specs.declared.ask.Stop.TheVariants as stop
 use Rattle.duty_plans.specs.Hands.{Free, hand_given}
+use Rattle.duty_plans.specs.Seats.{Seat}
 use Rattle.duty_loop.specs.Houses.{house}
 use Rattle.duty_loop.specs.Missing.{is_missed, missing_from}
 use Rattle.duty_loop.proofs.MissingLemmas.{missing_all, missing_here, missing_skip}
@@ -58,19 +58,19 @@ same_hand r h = absurd h
 
 module _ {K : Type 0} (leads : Leads K) (none : NoneLed leads) (start : Option ℕ) where
   -- a question outside the desk, and then what is noted of what came of it
-  pub asked_noted : (q : Ask) (k : Result Answer NoAnswer → PartPlan) (s : Standing) (d e : K) (g : SignerSeen) (x y : Outside) (came : Asked) (result : Result (Unit {0}) Stop)
-      → CameSo q k s x y came → NotedSo leads start k s came (house d g y.nodes y.out) (house e g y.nodes y.out) result
-      → Carries Fits (Does leads start) (asks q k) (house d g x.nodes x.out) (house e g y.nodes y.out) (done_value s result)
-  asked_noted q k s d e g x y (asked.Given a) result c n =
-      comes_run Fits (Does leads start) (house d g x.nodes x.out) (house d g y.nodes y.out) (house e g y.nodes y.out) (asks q k) (k (Ok a)) (done_value s result) (quiet_comes leads none start d g x y (asks q k) (k (Ok a)) c.1) n
-  asked_noted q k s d e g x y asked.Nothing result c n =
-      let run = quiet_runs leads none start d g x y (asks q k) (Some (Some s)) c in
-      subst (λ (r : Result (Unit {0}) Stop). Carries Fits (Does leads start) (asks q k) (house d g x.nodes x.out) (house e g y.nodes y.out) (done_value s r)) (sym n.1)
-      (subst (λ (h : House K). Carries Fits (Does leads start) (asks q k) (house d g x.nodes x.out) h (Some (Some s))) (sym n.0) run)
-  asked_noted q k s d e g x y (asked.Stopped why) result c n =
-      let run = quiet_runs leads none start d g x y (asks q k) (stop_value why) c in
-      subst (λ (r : Result (Unit {0}) Stop). Carries Fits (Does leads start) (asks q k) (house d g x.nodes x.out) (house e g y.nodes y.out) (done_value s r)) (sym n.1)
-      (subst (λ (h : House K). Carries Fits (Does leads start) (asks q k) (house d g x.nodes x.out) h (stop_value why)) (sym n.0) run)
+  pub asked_noted : (q : Ask) (k : Result Answer NoAnswer → PartPlan) (s : Standing) (d e : K) (ls : List (Seat K)) (x y : Outside) (came : Asked) (result : Result (Unit {0}) Stop)
+      → CameSo q k s x y came → NotedSo leads start k s came (house d ls y.nodes y.out) (house e ls y.nodes y.out) result
+      → Carries Fits (Does leads start) (asks q k) (house d ls x.nodes x.out) (house e ls y.nodes y.out) (done_value s result)
+  asked_noted q k s d e ls x y (asked.Given a) result c n =
+      comes_run Fits (Does leads start) (house d ls x.nodes x.out) (house d ls y.nodes y.out) (house e ls y.nodes y.out) (asks q k) (k (Ok a)) (done_value s result) (quiet_comes leads none start d ls x y (asks q k) (k (Ok a)) c.1) n
+  asked_noted q k s d e ls x y asked.Nothing result c n =
+      let run = quiet_runs leads none start d ls x y (asks q k) (Some (Some s)) c in
+      subst (λ (r : Result (Unit {0}) Stop). Carries Fits (Does leads start) (asks q k) (house d ls x.nodes x.out) (house e ls y.nodes y.out) (done_value s r)) (sym n.1)
+      (subst (λ (h : House K). Carries Fits (Does leads start) (asks q k) (house d ls x.nodes x.out) h (Some (Some s))) (sym n.0) run)
+  asked_noted q k s d e ls x y (asked.Stopped why) result c n =
+      let run = quiet_runs leads none start d ls x y (asks q k) (stop_value why) c in
+      subst (λ (r : Result (Unit {0}) Stop). Carries Fits (Does leads start) (asks q k) (house d ls x.nodes x.out) (house e ls y.nodes y.out) (done_value s r)) (sym n.1)
+      (subst (λ (h : House K). Carries Fits (Does leads start) (asks q k) (house d ls x.nodes x.out) h (stop_value why)) (sym n.0) run)
 
   -- ---- note by note
 
@@ -82,15 +82,15 @@ module _ {K : Type 0} (leads : Leads K) (none : NoneLed leads) (start : Option �
   told_so c reply.OutOfMemory next a b cut on is = cut
   told_so c r next a b cut on is = absurd is
 
-  pub told : (d e : K) (g : SignerSeen) (nodes : List Seen) (out : SinkSeen) (key : PubKey) (epoch : ℕ) (live : Bool) (now : ℕ) (r : DeskReply) (next : PartPlan) (result : Result (Unit {0}) Stop)
+  pub told : (d e : K) (ls : List (Seat K)) (nodes : List Seen) (out : SinkSeen) (key : PubKey) (epoch : ℕ) (live : Bool) (now : ℕ) (r : DeskReply) (next : PartPlan) (result : Result (Unit {0}) Stop)
       → leads d ((call.Answer key epoch live now, r) ∷ []) e → IsKind (call.Answer key epoch live now) r → IsGrantFor (call.Answer key epoch live now) r → result ≡ noted_by r
-      → NotedOn leads start (calls (call.Answer key epoch live now) (λ x. noted x next)) next (house d g nodes out) (house e g nodes out) result
-  told d e g nodes out key epoch live now r next result led kind for is =
+      → NotedOn leads start (calls (call.Answer key epoch live now) (λ x. noted x next)) next (house d ls nodes out) (house e ls nodes out) result
+  told d e ls nodes out key epoch live now r next result led kind for is =
       let c : DeskCall = call.Answer key epoch live now in
       let hand = same_hand r (kind_noted key epoch live now r kind) in
-      let cut = turn_calls leads none start d e g nodes out (house e g nodes out) c r (λ x. noted x next) None refl hand led kind for (carries_cut Fits (Does leads start) (noted r next) (house e g nodes out)) in
-      let on = turn_comes leads none start d e g nodes out c r (λ x. noted x next) refl hand led kind for in
-      subst (λ (x : Result (Unit {0}) Stop). NotedOn leads start (calls c (λ y. noted y next)) next (house d g nodes out) (house e g nodes out) x) (sym is) (told_so c r next (house d g nodes out) (house e g nodes out) cut on (kind_noted key epoch live now r kind))
+      let cut = turn_calls leads start d e ls nodes out (house e ls nodes out) c r (λ x. noted x next) None refl hand led kind for (carries_cut Fits (Does leads start) (noted r next) (house e ls nodes out)) in
+      let on = turn_comes leads start d e ls nodes out c r (λ x. noted x next) refl hand led kind for in
+      subst (λ (x : Result (Unit {0}) Stop). NotedOn leads start (calls c (λ y. noted y next)) next (house d ls nodes out) (house e ls nodes out) x) (sym is) (told_so c r next (house d ls nodes out) (house e ls nodes out) cut on (kind_noted key epoch live now r kind))
 
   pub note_step : (epoch now : ℕ) (s : Standing) (p : PartPlan) (a b c : House K) (notes : List (PubKey × Bool)) (i : ℕ) (d : PubKey × Bool) → i < length notes
       → Comes Fits (Does leads start) p (notes_plan epoch now (drop i notes) s) a b

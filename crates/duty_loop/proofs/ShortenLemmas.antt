@@ -2,8 +2,7 @@
 use Rattle.std.proofs.Common.{◌≡◌, ℕ, ◌<◌, ◌≤◌, nat_lt, if◌then◌else◌, Bool, true, false, List, [], ◌∷◌, Option, None, Result, Ok, Err, refl, sym, subst}
 use Rattle.std.proofs.lemmas.Bool.{lt-ltb, le-ltb}
 use Rattle.std.specs.declared.alloc.AllocError.{AllocError}
-use Rattle.client_calls.specs.Seats.{SignerSeen}
-use Rattle.client_calls.proofs.SeatLemmas.{Leads, NoneLed}
+use Rattle.client_calls.proofs.SeatLemmas.{Leads}
 use Rattle.desk_machine.specs.Grants.{IsGrantFor}
 use Rattle.desk_machine.specs.Kinds.{IsKind}
 use Rattle.desk_machine.specs.declared.call.DeskCall.TheVariants as call
@@ -13,6 +12,7 @@ use Rattle.node_fallback.specs.Seen.{Seen}
 use Rattle.call_plans.specs.Paths.{Carries, Comes}
 use Rattle.call_plans.proofs.PathLemmas.{carries_cut, comes_none, comes_run}
 use Rattle.duty_plans.specs.Hands.{Free, hand_given}
+use Rattle.duty_plans.specs.Seats.{Seat}
 use Rattle.duty_turns.specs.Standing.{Standing}
 use Rattle.duty_turns.specs.Times.{is_first_slot}
 use Rattle.duty_turns.specs.Turns.{NextPlan, calls, compacted, shortens, size_limit, sized}
@@ -44,7 +44,7 @@ size_hand : (r : DeskReply) → IsKind call.Size r → hand_given Free r ≡ Fre
 size_hand (reply.Size size) h = refl
 size_hand r h = absurd h
 
-module _ {K : Type 0} (leads : Leads K) (none : NoneLed leads) (start : Option ℕ) where
+module _ {K : Type 0} (leads : Leads K) (start : Option ℕ) where
   -- one call, and then the rest of this part
   shortened_more : (p q next : NextPlan) (a b c : House K) (result : Result (Unit {0}) AllocError) → Comes Fits (Does leads start) p q a b → ShortenedOn leads start q next b c result → ShortenedOn leads start p next a c result
   shortened_more p q next a b c (Ok done) g h = comes_more Fits (Does leads start) a b c p q next g h
@@ -62,16 +62,16 @@ module _ {K : Type 0} (leads : Leads K) (none : NoneLed leads) (start : Option �
   compacted_so reply.OutOfMemory next a b cut on = cut
   compacted_so r next a b cut on = on
 
-  pub grown_journal : (next : NextPlan) (size : ℕ) (d e : K) (g : SignerSeen) (nodes : List Seen) (out : SinkSeen) (r : DeskReply) (result : Result (Unit {0}) AllocError)
+  pub grown_journal : (next : NextPlan) (size : ℕ) (d e : K) (ls : List (Seat K)) (nodes : List Seen) (out : SinkSeen) (r : DeskReply) (result : Result (Unit {0}) AllocError)
       → size_limit < size → leads d ((call.Compact, r) ∷ []) e → IsKind call.Compact r → IsGrantFor call.Compact r → result ≡ compacted_by r
-      → ShortenedOn leads start (sized (reply.Size size) next) next (house d g nodes out) (house e g nodes out) result
-  grown_journal next size d e g nodes out r result h led kind for is =
+      → ShortenedOn leads start (sized (reply.Size size) next) next (house d ls nodes out) (house e ls nodes out) result
+  grown_journal next size d e ls nodes out r result h led kind for is =
       let grown : nat_lt size_limit size ≡ true = lt-ltb size_limit size h in
       let hand = compaction_hand r (kind_compaction r kind) in
-      let cut = turn_calls leads none start d e g nodes out (house e g nodes out) call.Compact r (λ x. compacted x next) None refl hand led kind for (carries_cut Fits (Does leads start) (compacted r next) (house e g nodes out)) in
-      let on = turn_comes leads none start d e g nodes out call.Compact r (λ x. compacted x next) refl hand led kind for in
-      subst (λ (t : Bool). ShortenedOn leads start (if t then calls call.Compact (λ x. compacted x next) else next) next (house d g nodes out) (house e g nodes out) result) (sym grown)
-      (subst (λ (x : Result (Unit {0}) AllocError). ShortenedOn leads start (calls call.Compact (λ y. compacted y next)) next (house d g nodes out) (house e g nodes out) x) (sym is) (compacted_so r next (house d g nodes out) (house e g nodes out) cut on))
+      let cut = turn_calls leads start d e ls nodes out (house e ls nodes out) call.Compact r (λ x. compacted x next) None refl hand led kind for (carries_cut Fits (Does leads start) (compacted r next) (house e ls nodes out)) in
+      let on = turn_comes leads start d e ls nodes out call.Compact r (λ x. compacted x next) refl hand led kind for in
+      subst (λ (t : Bool). ShortenedOn leads start (if t then calls call.Compact (λ x. compacted x next) else next) next (house d ls nodes out) (house e ls nodes out) result) (sym grown)
+      (subst (λ (x : Result (Unit {0}) AllocError). ShortenedOn leads start (calls call.Compact (λ y. compacted y next)) next (house d ls nodes out) (house e ls nodes out) x) (sym is) (compacted_so r next (house d ls nodes out) (house e ls nodes out) cut on))
 
   -- ---- at an epoch's first slot
 
@@ -80,15 +80,15 @@ module _ {K : Type 0} (leads : Leads K) (none : NoneLed leads) (start : Option �
       let other : is_first_slot s.slot ≡ false = subst (λ n. is_first_slot n ≡ false) at h in
       subst (λ (t : Bool). Comes Fits (Does leads start) (if t then calls call.Size (λ r. sized r next) else next) next a a) (sym other) (comes_none Fits (Does leads start) next a)
 
-  pub first_slot : (s : Standing) (next : NextPlan) (slot size : ℕ) (d e : K) (g : SignerSeen) (nodes : List Seen) (out : SinkSeen) (c : House K) (r : DeskReply) (result : Result (Unit {0}) AllocError) → slot ≡ s.slot → is_first_slot slot ≡ true
-      → leads d ((call.Size, r) ∷ []) e → IsKind call.Size r → IsGrantFor call.Size r → r ≡ reply.Size size → ShortenedOn leads start (sized (reply.Size size) next) next (house e g nodes out) c result
-      → ShortenedOn leads start (shortens s next) next (house d g nodes out) c result
-  first_slot s next slot size d e g nodes out c r result at h led kind for is rest =
+  pub first_slot : (s : Standing) (next : NextPlan) (slot size : ℕ) (d e : K) (ls : List (Seat K)) (nodes : List Seen) (out : SinkSeen) (c : House K) (r : DeskReply) (result : Result (Unit {0}) AllocError) → slot ≡ s.slot → is_first_slot slot ≡ true
+      → leads d ((call.Size, r) ∷ []) e → IsKind call.Size r → IsGrantFor call.Size r → r ≡ reply.Size size → ShortenedOn leads start (sized (reply.Size size) next) next (house e ls nodes out) c result
+      → ShortenedOn leads start (shortens s next) next (house d ls nodes out) c result
+  first_slot s next slot size d e ls nodes out c r result at h led kind for is rest =
       let first : is_first_slot s.slot ≡ true = subst (λ n. is_first_slot n ≡ true) at h in
-      let on = turn_comes leads none start d e g nodes out call.Size r (λ x. sized x next) refl (size_hand r kind) led kind for in
-      let then_on = subst (λ (x : DeskReply). ShortenedOn leads start (sized x next) next (house e g nodes out) c result) (sym is) rest in
-      subst (λ (t : Bool). ShortenedOn leads start (if t then calls call.Size (λ x. sized x next) else next) next (house d g nodes out) c result) (sym first)
-      (shortened_more (calls call.Size (λ x. sized x next)) (sized r next) next (house d g nodes out) (house e g nodes out) c result on then_on)
+      let on = turn_comes leads start d e ls nodes out call.Size r (λ x. sized x next) refl (size_hand r kind) led kind for in
+      let then_on = subst (λ (x : DeskReply). ShortenedOn leads start (sized x next) next (house e ls nodes out) c result) (sym is) rest in
+      subst (λ (t : Bool). ShortenedOn leads start (if t then calls call.Size (λ x. sized x next) else next) next (house d ls nodes out) c result) (sym first)
+      (shortened_more (calls call.Size (λ x. sized x next)) (sized r next) next (house d ls nodes out) (house e ls nodes out) c result on then_on)
 
   -- ---- and then the turn
 

@@ -1,5 +1,5 @@
 -- Late, or in time; and turn behind turn.
-use Rattle.std.proofs.Common.{◌≡◌, ℕ, suc, ◌+◌, ◌-◌, ◌<◌, ◌≤◌, nat_lt, true, false, List, [], ◌++◌, Option, Some, Result, Ok, Err, refl, ap, subst, arith}
+use Rattle.std.proofs.Common.{◌≡◌, ℕ, suc, ◌+◌, ◌-◌, ◌<◌, ◌≤◌, nat_lt, true, false, List, [], ◌++◌, length, Option, Some, Result, Ok, Err, refl, ap, subst, arith}
 use Rattle.std.proofs.lemmas.Bool.{lt-ltb, le-ltb}
 use Rattle.client_calls.proofs.SeatLemmas.{Leads}
 use Rattle.edge_clock.specs.Clocks.{IsNow}
@@ -12,7 +12,7 @@ use Rattle.duty_plans.specs.declared.result.DutyResult.{DutyResult}
 use Rattle.duty_plans.specs.declared.setup.DutySetup.{DutySetup}
 use Rattle.duty_turns.specs.Standing.{Standing}
 use Rattle.duty_turns.specs.Times.{next_slot, slot_of}
-use Rattle.duty_turns.specs.Turns.{at_slot, blocks_in, calls, close_plan, first_standing, listed_plan, next_turn, refreshes, shortens, turn_plan, turns_plan, votes_in, votes_plan, woken_plan, work_of, works}
+use Rattle.duty_turns.specs.Turns.{at_slot, blocks_in, calls, close_plan, first_standing, listed_plan, next_turn, refreshes, refreshes_lanes, shortens, turn_plan, turns_plan, votes_in, votes_plan, woken_plan, work_of, works}
 use Rattle.duty_turns.specs.TurnSteps.{Does, Fits, House, TurnPlan}
 use Rattle.duty_turns.specs.declared.held.DutyEnd.{DutyEnd}
 use Rattle.duty_turns.specs.declared.held.DutyEnd.TheVariants as end
@@ -23,7 +23,7 @@ woken_late setup s reached later e h =
     let late : nat_lt s.slot (slot_of setup.genesis_time reached) ≡ true = lt-ltb s.slot (slot_of setup.genesis_time reached) (subst (λ n. s.slot < n) e h) in
     rw (late, e) refl
 
-pub woken_now : (setup : DutySetup) (s : Standing) (reached later : ℕ) → later ≡ slot_of setup.genesis_time reached → later ≤ s.slot → woken_plan setup s reached ≡ refreshes (shortens s (calls call.Keys (listed_plan setup s)))
+pub woken_now : (setup : DutySetup) (s : Standing) (reached later : ℕ) → later ≡ slot_of setup.genesis_time reached → later ≤ s.slot → woken_plan setup s reached ≡ refreshes (refreshes_lanes (shortens s (calls call.Keys (listed_plan setup s))))
 woken_now setup s reached later e h =
     let now : nat_lt s.slot (slot_of setup.genesis_time reached) ≡ false = le-ltb s.slot (slot_of setup.genesis_time reached) (subst (λ n. n ≤ s.slot) e h) in
     rw now refl
@@ -35,7 +35,7 @@ votes_late setup s ds rs reached later e h =
     rw (late, e) refl
 
 pub votes_now : (setup : DutySetup) (s : Standing) (ds : List Duty) (rs : List DutyResult) (reached later : ℕ) → later ≡ slot_of setup.genesis_time reached → later ≤ s.slot
-    → votes_plan setup s ds rs reached ≡ works (work_of setup s) (votes_in ds) (λ cast. close_plan s.slot (blocks_in ds ++ votes_in ds) (rs ++ cast) (at_slot (next_slot s.slot) s))
+    → votes_plan setup s ds rs reached ≡ works (work_of setup s) (length (blocks_in ds)) (votes_in ds) (λ cast. close_plan s.slot (blocks_in ds ++ votes_in ds) (rs ++ cast) (at_slot (next_slot s.slot) s))
 votes_now setup s ds rs reached later e h =
     let now : nat_lt s.slot (slot_of setup.genesis_time reached) ≡ false = le-ltb s.slot (slot_of setup.genesis_time reached) (subst (λ n. n ≤ s.slot) e h) in
     rw now refl

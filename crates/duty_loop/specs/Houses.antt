@@ -1,4 +1,4 @@
--- What the parts of a turn make of the desk, the signing service, the nodes and the output.
+-- What the parts of a turn make of the loop's own desk and nodes, the lanes and the output.
 use Rattle.std.specs.Prelude.{ℕ, true, List, Option, Some, None, Result, Ok, Err, OnOk}
 use Rattle.desk_machine.specs.declared.call.DeskCall.{DeskCall}
 use Rattle.desk_machine.specs.declared.call.DeskReply.{DeskReply}
@@ -6,18 +6,10 @@ use Rattle.desk_machine.specs.declared.call.DeskReply.TheVariants as reply
 use Rattle.client_calls.specs.Seats.{SignerSeen}
 use Rattle.node_fallback.specs.Seen.{Seen}
 use Rattle.edge_clock.specs.Clocks.{IsNow}
-use Rattle.call_plans.specs.Plans.{Follows}
-use Rattle.call_plans.specs.Paths.{Carries, Path}
-use Rattle.duty_schedule.specs.declared.rows.Duty.{Duty}
-use Rattle.duty_plans.specs.declared.result.DutyResult.{DutyResult}
+use Rattle.call_plans.specs.Paths.{Carries}
 use Rattle.duty_plans.specs.declared.setup.DutySetup.{DutySetup}
-use Rattle.duty_plans.specs.declared.work.SlotWork.{SlotWork}
 use Rattle.duty_plans.specs.Hands.{Free}
-use Rattle.duty_plans.specs.Plans.{slot_plan}
-use Rattle.duty_plans.specs.Seats.{at_seat}
-use Rattle.duty_plans.specs.Seats as duties
-use Rattle.duty_plans.specs.Steps.{DutyStep}
-use Rattle.duty_plans.specs.Steps as duty_steps
+use Rattle.duty_plans.specs.Seats.{Seat, at_seat}
 use Rattle.duty_asks.specs.Quiet.{done_value}
 use Rattle.duty_asks.specs.Placed.{HoldsPlaced}
 use Rattle.duty_asks.specs.declared.ask.Stop.{Stop}
@@ -33,9 +25,13 @@ use Rattle.duty_turns.specs.declared.held.DutyEnd.TheVariants as end
 abbrev pub IsHolding : Held → Type 0
 IsHolding held = (s : Standing) × HoldsPlaced held s
 
+-- the loop itself has no signing service
+abbrev pub no_signer : SignerSeen
+no_signer = record { told = None; faults = 0; denials = 0 }
+
 -- no grant is in hand
-abbrev pub house : {K : Type 0} → K → SignerSeen → List Seen → SinkSeen → House K
-house desk signer nodes out = in_house (at_seat desk Free signer nodes) out
+abbrev pub house : {K : Type 0} → K → List (Seat K) → List Seen → SinkSeen → House K
+house desk lanes nodes out = in_house (at_seat desk Free no_signer nodes) lanes out
 
 -- what a turn gives: this stands then, or the loop ends; None: memory ran out
 abbrev pub next_value : Standing → Result (Unit {0}) DutyEnd → Option (Result Standing DutyEnd)
@@ -70,12 +66,6 @@ end_value (Ok done) = Some (Ok done)
 end_value (Err end.Disk) = Some (Err end.Disk)
 end_value (Err end.Write) = Some (Err end.Write)
 end_value (Err end.OutOfMemory) = None
-
--- these duties were done, with a result each; None: memory ran out
-pub record WorksDone {K : Type 0} (leads : K → List (DeskCall × DeskReply) → K → Type 0) (work : SlotWork) (ds : List Duty) (d : K) (s : SignerSeen) (ns : List Seen) (e : K) (t : SignerSeen) (ms : List Seen) (results : Option (List DutyResult)) : Type 0 where
-  pub steps : List DutyStep
-  pub path : Path (duties.Does leads) (at_seat d Free s ns) steps (at_seat e Free t ms)
-  pub follows : Follows duty_steps.Fits (slot_plan work ds) steps results
 
 -- a part of a turn was carried out: this stands then
 pub record PartTurns {K : Type 0} (leads : K → List (DeskCall × DeskReply) → K → Type 0) (start : Option ℕ) (Holds : Standing → Type 0) (plan : PartPlan) (a b : House K) (result : Result (Unit {0}) Stop) : Type 0 where

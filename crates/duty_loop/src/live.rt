@@ -1,11 +1,10 @@
 //! One epoch of the watch: which of the keys that miss it were live in it.
 ghost use Rattle.std.specs.Prelude.{◌≡◌, ◌≤◌, ℕ, List, Ok, Option};
-ghost use Rattle.client_calls.specs.Seats.{SignerSeen};
 ghost use Rattle.call_plans.specs.Paths.{Carries};
 ghost use Rattle.desk_machine.specs.Machine.{moment_limit};
 ghost use Rattle.desk_machine.specs.declared.call.DeskCall.TheVariants as call;
 ghost use Rattle.node_fallback.specs.Seen.{Seen};
-ghost use Rattle.duty_plans.specs.Seats.{nodes_seen};
+ghost use Rattle.duty_plans.specs.Seats.{Seat, nodes_seen};
 ghost use Rattle.duty_turns.specs.Standing.{IsHeld, Standing};
 ghost use Rattle.duty_turns.specs.Turns.{PartPlan, calls, epoch_plan, lived_plan, liveness_plan, noted, notes_plan};
 ghost use Rattle.duty_turns.specs.TurnSteps.{Does, Fits, SinkSeen, sink_seen};
@@ -37,9 +36,9 @@ pub(crate) fn watch_epoch<K: DeskCalls, N: Node + Drop, O: Sink>(
     requires ready { K.ready desk.old }
     requires moment { now ≤ moment_limit }
     ensures ready { K.ready desk.new }
-    ensures runs { (start : Option ℕ) (signer : SignerSeen) (s : Standing) → IsHeld held.now s → Carries Fits (Does K.leads start) (epoch_plan now listed.now epoch s)
-        (house desk.old signer (nodes_seen N.told N.faults nodes.old) (sink_seen O.held O.faults out.old))
-        (house desk.new signer (nodes_seen N.told N.faults nodes.new) (sink_seen O.held O.faults out.new)) (done_value s result) }
+    ensures runs { (start : Option ℕ) (lanes : List (Seat K)) (s : Standing) → IsHeld held.now s → Carries Fits (Does K.leads start) (epoch_plan now listed.now epoch s)
+        (house desk.old lanes (nodes_seen N.told N.faults nodes.old) (sink_seen O.held O.faults out.old))
+        (house desk.new lanes (nodes_seen N.told N.faults nodes.new) (sink_seen O.held O.faults out.new)) (done_value s result) }
 {
     let Ok(keys) = missing_keys(alloc, epoch, listed) else {
         return Err(Stop::OutOfMemory);
@@ -66,9 +65,9 @@ fn ask_live<K: DeskCalls, N: Node + Drop, O: Sink>(
     requires ready { K.ready desk.old }
     requires moment { now ≤ moment_limit }
     ensures ready { K.ready desk.new }
-    ensures runs { (start : Option ℕ) (signer : SignerSeen) (s : Standing) → IsHeld held.now s → Carries Fits (Does K.leads start) (liveness_plan epoch now keys.now indices s)
-        (house desk.old signer (nodes_seen N.told N.faults nodes.old) (sink_seen O.held O.faults out.old))
-        (house desk.new signer (nodes_seen N.told N.faults nodes.new) (sink_seen O.held O.faults out.new)) (done_value s result) }
+    ensures runs { (start : Option ℕ) (lanes : List (Seat K)) (s : Standing) → IsHeld held.now s → Carries Fits (Does K.leads start) (liveness_plan epoch now keys.now indices s)
+        (house desk.old lanes (nodes_seen N.told N.faults nodes.old) (sink_seen O.held O.faults out.old))
+        (house desk.new lanes (nodes_seen N.told N.faults nodes.new) (sink_seen O.held O.faults out.new)) (done_value s result) }
 {
     if indices.is_empty() {
         return Ok(());
@@ -96,8 +95,8 @@ fn note_asked<K: DeskCalls>(
     requires ready { K.ready desk.old }
     requires moment { now ≤ moment_limit }
     ensures ready { K.ready desk.new }
-    ensures runs { (start : Option ℕ) (signer : SignerSeen) (s : Standing) (nodes : List Seen) (out : SinkSeen) → IsHeld held.now s → NotedSo K.leads start (lived_plan epoch now keys.now s) s asked
-        (house desk.old signer nodes out) (house desk.new signer nodes out) result }
+    ensures runs { (start : Option ℕ) (lanes : List (Seat K)) (s : Standing) (nodes : List Seen) (out : SinkSeen) → IsHeld held.now s → NotedSo K.leads start (lived_plan epoch now keys.now s) s asked
+        (house desk.old lanes nodes out) (house desk.new lanes nodes out) result }
 {
     match asked {
         Asked::Given(answer) => note_answer(alloc, now, epoch, keys, answer, held, desk),
@@ -119,8 +118,8 @@ fn note_answer<K: DeskCalls>(
     requires ready { K.ready desk.old }
     requires moment { now ≤ moment_limit }
     ensures ready { K.ready desk.new }
-    ensures runs { (start : Option ℕ) (signer : SignerSeen) (s : Standing) (nodes : List Seen) (out : SinkSeen) → IsHeld held.now s → Carries Fits (Does K.leads start) (lived_plan epoch now keys.now s (Ok answer))
-        (house desk.old signer nodes out) (house desk.new signer nodes out) (done_value s result) }
+    ensures runs { (start : Option ℕ) (lanes : List (Seat K)) (s : Standing) (nodes : List Seen) (out : SinkSeen) → IsHeld held.now s → Carries Fits (Does K.leads start) (lived_plan epoch now keys.now s (Ok answer))
+        (house desk.old lanes nodes out) (house desk.new lanes nodes out) (done_value s result) }
 {
     let Answer::Liveness(rows) = answer else {
         return Err(Stop::OutOfMemory);
@@ -141,8 +140,8 @@ fn note_all<K: DeskCalls>(
     requires ready { K.ready desk.old }
     requires moment { now ≤ moment_limit }
     ensures ready { K.ready desk.new }
-    ensures runs { (start : Option ℕ) (signer : SignerSeen) (s : Standing) (nodes : List Seen) (out : SinkSeen) → Carries Fits (Does K.leads start) (notes_plan epoch now notes.now s)
-        (house desk.old signer nodes out) (house desk.new signer nodes out) (done_value s result) }
+    ensures runs { (start : Option ℕ) (lanes : List (Seat K)) (s : Standing) (nodes : List Seen) (out : SinkSeen) → Carries Fits (Does K.leads start) (notes_plan epoch now notes.now s)
+        (house desk.old lanes nodes out) (house desk.new lanes nodes out) (done_value s result) }
 {
     'notes: for note in notes {
         match tell(now, epoch, note, desk) {
@@ -158,8 +157,8 @@ fn tell<K: DeskCalls>(now: u64, epoch: u64, note: &(PubKey, bool), desk: &mut K)
     requires ready { K.ready desk.old }
     requires moment { now ≤ moment_limit }
     ensures ready { K.ready desk.new }
-    ensures noted { (start : Option ℕ) (signer : SignerSeen) (nodes : List Seen) (out : SinkSeen) (next : PartPlan) → NotedOn K.leads start (calls (call.Answer note.now.0 epoch note.now.1 now) (λ r. noted r next)) next
-        (house desk.old signer nodes out) (house desk.new signer nodes out) result }
+    ensures noted { (start : Option ℕ) (lanes : List (Seat K)) (nodes : List Seen) (out : SinkSeen) (next : PartPlan) → NotedOn K.leads start (calls (call.Answer note.now.0 epoch note.now.1 now) (λ r. noted r next)) next
+        (house desk.old lanes nodes out) (house desk.new lanes nodes out) result }
 {
     let (key, live) = *note;
     let reply = desk.call(DeskCall::Answer {

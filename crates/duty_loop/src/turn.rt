@@ -1,10 +1,10 @@
 //! One turn.
-ghost use Rattle.std.specs.Prelude.{◌≡◌, ℕ, List, OnOk, Option, Some};
-ghost use Rattle.client_calls.specs.Seats.{SignerSeen};
+ghost use Rattle.std.specs.Prelude.{◌≡◌, ◌<◌, ℕ, All, List, OnOk, Option, Some, length};
 ghost use Rattle.desk_machine.specs.declared.call.DeskCall.TheVariants as call;
 ghost use Rattle.desk_machine.specs.declared.call.DeskReply.TheVariants as reply;
 ghost use Rattle.node_fallback.specs.Seen.{Seen};
-ghost use Rattle.duty_plans.specs.Seats.{nodes_seen, signer_seen};
+ghost use Rattle.duty_plans.specs.Seats.{Seat, nodes_seen};
+ghost use Rattle.duty_lanes.specs.Working.{IsReady, lanes_seen};
 ghost use Rattle.duty_turns.specs.Standing.{Standing};
 ghost use Rattle.duty_turns.specs.Turns.{NextPlan, calls, duties_plan, listed_plan, ready_plan, renewed_plan, shortens, sized, then_on, turn_plan, watch_plan, woken_plan};
 ghost use Rattle.duty_turns.specs.TurnSteps.{SinkSeen, sink_seen};
@@ -17,6 +17,7 @@ use crate::watch::watch;
 use crate::work::{close, do_due};
 use desk_machine::{DeskCall, DeskCalls, DeskReply, KeyStanding};
 use duty_asks::{Stop, ask_duties};
+use duty_lanes::{Lane, refresh_lanes};
 use duty_plans::DutySetup;
 use duty_turns::{DutyEnd, Held, is_first_slot, slot_of, slot_start};
 use edge_clock::Clock;
@@ -26,49 +27,72 @@ use node_fallback::Nodes;
 use signer_link::Signer;
 use std::alloc::{AllocError, Global};
 use std::sync::Wait;
+use std::thread::Threads;
 
 /// How many bytes a journal may have without being compacted at an epoch's first slot.
 const SIZE_LIMIT: u64 = 1_073_741_824;
 
 /// Takes one turn: waits for the start of the held slot, asks the nodes what is due for the desk's active keys, and
-/// does it, blocks at once and votes a third into the slot (consensus-specs, `SECONDS_PER_SLOT`, `INTERVALS_PER_SLOT`).
-/// What became of each duty is a line of the output, which is written behind the last of them. Then the next turn is
-/// the next slot's. Where a wait is over in a later slot, the duties that are left are dropped, and the next turn is
-/// that slot's. At an epoch's first slot, before the desk is asked for its keys, a journal of more than 1,073,741,824
-/// bytes is compacted; whatever the desk replies, the turn goes on, but for want of memory.
+/// has it done in the lanes, blocks at once and votes a third into the slot (consensus-specs, `SECONDS_PER_SLOT`,
+/// `INTERVALS_PER_SLOT`). What became of each duty is a line of the output, which is written behind the last of them.
+/// Then the next turn is the next slot's. Where a wait is over in a later slot, the duties that are left are dropped,
+/// and the next turn is that slot's. At an epoch's first slot, before the desk is asked for its keys, a journal of more
+/// than 1,073,741,824 bytes is compacted; whatever the desk replies, the turn goes on, but for want of memory.
+///
+/// A lane does duties with a desk, a signing service and nodes of its own, beside the others. The duties of a slot have
+/// places, its blocks and then its votes, from 0 on; the one at a place goes to the lane that the place is modulo the
+/// lanes. All else is done with the desk and the nodes of the loop itself, which signs nothing. At the slot's start its
+/// nodes are asked whether they are syncing, and then those of each lane.
 ///
 /// # Errors
 ///
 /// `DutyEnd::Disk` where the desk says that its disk failed, `DutyEnd::Write` only where the output's count of
 /// faults rose, `DutyEnd::OutOfMemory` where memory was wanted: then the first few calls of the turn are done, each
 /// whole, and no grant is open. After an error nothing is promised of what is held.
-pub fn take_turn<T: Wait, K: DeskCalls, S: Signer, N: Node + Drop, C: Clock, O: Sink>(
+pub fn take_turn<
+    T: Threads + Wait + Sync,
+    K: DeskCalls + Send,
+    S: Signer + Send,
+    N: Node + Drop + Send,
+    C: Clock,
+    O: Sink,
+>(
     rt: &T,
     alloc: Global,
     setup: &DutySetup,
     clock: &C,
     held: &mut Held,
     desk: &mut K,
-    signer: &mut S,
     nodes: &mut Nodes<N>,
+    lanes: &mut [Lane<K, S, N>],
     out: &mut O,
 ) -> Result<(), DutyEnd>
+    requires some { 0 < length lanes.old }
     requires ready { K.ready desk.old }
+    requires lanes { All (IsReady K.ready) lanes.old }
     requires held { IsHolding held.old }
     ensures ready { K.ready desk.new }
+    ensures lanes { All (IsReady K.ready) lanes.new }
     ensures held { OnOk result (IsHolding held.new) }
     ensures runs { (s : Standing) → HoldsPlaced held.old s → Turns K.leads (C.start clock.now) (HoldsPlaced held.new) (turn_plan setup.now s)
-        (house desk.old (signer_seen S.told S.faults S.denials signer.old) (nodes_seen N.told N.faults nodes.old) (sink_seen O.held O.faults out.old))
-        (house desk.new (signer_seen S.told S.faults S.denials signer.new) (nodes_seen N.told N.faults nodes.new) (sink_seen O.held O.faults out.new)) result }
+        (house desk.old (lanes_seen S.told S.faults S.denials N.told N.faults lanes.old) (nodes_seen N.told N.faults nodes.old) (sink_seen O.held O.faults out.old))
+        (house desk.new (lanes_seen S.told S.faults S.denials N.told N.faults lanes.new) (nodes_seen N.told N.faults nodes.new) (sink_seen O.held O.faults out.new)) result }
 {
     let reached = clock.wait_until(rt, slot_start(setup.genesis_time, held.slot));
     begin(
-        rt, alloc, setup, clock, reached, held, desk, signer, nodes, out,
+        rt, alloc, setup, clock, reached, held, desk, nodes, lanes, out,
     )
 }
 
 /// Begins the slot, if this moment is not of a later one.
-fn begin<T: Wait, K: DeskCalls, S: Signer, N: Node + Drop, C: Clock, O: Sink>(
+fn begin<
+    T: Threads + Wait + Sync,
+    K: DeskCalls + Send,
+    S: Signer + Send,
+    N: Node + Drop + Send,
+    C: Clock,
+    O: Sink,
+>(
     rt: &T,
     alloc: Global,
     setup: &DutySetup,
@@ -76,16 +100,19 @@ fn begin<T: Wait, K: DeskCalls, S: Signer, N: Node + Drop, C: Clock, O: Sink>(
     reached: u64,
     held: &mut Held,
     desk: &mut K,
-    signer: &mut S,
     nodes: &mut Nodes<N>,
+    lanes: &mut [Lane<K, S, N>],
     out: &mut O,
 ) -> Result<(), DutyEnd>
+    requires some { 0 < length lanes.old }
     requires ready { K.ready desk.old }
+    requires lanes { All (IsReady K.ready) lanes.old }
     requires held { IsHolding held.old }
     ensures ready { K.ready desk.new }
+    ensures lanes { All (IsReady K.ready) lanes.new }
     ensures runs { (s : Standing) → HoldsPlaced held.old s → Turns K.leads (C.start clock.now) (HoldsPlaced held.new) (woken_plan setup.now s reached)
-        (house desk.old (signer_seen S.told S.faults S.denials signer.old) (nodes_seen N.told N.faults nodes.old) (sink_seen O.held O.faults out.old))
-        (house desk.new (signer_seen S.told S.faults S.denials signer.new) (nodes_seen N.told N.faults nodes.new) (sink_seen O.held O.faults out.new)) result }
+        (house desk.old (lanes_seen S.told S.faults S.denials N.told N.faults lanes.old) (nodes_seen N.told N.faults nodes.old) (sink_seen O.held O.faults out.old))
+        (house desk.new (lanes_seen S.told S.faults S.denials N.told N.faults lanes.new) (nodes_seen N.told N.faults nodes.new) (sink_seen O.held O.faults out.new)) result }
 {
     let slot = held.slot;
     let later = slot_of(setup.genesis_time, reached);
@@ -96,40 +123,53 @@ fn begin<T: Wait, K: DeskCalls, S: Signer, N: Node + Drop, C: Clock, O: Sink>(
     let Ok(()) = nodes.refresh() else {
         return Err(DutyEnd::OutOfMemory);
     };
-    shorten(rt, alloc, setup, clock, held, desk, signer, nodes, out)
+    let Ok(()) = refresh_lanes(lanes) else {
+        return Err(DutyEnd::OutOfMemory);
+    };
+    shorten(rt, alloc, setup, clock, held, desk, nodes, lanes, out)
 }
 
 /// Has a journal that has grown compacted at an epoch's first slot, and goes on with the desk's keys.
-fn shorten<T: Wait, K: DeskCalls, S: Signer, N: Node + Drop, C: Clock, O: Sink>(
+fn shorten<
+    T: Threads + Wait + Sync,
+    K: DeskCalls + Send,
+    S: Signer + Send,
+    N: Node + Drop + Send,
+    C: Clock,
+    O: Sink,
+>(
     rt: &T,
     alloc: Global,
     setup: &DutySetup,
     clock: &C,
     held: &mut Held,
     desk: &mut K,
-    signer: &mut S,
     nodes: &mut Nodes<N>,
+    lanes: &mut [Lane<K, S, N>],
     out: &mut O,
 ) -> Result<(), DutyEnd>
+    requires some { 0 < length lanes.old }
     requires ready { K.ready desk.old }
+    requires lanes { All (IsReady K.ready) lanes.old }
     requires held { IsHolding held.old }
     ensures ready { K.ready desk.new }
+    ensures lanes { All (IsReady K.ready) lanes.new }
     ensures runs { (s : Standing) → HoldsPlaced held.old s → Turns K.leads (C.start clock.now) (HoldsPlaced held.new) (shortens s (calls call.Keys (listed_plan setup.now s)))
-        (house desk.old (signer_seen S.told S.faults S.denials signer.old) (nodes_seen N.told N.faults nodes.old) (sink_seen O.held O.faults out.old))
-        (house desk.new (signer_seen S.told S.faults S.denials signer.new) (nodes_seen N.told N.faults nodes.new) (sink_seen O.held O.faults out.new)) result }
+        (house desk.old (lanes_seen S.told S.faults S.denials N.told N.faults lanes.old) (nodes_seen N.told N.faults nodes.old) (sink_seen O.held O.faults out.old))
+        (house desk.new (lanes_seen S.told S.faults S.denials N.told N.faults lanes.new) (nodes_seen N.told N.faults nodes.new) (sink_seen O.held O.faults out.new)) result }
 {
     let Ok(()) = compact_grown(held.slot, desk) else {
         return Err(DutyEnd::OutOfMemory);
     };
-    list_keys(rt, alloc, setup, clock, held, desk, signer, nodes, out)
+    list_keys(rt, alloc, setup, clock, held, desk, nodes, lanes, out)
 }
 
 /// Has a journal that has grown compacted, if this slot is an epoch's first.
 fn compact_grown<K: DeskCalls>(slot: u64, desk: &mut K) -> Result<(), AllocError>
     requires ready { K.ready desk.old }
     ensures ready { K.ready desk.new }
-    ensures shortened { (start : Option ℕ) (signer : SignerSeen) (nodes : List Seen) (out : SinkSeen) (s : Standing) (next : NextPlan) → slot ≡ s.slot → ShortenedOn K.leads start (shortens s next) next
-        (house desk.old signer nodes out) (house desk.new signer nodes out) result }
+    ensures shortened { (start : Option ℕ) (lanes : List (Seat K)) (nodes : List Seen) (out : SinkSeen) (s : Standing) (next : NextPlan) → slot ≡ s.slot → ShortenedOn K.leads start (shortens s next) next
+        (house desk.old lanes nodes out) (house desk.new lanes nodes out) result }
 {
     if !is_first_slot(slot) {
         return Ok(());
@@ -145,8 +185,8 @@ fn compact_grown<K: DeskCalls>(slot: u64, desk: &mut K) -> Result<(), AllocError
 fn compact_above<K: DeskCalls>(size: u64, desk: &mut K) -> Result<(), AllocError>
     requires ready { K.ready desk.old }
     ensures ready { K.ready desk.new }
-    ensures shortened { (start : Option ℕ) (signer : SignerSeen) (nodes : List Seen) (out : SinkSeen) (next : NextPlan) → ShortenedOn K.leads start (sized (reply.Size size) next) next
-        (house desk.old signer nodes out) (house desk.new signer nodes out) result }
+    ensures shortened { (start : Option ℕ) (lanes : List (Seat K)) (nodes : List Seen) (out : SinkSeen) (next : NextPlan) → ShortenedOn K.leads start (sized (reply.Size size) next) next
+        (house desk.old lanes nodes out) (house desk.new lanes nodes out) result }
 {
     if size <= SIZE_LIMIT {
         return Ok(());
@@ -174,23 +214,33 @@ fn compacted_by(reply: DeskReply) -> Result<(), AllocError>
 }
 
 /// Asks the desk for its keys, and goes on with them.
-fn list_keys<T: Wait, K: DeskCalls, S: Signer, N: Node + Drop, C: Clock, O: Sink>(
+fn list_keys<
+    T: Threads + Wait + Sync,
+    K: DeskCalls + Send,
+    S: Signer + Send,
+    N: Node + Drop + Send,
+    C: Clock,
+    O: Sink,
+>(
     rt: &T,
     alloc: Global,
     setup: &DutySetup,
     clock: &C,
     held: &mut Held,
     desk: &mut K,
-    signer: &mut S,
     nodes: &mut Nodes<N>,
+    lanes: &mut [Lane<K, S, N>],
     out: &mut O,
 ) -> Result<(), DutyEnd>
+    requires some { 0 < length lanes.old }
     requires ready { K.ready desk.old }
+    requires lanes { All (IsReady K.ready) lanes.old }
     requires held { IsHolding held.old }
     ensures ready { K.ready desk.new }
+    ensures lanes { All (IsReady K.ready) lanes.new }
     ensures runs { (s : Standing) → HoldsPlaced held.old s → Turns K.leads (C.start clock.now) (HoldsPlaced held.new) (calls call.Keys (listed_plan setup.now s))
-        (house desk.old (signer_seen S.told S.faults S.denials signer.old) (nodes_seen N.told N.faults nodes.old) (sink_seen O.held O.faults out.old))
-        (house desk.new (signer_seen S.told S.faults S.denials signer.new) (nodes_seen N.told N.faults nodes.new) (sink_seen O.held O.faults out.new)) result }
+        (house desk.old (lanes_seen S.told S.faults S.denials N.told N.faults lanes.old) (nodes_seen N.told N.faults nodes.old) (sink_seen O.held O.faults out.old))
+        (house desk.new (lanes_seen S.told S.faults S.denials N.told N.faults lanes.new) (nodes_seen N.told N.faults nodes.new) (sink_seen O.held O.faults out.new)) result }
 {
     match desk.call(DeskCall::Keys) {
         DeskReply::Keys(listed) => do_slot(
@@ -201,8 +251,8 @@ fn list_keys<T: Wait, K: DeskCalls, S: Signer, N: Node + Drop, C: Clock, O: Sink
             listed.as_slice(),
             held,
             desk,
-            signer,
             nodes,
+            lanes,
             out,
         ),
         DeskReply::OutOfMemory => Err(DutyEnd::OutOfMemory),
@@ -210,8 +260,15 @@ fn list_keys<T: Wait, K: DeskCalls, S: Signer, N: Node + Drop, C: Clock, O: Sink
     }
 }
 
-/// Asks the nodes what is due, with these keys at the desk, and does it.
-fn do_slot<T: Wait, K: DeskCalls, S: Signer, N: Node + Drop, C: Clock, O: Sink>(
+/// Asks the nodes what is due, with these keys at the desk, and has it done.
+fn do_slot<
+    T: Threads + Wait + Sync,
+    K: DeskCalls + Send,
+    S: Signer + Send,
+    N: Node + Drop + Send,
+    C: Clock,
+    O: Sink,
+>(
     rt: &T,
     alloc: Global,
     setup: &DutySetup,
@@ -219,16 +276,19 @@ fn do_slot<T: Wait, K: DeskCalls, S: Signer, N: Node + Drop, C: Clock, O: Sink>(
     listed: &[(PubKey, KeyStanding)],
     held: &mut Held,
     desk: &mut K,
-    signer: &mut S,
     nodes: &mut Nodes<N>,
+    lanes: &mut [Lane<K, S, N>],
     out: &mut O,
 ) -> Result<(), DutyEnd>
+    requires some { 0 < length lanes.old }
     requires ready { K.ready desk.old }
+    requires lanes { All (IsReady K.ready) lanes.old }
     requires held { IsHolding held.old }
     ensures ready { K.ready desk.new }
+    ensures lanes { All (IsReady K.ready) lanes.new }
     ensures runs { (s : Standing) → HoldsPlaced held.old s → Turns K.leads (C.start clock.now) (HoldsPlaced held.new) (listed_plan setup.now s (reply.Keys listed.now))
-        (house desk.old (signer_seen S.told S.faults S.denials signer.old) (nodes_seen N.told N.faults nodes.old) (sink_seen O.held O.faults out.old))
-        (house desk.new (signer_seen S.told S.faults S.denials signer.new) (nodes_seen N.told N.faults nodes.new) (sink_seen O.held O.faults out.new)) result }
+        (house desk.old (lanes_seen S.told S.faults S.denials N.told N.faults lanes.old) (nodes_seen N.told N.faults nodes.old) (sink_seen O.held O.faults out.old))
+        (house desk.new (lanes_seen S.told S.faults S.denials N.told N.faults lanes.new) (nodes_seen N.told N.faults nodes.new) (sink_seen O.held O.faults out.new)) result }
 {
     let Ok(active) = active_of(alloc, listed) else {
         return Err(DutyEnd::OutOfMemory);
@@ -246,9 +306,7 @@ fn do_slot<T: Wait, K: DeskCalls, S: Signer, N: Node + Drop, C: Clock, O: Sink>(
         Ok(()) => {}
         Err(stop) => return Err(end_of(stop)),
     }
-    do_active(
-        rt, alloc, setup, clock, active, held, desk, signer, nodes, out,
-    )
+    do_active(rt, alloc, setup, clock, active, held, desk, lanes, out)
 }
 
 /// Why the loop ends where a part of a turn stopped.
@@ -274,9 +332,9 @@ fn ask_all<K: DeskCalls, N: Node + Drop, O: Sink>(
 ) -> Result<(), Stop>
     requires ready { K.ready desk.old }
     ensures ready { K.ready desk.new }
-    ensures runs { (start : Option ℕ) (signer : SignerSeen) (s : Standing) → HoldsPlaced held.old s → PartTurns K.leads start (HoldsPlaced held.new) (then_on (then_on (renewed_plan active.now s) (duties_plan active.now)) (watch_plan watches listed.now))
-        (house desk.old signer (nodes_seen N.told N.faults nodes.old) (sink_seen O.held O.faults out.old))
-        (house desk.new signer (nodes_seen N.told N.faults nodes.new) (sink_seen O.held O.faults out.new)) result }
+    ensures runs { (start : Option ℕ) (lanes : List (Seat K)) (s : Standing) → HoldsPlaced held.old s → PartTurns K.leads start (HoldsPlaced held.new) (then_on (then_on (renewed_plan active.now s) (duties_plan active.now)) (watch_plan watches listed.now))
+        (house desk.old lanes (nodes_seen N.told N.faults nodes.old) (sink_seen O.held O.faults out.old))
+        (house desk.new lanes (nodes_seen N.told N.faults nodes.new) (sink_seen O.held O.faults out.new)) result }
 {
     match ask_duties(alloc, active, held, nodes, out) {
         Ok(()) => {}
@@ -285,8 +343,15 @@ fn ask_all<K: DeskCalls, N: Node + Drop, O: Sink>(
     watch(alloc, watches, listed, held, desk, nodes, out)
 }
 
-/// Does what is due of the active keys.
-fn do_active<T: Wait, K: DeskCalls, S: Signer, N: Node + Drop, C: Clock, O: Sink>(
+/// Has what is due of the active keys done.
+fn do_active<
+    T: Threads + Wait + Sync,
+    K: DeskCalls + Send,
+    S: Signer + Send,
+    N: Node + Drop + Send,
+    C: Clock,
+    O: Sink,
+>(
     rt: &T,
     alloc: Global,
     setup: &DutySetup,
@@ -294,22 +359,22 @@ fn do_active<T: Wait, K: DeskCalls, S: Signer, N: Node + Drop, C: Clock, O: Sink
     active: Items<PubKey>,
     held: &mut Held,
     desk: &mut K,
-    signer: &mut S,
-    nodes: &mut Nodes<N>,
+    lanes: &mut [Lane<K, S, N>],
     out: &mut O,
 ) -> Result<(), DutyEnd>
+    requires some { 0 < length lanes.old }
     requires ready { K.ready desk.old }
+    requires lanes { All (IsReady K.ready) lanes.old }
     requires held { IsHolding held.old }
     ensures ready { K.ready desk.new }
-    ensures runs { (s : Standing) → HoldsPlaced held.old s → Turns K.leads (C.start clock.now) (HoldsPlaced held.new) (ready_plan setup.now active (Some s))
-        (house desk.old (signer_seen S.told S.faults S.denials signer.old) (nodes_seen N.told N.faults nodes.old) (sink_seen O.held O.faults out.old))
-        (house desk.new (signer_seen S.told S.faults S.denials signer.new) (nodes_seen N.told N.faults nodes.new) (sink_seen O.held O.faults out.new)) result }
+    ensures lanes { All (IsReady K.ready) lanes.new }
+    ensures runs { (nodes : List Seen) (s : Standing) → HoldsPlaced held.old s → Turns K.leads (C.start clock.now) (HoldsPlaced held.new) (ready_plan setup.now active (Some s))
+        (house desk.old (lanes_seen S.told S.faults S.denials N.told N.faults lanes.old) nodes (sink_seen O.held O.faults out.old))
+        (house desk.new (lanes_seen S.told S.faults S.denials N.told N.faults lanes.new) nodes (sink_seen O.held O.faults out.new)) result }
 {
     let Ok(due) = held.schedule.due(held.slot, active.as_slice()) else {
         return Err(DutyEnd::OutOfMemory);
     };
     held.active = Some(active);
-    do_due(
-        rt, alloc, setup, clock, &due, held, desk, signer, nodes, out,
-    )
+    do_due(rt, alloc, setup, clock, &due, held, desk, lanes, out)
 }

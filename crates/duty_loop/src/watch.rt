@@ -1,8 +1,7 @@
 //! The watch: what is missing of it is asked of the nodes, and noted at the desk.
-ghost use Rattle.std.specs.Prelude.{◌≡◌, ℕ, Option};
-ghost use Rattle.client_calls.specs.Seats.{SignerSeen};
+ghost use Rattle.std.specs.Prelude.{◌≡◌, ℕ, List, Option};
 ghost use Rattle.call_plans.specs.Paths.{Carries};
-ghost use Rattle.duty_plans.specs.Seats.{nodes_seen};
+ghost use Rattle.duty_plans.specs.Seats.{Seat, nodes_seen};
 ghost use Rattle.duty_turns.specs.Standing.{IsHeld, Standing};
 ghost use Rattle.duty_turns.specs.Times.{epoch_of};
 ghost use Rattle.duty_turns.specs.Turns.{epochs_plan, missing_epochs, watch_plan};
@@ -33,9 +32,9 @@ pub(crate) fn watch<K: DeskCalls, N: Node + Drop, O: Sink>(
 ) -> Result<(), Stop>
     requires ready { K.ready desk.old }
     ensures ready { K.ready desk.new }
-    ensures runs { (start : Option ℕ) (signer : SignerSeen) (s : Standing) → IsHeld held.now s → Carries Fits (Does K.leads start) (watch_plan watches listed.now s)
-        (house desk.old signer (nodes_seen N.told N.faults nodes.old) (sink_seen O.held O.faults out.old))
-        (house desk.new signer (nodes_seen N.told N.faults nodes.new) (sink_seen O.held O.faults out.new)) (done_value s result) }
+    ensures runs { (start : Option ℕ) (lanes : List (Seat K)) (s : Standing) → IsHeld held.now s → Carries Fits (Does K.leads start) (watch_plan watches listed.now s)
+        (house desk.old lanes (nodes_seen N.told N.faults nodes.old) (sink_seen O.held O.faults out.old))
+        (house desk.new lanes (nodes_seen N.told N.faults nodes.new) (sink_seen O.held O.faults out.new)) (done_value s result) }
 {
     if !watches {
         return Ok(());
@@ -53,9 +52,9 @@ fn watch_epochs<K: DeskCalls, N: Node + Drop, O: Sink>(
 ) -> Result<(), Stop>
     requires ready { K.ready desk.old }
     ensures ready { K.ready desk.new }
-    ensures runs { (start : Option ℕ) (signer : SignerSeen) (s : Standing) → IsHeld held.now s → Carries Fits (Does K.leads start) (epochs_plan (epoch_of s.slot) listed.now (missing_epochs (epoch_of s.slot) listed.now) s)
-        (house desk.old signer (nodes_seen N.told N.faults nodes.old) (sink_seen O.held O.faults out.old))
-        (house desk.new signer (nodes_seen N.told N.faults nodes.new) (sink_seen O.held O.faults out.new)) (done_value s result) }
+    ensures runs { (start : Option ℕ) (lanes : List (Seat K)) (s : Standing) → IsHeld held.now s → Carries Fits (Does K.leads start) (epochs_plan (epoch_of s.slot) listed.now (missing_epochs (epoch_of s.slot) listed.now) s)
+        (house desk.old lanes (nodes_seen N.told N.faults nodes.old) (sink_seen O.held O.faults out.old))
+        (house desk.new lanes (nodes_seen N.told N.faults nodes.new) (sink_seen O.held O.faults out.new)) (done_value s result) }
 {
     let now = epoch_of(held.slot);
     let mut epoch = next_missed(listed, 0, now);

@@ -1,35 +1,42 @@
 //! What is due in a slot is done: blocks at once, votes a third into it.
-ghost use Rattle.std.specs.Prelude.{◌≡◌, ◌++◌, ℕ, List, IfOk, Option, option_map, true};
+ghost use Rattle.std.specs.Prelude.{◌≡◌, ◌++◌, ◌<◌, ℕ, All, List, IfOk, Option, length, option_map, true};
 ghost use Rattle.std.specs.Result.{result_ok};
-ghost use Rattle.client_calls.specs.Seats.{SignerSeen};
 ghost use Rattle.call_plans.specs.Paths.{Carries};
 ghost use Rattle.node_fallback.specs.Seen.{Seen};
-ghost use Rattle.duty_plans.specs.Seats.{nodes_seen, signer_seen};
+ghost use Rattle.duty_plans.specs.Seats.{Seat};
+ghost use Rattle.duty_lanes.specs.Working.{IsReady, WorksDone, lanes_seen};
 ghost use Rattle.duty_workers.specs.Hands.{are_placed};
 ghost use Rattle.duty_turns.specs.Standing.{Standing};
 ghost use Rattle.duty_turns.specs.Turns.{blocks_in, calls, close_plan, due_plan, failed_plan, is_block, votes_in, votes_plan, work_of};
 ghost use Rattle.duty_turns.specs.TurnSteps.{Does, Fits, SinkSeen, sink_seen};
 ghost use Rattle.duty_asks.specs.Placed.{HoldsPlaced};
 ghost use Rattle.desk_machine.specs.declared.call.DeskCall.TheVariants as call;
-ghost use Rattle.duty_loop.specs.Houses.{IsFailed, Turns, WorksDone, end_by, house, next_value};
+ghost use Rattle.duty_loop.specs.Houses.{IsFailed, Turns, end_by, house, next_value};
 
 use desk_machine::{DeskCall, DeskCalls, DeskReply};
 use duty_asks::write_text;
+use duty_lanes::{Lane, run_lanes};
 use duty_plans::{DutyResult, DutySetup};
 use duty_schedule::Duty;
 use duty_turns::{DutyEnd, Held, duty_lines, epoch_of, next_slot, slot_of, votes_start};
-use duty_workers::run_slot;
 use edge_clock::Clock;
 use edge_kit::Sink;
 use node_calls::Node;
-use node_fallback::Nodes;
 use sign_roots::Domains;
 use signer_link::Signer;
 use std::alloc::{AllocError, Global};
 use std::sync::Wait;
+use std::thread::Threads;
 
-/// Does these duties of the slot, of which the blocks are done at once, and the votes a third into it.
-pub(crate) fn do_due<T: Wait, K: DeskCalls, S: Signer, N: Node + Drop, C: Clock, O: Sink>(
+/// Has these duties of the slot done in the lanes, of which the blocks are done at once, and the votes a third into it.
+pub(crate) fn do_due<
+    T: Threads + Wait + Sync,
+    K: DeskCalls + Send,
+    S: Signer + Send,
+    N: Node + Drop + Send,
+    C: Clock,
+    O: Sink,
+>(
     rt: &T,
     alloc: Global,
     setup: &DutySetup,
@@ -37,64 +44,75 @@ pub(crate) fn do_due<T: Wait, K: DeskCalls, S: Signer, N: Node + Drop, C: Clock,
     due: &[Duty],
     held: &mut Held,
     desk: &mut K,
-    signer: &mut S,
-    nodes: &mut Nodes<N>,
+    lanes: &mut [Lane<K, S, N>],
     out: &mut O,
 ) -> Result<(), DutyEnd>
+    requires some { 0 < length lanes.old }
     requires ready { K.ready desk.old }
+    requires lanes { All (IsReady K.ready) lanes.old }
     requires places { are_placed due.now ≡ true }
     ensures ready { K.ready desk.new }
-    ensures runs { (s : Standing) → HoldsPlaced held.old s → Turns K.leads (C.start clock.now) (HoldsPlaced held.new) (due_plan setup.now s due.now)
-        (house desk.old (signer_seen S.told S.faults S.denials signer.old) (nodes_seen N.told N.faults nodes.old) (sink_seen O.held O.faults out.old))
-        (house desk.new (signer_seen S.told S.faults S.denials signer.new) (nodes_seen N.told N.faults nodes.new) (sink_seen O.held O.faults out.new)) result }
+    ensures lanes { All (IsReady K.ready) lanes.new }
+    ensures runs { (nodes : List Seen) (s : Standing) → HoldsPlaced held.old s → Turns K.leads (C.start clock.now) (HoldsPlaced held.new) (due_plan setup.now s due.now)
+        (house desk.old (lanes_seen S.told S.faults S.denials N.told N.faults lanes.old) nodes (sink_seen O.held O.faults out.old))
+        (house desk.new (lanes_seen S.told S.faults S.denials N.told N.faults lanes.new) nodes (sink_seen O.held O.faults out.new)) result }
 {
     let Ok(blocks) = blocks_in(alloc, due) else {
         return Err(DutyEnd::OutOfMemory);
     };
     let blocks = blocks.as_slice();
-    let Ok(proposed) = do_duties(alloc, setup, blocks, held, desk, signer, nodes) else {
+    let Ok(proposed) = do_duties(rt, alloc, setup, 0, blocks, held, lanes) else {
         return Err(DutyEnd::OutOfMemory);
     };
     let proposed = proposed.as_slice();
     let reached = clock.wait_until(rt, votes_start(setup.genesis_time, held.slot));
     cast_votes(
-        alloc, setup, reached, due, blocks, proposed, held, desk, signer, nodes, out,
+        rt, alloc, setup, reached, due, blocks, proposed, held, desk, lanes, out,
     )
 }
 
-/// Does these duties, which are of one kind.
-fn do_duties<K: DeskCalls, S: Signer, N: Node + Drop>(
+/// Has these duties done in the lanes, which are of one kind, and of which the first has this place in the slot.
+fn do_duties<T: Threads + Sync, K: DeskCalls + Send, S: Signer + Send, N: Node + Drop + Send>(
+    rt: &T,
     alloc: Global,
     setup: &DutySetup,
+    place: usize,
     duties: &[Duty],
     held: &Held,
-    desk: &mut K,
-    signer: &mut S,
-    nodes: &mut Nodes<N>,
+    lanes: &mut [Lane<K, S, N>],
 ) -> Result<Vec<DutyResult>, AllocError>
-    requires ready { K.ready desk.old }
+    requires some { 0 < length lanes.old }
+    requires ready { All (IsReady K.ready) lanes.old }
     requires places { are_placed duties.now ≡ true }
-    ensures ready { K.ready desk.new }
-    ensures runs { (s : Standing) → HoldsPlaced held.now s → WorksDone K.leads (work_of setup.now s) duties.now
-        desk.old (signer_seen S.told S.faults S.denials signer.old) (nodes_seen N.told N.faults nodes.old)
-        desk.new (signer_seen S.told S.faults S.denials signer.new) (nodes_seen N.told N.faults nodes.new) (option_map (λ results. results.items) (result_ok result)) }
+    ensures ready { All (IsReady K.ready) lanes.new }
+    ensures works { (s : Standing) → HoldsPlaced held.now s → WorksDone K.leads (work_of setup.now s) place duties.now
+        (lanes_seen S.told S.faults S.denials N.told N.faults lanes.old) (lanes_seen S.told S.faults S.denials N.told N.faults lanes.new)
+        (option_map (λ results. results.items) (result_ok result)) }
 {
     let domains = Domains::new(held.fork, setup.genesis);
-    run_slot(
+    run_lanes(
+        rt,
         alloc,
         setup,
         &domains,
         held.slot,
         epoch_of(held.slot),
+        place,
         duties,
-        desk,
-        signer,
-        nodes,
+        lanes,
     )
 }
 
-/// Casts the votes, unless the moment that was reached is of a later slot. Then the next turn is that slot's.
-fn cast_votes<K: DeskCalls, S: Signer, N: Node + Drop, O: Sink>(
+/// Has the votes cast, whose places are behind those of the blocks, unless the moment that was reached is of a later slot.
+/// Then the next turn is that slot's.
+fn cast_votes<
+    T: Threads + Sync,
+    K: DeskCalls + Send,
+    S: Signer + Send,
+    N: Node + Drop + Send,
+    O: Sink,
+>(
+    rt: &T,
     alloc: Global,
     setup: &DutySetup,
     reached: u64,
@@ -103,17 +121,19 @@ fn cast_votes<K: DeskCalls, S: Signer, N: Node + Drop, O: Sink>(
     proposed: &[DutyResult],
     held: &mut Held,
     desk: &mut K,
-    signer: &mut S,
-    nodes: &mut Nodes<N>,
+    lanes: &mut [Lane<K, S, N>],
     out: &mut O,
 ) -> Result<(), DutyEnd>
+    requires some { 0 < length lanes.old }
     requires ready { K.ready desk.old }
+    requires lanes { All (IsReady K.ready) lanes.old }
     requires places { are_placed due.now ≡ true }
     requires blocks { blocks.now ≡ blocks_in due.now }
     ensures ready { K.ready desk.new }
-    ensures runs { (start : Option ℕ) (s : Standing) → HoldsPlaced held.old s → Turns K.leads start (HoldsPlaced held.new) (votes_plan setup.now s due.now proposed.now reached)
-        (house desk.old (signer_seen S.told S.faults S.denials signer.old) (nodes_seen N.told N.faults nodes.old) (sink_seen O.held O.faults out.old))
-        (house desk.new (signer_seen S.told S.faults S.denials signer.new) (nodes_seen N.told N.faults nodes.new) (sink_seen O.held O.faults out.new)) result }
+    ensures lanes { All (IsReady K.ready) lanes.new }
+    ensures runs { (start : Option ℕ) (nodes : List Seen) (s : Standing) → HoldsPlaced held.old s → Turns K.leads start (HoldsPlaced held.new) (votes_plan setup.now s due.now proposed.now reached)
+        (house desk.old (lanes_seen S.told S.faults S.denials N.told N.faults lanes.old) nodes (sink_seen O.held O.faults out.old))
+        (house desk.new (lanes_seen S.told S.faults S.denials N.told N.faults lanes.new) nodes (sink_seen O.held O.faults out.new)) result }
 {
     let slot = held.slot;
     let later = slot_of(setup.genesis_time, reached);
@@ -125,7 +145,7 @@ fn cast_votes<K: DeskCalls, S: Signer, N: Node + Drop, O: Sink>(
         return Err(DutyEnd::OutOfMemory);
     };
     let votes = votes.as_slice();
-    let Ok(cast) = do_duties(alloc, setup, votes, held, desk, signer, nodes) else {
+    let Ok(cast) = do_duties(rt, alloc, setup, blocks.len(), votes, held, lanes) else {
         return Err(DutyEnd::OutOfMemory);
     };
     let cast = cast.as_slice();
@@ -146,8 +166,8 @@ fn close_both<K: DeskCalls, O: Sink>(
 ) -> Result<(), DutyEnd>
     requires ready { K.ready desk.old }
     ensures ready { K.ready desk.new }
-    ensures runs { (start : Option ℕ) (signer : SignerSeen) (nodes : List Seen) (s : Standing) → Carries Fits (Does K.leads start) (close_plan slot (blocks.now ++ votes.now) (proposed.now ++ cast.now) s)
-        (house desk.old signer nodes (sink_seen O.held O.faults out.old)) (house desk.new signer nodes (sink_seen O.held O.faults out.new)) (next_value s result) }
+    ensures runs { (start : Option ℕ) (lanes : List (Seat K)) (nodes : List Seen) (s : Standing) → Carries Fits (Does K.leads start) (close_plan slot (blocks.now ++ votes.now) (proposed.now ++ cast.now) s)
+        (house desk.old lanes nodes (sink_seen O.held O.faults out.old)) (house desk.new lanes nodes (sink_seen O.held O.faults out.new)) (next_value s result) }
 {
     let Ok(duties) = joined(alloc, blocks, votes) else {
         return Err(DutyEnd::OutOfMemory);
@@ -171,8 +191,8 @@ pub(crate) fn close<K: DeskCalls, O: Sink>(
 ) -> Result<(), DutyEnd>
     requires ready { K.ready desk.old }
     ensures ready { K.ready desk.new }
-    ensures runs { (start : Option ℕ) (signer : SignerSeen) (nodes : List Seen) (s : Standing) → Carries Fits (Does K.leads start) (close_plan slot duties.now results.now s)
-        (house desk.old signer nodes (sink_seen O.held O.faults out.old)) (house desk.new signer nodes (sink_seen O.held O.faults out.new)) (next_value s result) }
+    ensures runs { (start : Option ℕ) (lanes : List (Seat K)) (nodes : List Seen) (s : Standing) → Carries Fits (Does K.leads start) (close_plan slot duties.now results.now s)
+        (house desk.old lanes nodes (sink_seen O.held O.faults out.old)) (house desk.new lanes nodes (sink_seen O.held O.faults out.new)) (next_value s result) }
 {
     let Ok(lines) = duty_lines(alloc, slot, duties, results) else {
         return Err(DutyEnd::OutOfMemory);
@@ -188,8 +208,8 @@ pub(crate) fn close<K: DeskCalls, O: Sink>(
 fn ask_failed<K: DeskCalls>(desk: &mut K) -> Result<(), DutyEnd>
     requires ready { K.ready desk.old }
     ensures ready { K.ready desk.new }
-    ensures runs { (start : Option ℕ) (signer : SignerSeen) (nodes : List Seen) (out : SinkSeen) (s : Standing) → Carries Fits (Does K.leads start) (calls call.HasFailed (failed_plan s))
-        (house desk.old signer nodes out) (house desk.new signer nodes out) (next_value s result) }
+    ensures runs { (start : Option ℕ) (lanes : List (Seat K)) (nodes : List Seen) (out : SinkSeen) (s : Standing) → Carries Fits (Does K.leads start) (calls call.HasFailed (failed_plan s))
+        (house desk.old lanes nodes out) (house desk.new lanes nodes out) (next_value s result) }
 {
     let reply = desk.call(DeskCall::HasFailed);
     end_by(reply)

@@ -28,8 +28,8 @@ pub record SettledIn (back : List DutyStep) (grant : OpenGrant) (o : Outcome) : 
   pub is : back ≡ before ++ (Calls (call.Settle grant o), Replies by) ∷ later
   pub quiet : desk_calls before ≡ []
 
--- Each post lies between the entry of its grant and the settling of it as sent. Between them the desk is not called: so no key is
--- closed there.
+-- Each post lies between the entry of its grant and the settling of it as sent. Between them these steps don't call the desk: so
+-- they close no key there. What other passes to a shared desk do meanwhile isn't told here.
 abbrev pub PostsGuarded : List DutyStep → Type 0
 PostsGuarded steps = (front back : List DutyStep) (grant : OpenGrant) (p : Post) (r : DutyReply) → steps ≡ front ++ (Posts grant p, r) ∷ back
     → GivenIn front grant × SettledIn back grant outcome.Sent

@@ -5,8 +5,8 @@ use Rattle.call_plans.specs.Plans.{Done, Stop, Ask as Step, bind, Follows}
 use Rattle.call_plans.proofs.PlanLemmas.{follows_bind, follows_cut, follows_cases}
 use Rattle.duty_schedule.specs.declared.rows.Duty.{Duty}
 use Rattle.duty_plans.specs.declared.result.DutyResult.{DutyResult}
-use Rattle.duty_turns.specs.TurnSteps.{TurnCall, TurnPlan, TurnReply, TurnStep, Fits, Waits, Woke, Refreshed, Due, Worked, Wrote}
-use Rattle.duty_turns.specs.Turns.{woken, refreshed, found, worked, written}
+use Rattle.duty_turns.specs.TurnSteps.{TurnCall, TurnPlan, TurnReply, TurnStep, Fits, Waits, Woke, Refreshed, LanesRefreshed, Due, Worked, Wrote}
+use Rattle.duty_turns.specs.Turns.{woken, refreshed, lanes_refreshed, found, worked, written}
 use Rattle.duty_safety.specs.OnTime.{Wait, IsWait, AllWaits}
 
 -- what follows the first follows the second, and the value is such
@@ -70,12 +70,16 @@ pub refreshed_keeps : {X : Type 0} (W : Wait) (Q : X → Type 0) (r : TurnReply)
 refreshed_keeps W Q (Refreshed true replies) p q h = h
 refreshed_keeps W Q r p q h = keeps_stop W Q
 
+pub lanes_refreshed_keeps : {X : Type 0} (W : Wait) (Q : X → Type 0) (r : TurnReply) (p q : TurnPlan X) → Keeps W Q p q → Keeps W Q (lanes_refreshed r p) (lanes_refreshed r q)
+lanes_refreshed_keeps W Q (LanesRefreshed true replies) p q h = h
+lanes_refreshed_keeps W Q r p q h = keeps_stop W Q
+
 pub found_keeps : {X : Type 0} (W : Wait) (Q : X → Type 0) (r : TurnReply) (f g : List Duty → TurnPlan X) → ((ds : List Duty) → Keeps W Q (f ds) (g ds)) → Keeps W Q (found r f) (found r g)
 found_keeps W Q (Due ds) f g h = h ds
 found_keeps W Q r f g h = keeps_stop W Q
 
 pub worked_keeps : {X : Type 0} (W : Wait) (Q : X → Type 0) (r : TurnReply) (f g : List DutyResult → TurnPlan X) → ((results : List DutyResult) → Keeps W Q (f results) (g results)) → Keeps W Q (worked r f) (worked r g)
-worked_keeps W Q (Worked steps (Some results)) f g h = h results
+worked_keeps W Q (Worked lanes (Some results)) f g h = h results
 worked_keeps W Q r f g h = keeps_stop W Q
 
 pub written_keeps : {X : Type 0} (W : Wait) (Q : Option X → Type 0) (r : TurnReply) (p q : TurnPlan (Option X)) → Q None → Keeps W Q p q → Keeps W Q (written r p) (written r q)

@@ -1,6 +1,6 @@
 -- What the desk gives leave for is safe beside what was signed before, and so is what is posted.
 use Rattle.std.proofs.Common.{◌≡◌, Bool, true, false, cond, List, [], ◌∷◌, ◌++◌, get_or, Option, Some, None, refl, sym, ◌∙◌, ap, subst, arith, append_assoc}
-use Rattle.std.specs.Prelude.{All, unwrap_or}
+use Rattle.std.specs.Prelude.{All, Contains, unwrap_or}
 use Rattle.std.proofs.lemmas.List.{append-nil}
 use Rattle.std.proofs.lemmas.List.Elements.{All-append, All-cons}
 use Rattle.std.proofs.lemmas.List.Quantifiers.{all_pairs_push}
@@ -18,8 +18,7 @@ use Rattle.desk_machine.specs.declared.call.DeskCall.TheVariants as call
 use Rattle.desk_machine.specs.declared.call.DeskReply.{DeskReply}
 use Rattle.desk_machine.specs.declared.call.DeskReply.TheVariants as reply
 use Rattle.client_calls.specs.Machines.{CanMake}
-use Rattle.duty_plans.specs.Guards.{PostedGranted, granted_by, granted_in, posted_in}
-use Rattle.duty_plans.specs.Steps.{DutyStep, desk_calls}
+use Rattle.duty_plans.specs.Guards.{granted_by, granted_in}
 use Rattle.session_run.specs.Durable.{CoversKey}
 use Rattle.session_run.specs.Safe.{NowOrLater, CoveredOnceActive}
 use Rattle.session_run.proofs.DurableLemmas.{granted}
@@ -81,7 +80,6 @@ granted_safe state ((c, r) ∷ rest) before can safe covered =
     let P : Sent → Type 0 = λ l. SafeList l in
     subst P (append_assoc before more (granted_in rest)) (granted_safe next rest (before ++ more) can.1 one.0 after_one)
 
-pub posted_safe : (state : State) (steps : List DutyStep) (before : Sent) → CanMake state (desk_calls steps) → PostedGranted steps → SafeList before
-    → All (CoveredOnceActive state (desk_calls steps)) before → SafeList (before ++ posted_in steps)
-posted_safe state steps before can posted safe covered =
-    safe_within before (granted_in (desk_calls steps)) (posted_in steps) (granted_safe state (desk_calls steps) before can safe covered) posted
+pub posted_safe : (state : State) (calls : List (DeskCall × DeskReply)) (posted before : Sent) → CanMake state calls
+    → ((x : PubKey × Message) → Contains posted x → Contains (granted_in calls) x) → SafeList before → All (CoveredOnceActive state calls) before → SafeList (before ++ posted)
+posted_safe state calls posted before can within safe covered = safe_within before (granted_in calls) posted (granted_safe state calls before can safe covered) within

@@ -1,5 +1,5 @@
 -- A turn that drops nothing tells of all that was due.
-use Rattle.std.proofs.Common.{◌≡◌, ℕ, suc, Bool, true, false, List, [], ◌∷◌, ◌++◌, length, map, Option, Some, None, Ok, Err, refl, sym, ◌∙◌, ap, subst, arith, append_assoc}
+use Rattle.std.proofs.Common.{◌≡◌, ◌+◌, ℕ, Bool, true, false, List, [], ◌∷◌, ◌++◌, length, map, Option, Some, None, Ok, Err, refl, sym, ◌∙◌, ap, subst, arith, append_assoc}
 use Rattle.std.specs.Prelude.{nat_lt, if◌then◌else◌}
 use Rattle.std.proofs.lemmas.List.{length-append}
 use Rattle.edge_kit.specs.declared.bytes.PubKey.{PubKey}
@@ -15,21 +15,19 @@ use Rattle.duty_schedule.specs.declared.rows.Duty.TheVariants as duty
 use Rattle.call_plans.specs.Plans.{Ask as Step, Done, Stop, Follows}
 use Rattle.call_plans.proofs.PlanLemmas.{follows_split}
 use Rattle.duty_plans.proofs.SlotLemmas.{each_done}
-use Rattle.duty_plans.specs.Plans.{slot_plan}
-use Rattle.duty_plans.specs.Slots.{EachDone}
 use Rattle.duty_plans.specs.Steps.{Calls, DutyStep}
-use Rattle.duty_plans.specs.Steps as duties
 use Rattle.duty_plans.specs.declared.result.DutyResult.{DutyResult}
 use Rattle.duty_plans.specs.declared.setup.DutySetup.{DutySetup}
 use Rattle.duty_plans.specs.declared.work.SlotWork.{SlotWork}
 use Rattle.duty_turns.specs.declared.held.DutyEnd.TheVariants as end
+use Rattle.duty_turns.specs.Lanes.{DidShares, HasEach, dealt}
 use Rattle.duty_turns.specs.Lines.{duty_lines}
 use Rattle.duty_turns.specs.Standing.{Standing}
 use Rattle.duty_turns.specs.Times.{is_first_slot, next_slot, slot_start, votes_start}
-use Rattle.duty_turns.specs.TurnSteps.{Fits, TurnCall, TurnPlan, TurnReply, TurnStep, LooksUp, Own, Refreshes, Waits, Works, Writes, Due, Refreshed, Woke, Worked, Wrote}
-use Rattle.duty_turns.specs.Turns.{Next, NextPlan, active_of, asked_plan, at_slot, blocks_in, calls, close_plan, compacted, own_reply, refreshed, refreshes, shortens, size_limit, sized, votes_in, waits, with_active, woken, work_of, works}
+use Rattle.duty_turns.specs.TurnSteps.{Fits, TurnCall, TurnPlan, TurnReply, TurnStep, LooksUp, Own, Refreshes, RefreshesLanes, Waits, Works, Writes, Due, Refreshed, LanesRefreshed, Woke, Worked, Wrote}
+use Rattle.duty_turns.specs.Turns.{Next, NextPlan, active_of, asked_plan, at_slot, blocks_in, calls, close_plan, compacted, lanes_refreshed, own_reply, refreshed, refreshes, refreshes_lanes, shortens, size_limit, sized, votes_in, waits, with_active, woken, work_of, works}
 use Rattle.duty_safety.specs.OnTime.{AllWaits, IsWait, Wait, cast_plan, done_plan, listed_on_time, on_time_turn, ready_on_time}
-use Rattle.duty_safety.specs.Told.{AllTold, ToldIfNext}
+use Rattle.duty_safety.specs.Told.{AllDone, AllTold, EachDoneIn, ToldIfNext}
 use Rattle.duty_safety.proofs.AskedLemmas.{At, asked_stays}
 
 -- ---- what follows a call
@@ -38,12 +36,21 @@ stop_never : {X : Type 0} (steps : List TurnStep) (x : X) → Follows Fits Stop 
 stop_never [] x h = h
 stop_never (s ∷ steps) x h = h
 
-works_so : {X : Type 0} (work : SlotWork) (ds : List Duty) (f : List DutyResult → TurnPlan X) (steps : List TurnStep) (x : X) → Follows Fits (works work ds f) steps (Some x)
-    → (made : List DutyStep) × (results : List DutyResult) × (rest : List TurnStep) × (steps ≡ (Works work ds, Worked made (Some results)) ∷ rest)
-    × Follows duties.Fits (slot_plan work ds) made (Some results) × Follows Fits (f results) rest (Some x)
-works_so work ds f [] x h = absurd h
-works_so work ds f ((c, Worked made (Some results)) ∷ rest) x h = (made, results, rest, ap (λ (d : TurnCall). (d, Worked made (Some results)) ∷ rest) h.0, h.1, h.2)
-works_so work ds f ((c, r) ∷ rest) x h = absurd (stop_never rest x h.2)
+-- each lane's share of the duties was done
+each_lane : (work : SlotWork) (lanes lane place : ℕ) (ds : List Duty) (results : List DutyResult) (made : List (List DutyStep)) → DidShares work place ds (Some results) lanes lane made
+    → EachDoneIn work lanes lane place ds results made
+each_lane work lanes lane place ds results [] h = tt
+each_lane work lanes lane place ds results (steps ∷ others) h =
+    (each_done work (dealt lanes lane place ds) steps (dealt lanes lane place results) h.0, each_lane work lanes (lane + 1) place ds results others h.1)
+
+works_so : {X : Type 0} (work : SlotWork) (place : ℕ) (ds : List Duty) (f : List DutyResult → TurnPlan X) (steps : List TurnStep) (x : X) → Follows Fits (works work place ds f) steps (Some x)
+    → (made : List (List DutyStep)) × (results : List DutyResult) × (rest : List TurnStep) × (steps ≡ (Works work place ds, Worked made (Some results)) ∷ rest)
+    × AllDone work place ds made results × HasEach ds (Some results) × Follows Fits (f results) rest (Some x)
+works_so work place ds f [] x h = absurd h
+works_so work place ds f ((c, Worked made (Some results)) ∷ rest) x h =
+    let all : AllDone work place ds made results = record { some = h.1.2; each = each_lane work (length made) 0 place ds results made h.1.0 } in
+    (made, results, rest, ap (λ (d : TurnCall). (d, Worked made (Some results)) ∷ rest) h.0, all, h.1.1, h.2)
+works_so work place ds f ((c, r) ∷ rest) x h = absurd (stop_never rest x h.2)
 
 waits_so : {X : Type 0} (moment : ℕ) (f : ℕ → TurnPlan X) (steps : List TurnStep) (x : X) → Follows Fits (waits moment f) steps (Some x)
     → (reached : ℕ) × (rest : List TurnStep) × (steps ≡ (Waits moment, Woke reached) ∷ rest) × Follows Fits (f reached) rest (Some x)
@@ -82,17 +89,9 @@ all_due answers slot active ds due =
     subst P (sym due.are_both) (ap (λ l. l ++ votes_in (bs ++ map duty.Vote due.votes)) (blocks_of due.blocks due.votes) ∙ ap (λ l. bs ++ l) (votes_of due.blocks due.votes))
 
 -- one result each
-one_each : (work : SlotWork) (ds : List Duty) (steps : List DutyStep) (rs : List DutyResult) → EachDone work ds steps rs → length rs ≡ length ds
-one_each work [] steps [] e = refl
-one_each work [] steps (r ∷ rs) e = absurd e
-one_each work (d ∷ ds) steps [] e = absurd e
-one_each work (d ∷ ds) steps (r ∷ rs) e = ap suc (one_each work ds e.1 rs e.4)
-
-as_many : (work : SlotWork) (ds : List Duty) (made voted : List DutyStep) (proposed cast : List DutyResult) → EachDone work (blocks_in ds) made proposed → EachDone work (votes_in ds) voted cast → blocks_in ds ++ votes_in ds ≡ ds
+as_many : (ds : List Duty) (proposed cast : List DutyResult) → length proposed ≡ length (blocks_in ds) → length cast ≡ length (votes_in ds) → blocks_in ds ++ votes_in ds ≡ ds
     → length (proposed ++ cast) ≡ length ds
-as_many work ds made voted proposed cast b v all =
-    let left = one_each work (blocks_in ds) made proposed b in
-    let right = one_each work (votes_in ds) voted cast v in
+as_many ds proposed cast left right all =
     let both = ap (λ (l : List Duty). length l) all in
     omega (arith, length-append proposed cast, length-append (blocks_in ds) (votes_in ds))
 
@@ -108,18 +107,17 @@ told_due setup s active ds steps t due f =
     let work = work_of setup s in
     let moment = votes_start setup.genesis_time s.slot in
     let next = at_slot (next_slot s.slot) s in
-    let blocks = works_so work (blocks_in ds) (λ proposed. waits moment (λ reached. cast_plan setup s ds proposed)) steps (Ok t) f in
-    let woke = waits_so moment (λ reached. cast_plan setup s ds blocks.1) blocks.2 (Ok t) blocks.5 in
-    let votes = works_so work (votes_in ds) (λ cast. close_plan s.slot (blocks_in ds ++ votes_in ds) (blocks.1 ++ cast) next) woke.1 (Ok t) woke.3 in
-    let close = close_so s.slot (blocks_in ds ++ votes_in ds) (blocks.1 ++ votes.1) next votes.2 t votes.5 in
+    let place = length (blocks_in ds) in
+    let blocks = works_so work 0 (blocks_in ds) (λ proposed. waits moment (λ reached. cast_plan setup s ds proposed)) steps (Ok t) f in
+    let woke = waits_so moment (λ reached. cast_plan setup s ds blocks.1) blocks.2 (Ok t) blocks.6 in
+    let votes = works_so work place (votes_in ds) (λ cast. close_plan s.slot (blocks_in ds ++ votes_in ds) (blocks.1 ++ cast) next) woke.1 (Ok t) woke.3 in
+    let close = close_so s.slot (blocks_in ds ++ votes_in ds) (blocks.1 ++ votes.1) next votes.2 t votes.6 in
     let text = duty_lines s.slot (blocks_in ds ++ votes_in ds) (blocks.1 ++ votes.1) in
     let all = all_due s.answers s.slot active ds due in
-    let made = each_done work (blocks_in ds) blocks.0 blocks.1 blocks.4 in
-    let voted = each_done work (votes_in ds) votes.0 votes.1 votes.4 in
     let looked : TurnStep = (LooksUp s.answers s.slot active, Due ds) in
-    let first : TurnStep = (Works work (blocks_in ds), Worked blocks.0 (Some blocks.1)) in
+    let first : TurnStep = (Works work 0 (blocks_in ds), Worked blocks.0 (Some blocks.1)) in
     let second : TurnStep = (Waits moment, Woke woke.0) in
-    let third : TurnStep = (Works work (votes_in ds), Worked votes.0 (Some votes.1)) in
+    let third : TurnStep = (Works work place (votes_in ds), Worked votes.0 (Some votes.1)) in
     record {
       front = [];
       answers = s.answers;
@@ -136,10 +134,10 @@ told_due setup s active ds steps t due f =
       are = in_order looked first second third steps blocks.2 woke.1 votes.2 ((Writes text, Wrote true text) ∷ close.0) blocks.3 woke.2 votes.3 close.1;
       found = due;
       work_slot = refl;
-      blocks = made;
-      votes = voted;
+      blocks = blocks.4;
+      votes = votes.4;
       lines = ap (λ (l : List Duty). duty_lines s.slot l (blocks.1 ++ votes.1)) all;
-      each = as_many work ds blocks.0 votes.0 blocks.1 votes.1 made voted all;
+      each = as_many ds blocks.1 votes.1 blocks.5 votes.5 all;
     }
 
 -- ---- up to the look-up
@@ -205,6 +203,10 @@ module _ (setup : DutySetup) (slot : ℕ) where
   refreshed_tells (Refreshed true replies) p h = h
   refreshed_tells r p h = stop_tells
 
+  lanes_refreshed_tells : (r : TurnReply) (p : NextPlan) → Tells setup slot p → Tells setup slot (lanes_refreshed r p)
+  lanes_refreshed_tells (LanesRefreshed true replies) p h = h
+  lanes_refreshed_tells r p h = stop_tells
+
   woken_tells : (r : TurnReply) (p : NextPlan) → Tells setup slot p → Tells setup slot (woken r (λ reached. p))
   woken_tells (Woke reached) p h = h
   woken_tells r p h = stop_tells
@@ -242,10 +244,12 @@ listed_tells setup s r steps x h = absurd (stop_never steps x h)
 turn_tells : (setup : DutySetup) (s : Standing) → Tells setup s.slot (on_time_turn setup s)
 turn_tells setup s =
     let listed = calls call.Keys (listed_on_time setup s) in
-    let part = refreshes (shortens s listed) in
+    let rest = refreshes_lanes (shortens s listed) in
+    let part = refreshes rest in
     ask_tells setup s.slot (Waits (slot_start setup.genesis_time s.slot)) (λ r. woken r (λ reached. part)) (λ r. woken_tells setup s.slot r part
-    (ask_tells setup s.slot Refreshes (λ q. refreshed q (shortens s listed)) (λ q. refreshed_tells setup s.slot q (shortens s listed) (shortens_tells setup s.slot s listed
-    (ask_tells setup s.slot (Own (Calls call.Keys)) (λ w. listed_on_time setup s (own_reply w)) (λ w. listed_tells setup s (own_reply w)))))))
+    (ask_tells setup s.slot Refreshes (λ q. refreshed q rest) (λ q. refreshed_tells setup s.slot q rest
+    (ask_tells setup s.slot RefreshesLanes (λ q. lanes_refreshed q (shortens s listed)) (λ q. lanes_refreshed_tells setup s.slot q (shortens s listed) (shortens_tells setup s.slot s listed
+    (ask_tells setup s.slot (Own (Calls call.Keys)) (λ w. listed_on_time setup s (own_reply w)) (λ w. listed_tells setup s (own_reply w)))))))))
 
 pub all_told : (setup : DutySetup) (s : Standing) (steps : List TurnStep) (t : Standing) → Follows Fits (on_time_turn setup s) steps (Some (Ok t)) → AllTold setup s.slot steps
 all_told setup s steps t f = turn_tells setup s steps (Ok t) f

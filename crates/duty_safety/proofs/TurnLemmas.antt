@@ -1,5 +1,5 @@
 -- Turns whose waits are over in their slots drop nothing.
-use Rattle.std.proofs.Common.{ℕ, zero, suc, ◌≤◌, ◌<◌, ◌^◌, true, List, [], ◌∷◌, ◌++◌, Option, Some, None, Result, Ok, Err, refl, sym, subst, arith}
+use Rattle.std.proofs.Common.{ℕ, zero, suc, ◌≤◌, ◌<◌, ◌^◌, true, List, [], ◌∷◌, ◌++◌, length, Option, Some, None, Result, Ok, Err, refl, sym, subst, arith}
 use Rattle.std.specs.Prelude.{max, nat_lt}
 use Rattle.std.proofs.lemmas.Bool.{le-ltb}
 use Rattle.edge_kit.specs.declared.bytes.PubKey.{PubKey}
@@ -19,10 +19,10 @@ use Rattle.duty_turns.specs.declared.held.DutyEnd.TheVariants as end
 use Rattle.duty_turns.specs.Lines.{duty_lines}
 use Rattle.duty_turns.specs.Standing.{Standing}
 use Rattle.duty_turns.specs.Times.{is_first_slot, next_slot, slot_of, slot_start, votes_start}
-use Rattle.duty_turns.specs.TurnSteps.{Does, Fits, House, TurnCall, TurnPlan, TurnReply, TurnStep, LooksUp, Own, Refreshes, Waits, Works, Writes, Woke, Wrote}
-use Rattle.duty_turns.specs.Turns.{Next, NextPlan, active_of, asked_plan, at_slot, blocks_in, calls, close_plan, closed_plan, compacted, due_plan, failed_plan, found, listed_plan, next_turn, own_reply, ready_plan, refreshed, refreshes, shortens, size_limit, sized, turn_plan, turns_plan, votes_in, votes_plan, waits, with_active, woken, woken_plan, work_of, worked}
+use Rattle.duty_turns.specs.TurnSteps.{Does, Fits, House, TurnCall, TurnPlan, TurnReply, TurnStep, LooksUp, Own, Refreshes, RefreshesLanes, Waits, Works, Writes, Woke, Wrote}
+use Rattle.duty_turns.specs.Turns.{Next, NextPlan, active_of, asked_plan, at_slot, blocks_in, calls, close_plan, closed_plan, compacted, due_plan, failed_plan, found, lanes_refreshed, listed_plan, next_turn, own_reply, ready_plan, refreshed, refreshes, refreshes_lanes, shortens, size_limit, sized, turn_plan, turns_plan, votes_in, votes_plan, waits, with_active, woken, woken_plan, work_of, worked}
 use Rattle.duty_safety.specs.OnTime.{AllWaits, AreOnTime, IsWait, Wait, WakesInSlot, cast_plan, done_plan, listed_on_time, on_time_turn, on_time_turns, ready_on_time}
-use Rattle.duty_safety.proofs.KeepLemmas.{Keeps, found_keeps, keeps_ask, keeps_bind, keeps_done, keeps_else, keeps_if, keeps_stop, refreshed_keeps, woken_keeps, worked_keeps}
+use Rattle.duty_safety.proofs.KeepLemmas.{Keeps, found_keeps, keeps_ask, keeps_bind, keeps_done, keeps_else, keeps_if, keeps_stop, lanes_refreshed_keeps, refreshed_keeps, woken_keeps, worked_keeps}
 use Rattle.duty_safety.proofs.AskedLemmas.{At, asked_stays}
 
 -- ---- slots
@@ -82,7 +82,7 @@ module _ (setup : DutySetup) (W : Wait) (first : ℕ) (cap : first < 2 ^ 64) (bo
   cast_keeps : (s : Standing) (ds : List Duty) (proposed : List DutyResult) → first ≤ s.slot → Keeps W (From first) (cast_plan setup s ds proposed) (cast_plan setup s ds proposed)
   cast_keeps s ds proposed h =
       let behind : List DutyResult → NextPlan = λ cast. close_plan s.slot (blocks_in ds ++ votes_in ds) (proposed ++ cast) (at_slot (next_slot s.slot) s) in
-      keeps_ask W (From first) (Works (work_of setup s) (votes_in ds)) (λ r. worked r behind) (λ r. worked r behind)
+      keeps_ask W (From first) (Works (work_of setup s) (length (blocks_in ds)) (votes_in ds)) (λ r. worked r behind) (λ r. worked r behind)
       (λ r w. worked_keeps W (From first) r behind behind (λ cast. close_keeps W first s.slot (blocks_in ds ++ votes_in ds) (proposed ++ cast) (at_slot (next_slot s.slot) s) (slot_behind first s.slot cap h)))
 
   votes_keep : (s : Standing) (ds : List Duty) (proposed : List DutyResult) (reached : ℕ) → first ≤ s.slot → W (votes_start setup.genesis_time s.slot) reached
@@ -97,7 +97,7 @@ module _ (setup : DutySetup) (W : Wait) (first : ℕ) (cap : first < 2 ^ 64) (bo
       let moment = votes_start setup.genesis_time s.slot in
       let old : List DutyResult → NextPlan = λ proposed. waits moment (votes_plan setup s ds proposed) in
       let new : List DutyResult → NextPlan = λ proposed. waits moment (λ reached. cast_plan setup s ds proposed) in
-      keeps_ask W (From first) (Works (work_of setup s) (blocks_in ds)) (λ r. worked r old) (λ r. worked r new) (λ r w. worked_keeps W (From first) r old new (λ proposed.
+      keeps_ask W (From first) (Works (work_of setup s) 0 (blocks_in ds)) (λ r. worked r old) (λ r. worked r new) (λ r w. worked_keeps W (From first) r old new (λ proposed.
       keeps_ask W (From first) (Waits moment) (λ x. woken x (votes_plan setup s ds proposed)) (λ x. woken x (λ reached. cast_plan setup s ds proposed)) (λ x is.
       woken_keeps W (From first) moment x (votes_plan setup s ds proposed) (λ reached. cast_plan setup s ds proposed) is (λ reached on. votes_keep s ds proposed reached h on))))
 
@@ -118,21 +118,22 @@ module _ (setup : DutySetup) (W : Wait) (first : ℕ) (cap : first < 2 ^ 64) (bo
   listed_keeps s r h = keeps_stop W (From first)
 
   woken_late : (s : Standing) (reached : ℕ) → first ≤ s.slot → W (slot_start setup.genesis_time s.slot) reached
-      → Keeps W (From first) (woken_plan setup s reached) (refreshes (shortens s (calls call.Keys (listed_on_time setup s))))
+      → Keeps W (From first) (woken_plan setup s reached) (refreshes (refreshes_lanes (shortens s (calls call.Keys (listed_on_time setup s)))))
   woken_late s reached h w =
       let now = slot_of setup.genesis_time reached in
       let old = shortens s (calls call.Keys (listed_plan setup s)) in
       let new = shortens s (calls call.Keys (listed_on_time setup s)) in
-      keeps_else W (From first) (nat_lt s.slot now) (close_plan s.slot [] [] (at_slot now s)) (refreshes old) (refreshes new)
+      keeps_else W (From first) (nat_lt s.slot now) (close_plan s.slot [] [] (at_slot now s)) (refreshes (refreshes_lanes old)) (refreshes (refreshes_lanes new))
       (le-ltb s.slot now (bounds s.slot (slot_start setup.genesis_time s.slot) reached h (start_slot setup.genesis_time s.slot) w))
-      (keeps_ask W (From first) Refreshes (λ r. refreshed r old) (λ r. refreshed r new) (λ r is. refreshed_keeps W (From first) r old new
+      (keeps_ask W (From first) Refreshes (λ r. refreshed r (refreshes_lanes old)) (λ r. refreshed r (refreshes_lanes new)) (λ r is. refreshed_keeps W (From first) r (refreshes_lanes old) (refreshes_lanes new)
+      (keeps_ask W (From first) RefreshesLanes (λ r. lanes_refreshed r old) (λ r. lanes_refreshed r new) (λ r is. lanes_refreshed_keeps W (From first) r old new
       (shortens_keeps W first s (calls call.Keys (listed_plan setup s)) (calls call.Keys (listed_on_time setup s))
-      (keeps_ask W (From first) (Own (Calls call.Keys)) (λ r. listed_plan setup s (own_reply r)) (λ r. listed_on_time setup s (own_reply r)) (λ r is. listed_keeps s (own_reply r) h)))))
+      (keeps_ask W (From first) (Own (Calls call.Keys)) (λ r. listed_plan setup s (own_reply r)) (λ r. listed_on_time setup s (own_reply r)) (λ r is. listed_keeps s (own_reply r) h)))))))
 
   turn_keeps : (s : Standing) → first ≤ s.slot → Keeps W (From first) (turn_plan setup s) (on_time_turn setup s)
   turn_keeps s h =
       let moment = slot_start setup.genesis_time s.slot in
-      let new : ℕ → NextPlan = λ reached. refreshes (shortens s (calls call.Keys (listed_on_time setup s))) in
+      let new : ℕ → NextPlan = λ reached. refreshes (refreshes_lanes (shortens s (calls call.Keys (listed_on_time setup s)))) in
       keeps_ask W (From first) (Waits moment) (λ r. woken r (woken_plan setup s)) (λ r. woken r new)
       (λ r is. woken_keeps W (From first) moment r (woken_plan setup s) new is (λ reached w. woken_late s reached h w))
 

@@ -1,5 +1,5 @@
 -- Turns over a clock on time: none drops a duty.
-use Rattle.std.specs.Prelude.{◌≤◌, ℕ, zero, suc, List, [], ◌∷◌, ◌++◌, Option, Some, None, Result, Ok, Err}
+use Rattle.std.specs.Prelude.{◌≤◌, ℕ, zero, suc, List, [], ◌∷◌, ◌++◌, length, Option, Some, None, Result, Ok, Err}
 use Rattle.edge_kit.specs.declared.bytes.PubKey.{PubKey}
 use Rattle.desk_machine.specs.declared.call.DeskCall.TheVariants as call
 use Rattle.desk_machine.specs.declared.call.DeskReply.{DeskReply}
@@ -13,7 +13,7 @@ use Rattle.duty_turns.specs.declared.held.DutyEnd.TheVariants as end
 use Rattle.duty_turns.specs.Standing.{Standing}
 use Rattle.duty_turns.specs.Times.{next_slot, slot_of, slot_start, votes_start}
 use Rattle.duty_turns.specs.TurnSteps.{TurnPlan, TurnStep, Waits, Woke}
-use Rattle.duty_turns.specs.Turns.{NextPlan, active_of, asked_plan, at_slot, blocks_in, calls, close_plan, looks_up, next_turn, refreshes, shortens, votes_in, waits, with_active, work_of, works}
+use Rattle.duty_turns.specs.Turns.{NextPlan, active_of, asked_plan, at_slot, blocks_in, calls, close_plan, looks_up, next_turn, refreshes, refreshes_lanes, shortens, votes_in, waits, with_active, work_of, works}
 
 -- what is said of a wait: of the moment that was waited for and the moment that was reached
 abbrev pub Wait : Type 1
@@ -40,11 +40,12 @@ AreOnTime setup steps = AllWaits (WakesInSlot setup) steps
 
 -- the votes are cast, and a line is written of each duty
 abbrev pub cast_plan : DutySetup → Standing → List Duty → List DutyResult → NextPlan
-cast_plan setup s ds proposed = works (work_of setup s) (votes_in ds) (λ cast. close_plan s.slot (blocks_in ds ++ votes_in ds) (proposed ++ cast) (at_slot (next_slot s.slot) s))
+cast_plan setup s ds proposed =
+    works (work_of setup s) (length (blocks_in ds)) (votes_in ds) (λ cast. close_plan s.slot (blocks_in ds ++ votes_in ds) (proposed ++ cast) (at_slot (next_slot s.slot) s))
 
 -- what is due is done: blocks at once, votes a third into the slot
 abbrev pub done_plan : DutySetup → Standing → List Duty → NextPlan
-done_plan setup s ds = works (work_of setup s) (blocks_in ds) (λ proposed. waits (votes_start setup.genesis_time s.slot) (λ reached. cast_plan setup s ds proposed))
+done_plan setup s ds = works (work_of setup s) 0 (blocks_in ds) (λ proposed. waits (votes_start setup.genesis_time s.slot) (λ reached. cast_plan setup s ds proposed))
 
 abbrev pub ready_on_time : DutySetup → List PubKey → Option Standing → NextPlan
 ready_on_time setup active None = Done (Err end.Write)
@@ -55,7 +56,7 @@ listed_on_time setup s (reply.Keys listed) = bind (asked_plan setup listed (acti
 listed_on_time setup s r = Stop
 
 abbrev pub on_time_turn : DutySetup → Standing → NextPlan
-on_time_turn setup s = waits (slot_start setup.genesis_time s.slot) (λ reached. refreshes (shortens s (calls call.Keys (listed_on_time setup s))))
+on_time_turn setup s = waits (slot_start setup.genesis_time s.slot) (λ reached. refreshes (refreshes_lanes (shortens s (calls call.Keys (listed_on_time setup s)))))
 
 -- so many turns
 abbrev pub on_time_turns : DutySetup → ℕ → Standing → TurnPlan (Result (Unit {0}) DutyEnd)

@@ -1,5 +1,5 @@
 -- What was done and told of all that was found due in a turn.
-use Rattle.std.specs.Prelude.{◌≡◌, ℕ, List, ◌∷◌, ◌++◌, length, Ok, Err, Some, true}
+use Rattle.std.specs.Prelude.{◌≡◌, ◌<◌, ◌+◌, ℕ, List, [], ◌∷◌, ◌++◌, length, Ok, Err, Some, true}
 use Rattle.edge_kit.specs.declared.bytes.PubKey.{PubKey}
 use Rattle.duty_schedule.specs.Answers.{TakenAnswer}
 use Rattle.duty_schedule.specs.Due.{IsDue}
@@ -9,32 +9,45 @@ use Rattle.duty_plans.specs.declared.setup.DutySetup.{DutySetup}
 use Rattle.duty_plans.specs.declared.work.SlotWork.{SlotWork}
 use Rattle.duty_plans.specs.Slots.{EachDone}
 use Rattle.duty_plans.specs.Steps.{DutyStep}
+use Rattle.duty_turns.specs.Lanes.{dealt}
 use Rattle.duty_turns.specs.Lines.{duty_lines}
 use Rattle.duty_turns.specs.Times.{votes_start}
 use Rattle.duty_turns.specs.TurnSteps.{TurnStep, LooksUp, Waits, Works, Writes, Due, Woke, Worked, Wrote}
 use Rattle.duty_turns.specs.Turns.{Next, blocks_in, votes_in}
 
--- The duties that are due at the slot were looked up. Blocks were done at once, and votes a third into the slot, each duty with a result
--- of its own steps; and then a line was written of each, blocks before votes.
+-- each lane, from one on, did the duties that are dealt to it, one after another, each with the result that is dealt to the lane with it,
+-- which is that of its own steps
+abbrev pub EachDoneIn : SlotWork → ℕ → ℕ → ℕ → List Duty → List DutyResult → List (List DutyStep) → Type 0
+EachDoneIn work lanes lane place ds results [] = Unit {0}
+EachDoneIn work lanes lane place ds results (steps ∷ others) =
+    EachDone work (dealt lanes lane place ds) steps (dealt lanes lane place results) × EachDoneIn work lanes (lane + 1) place ds results others
+
+-- these duties, of which the first has this place in the slot, were all done in lanes, of which there is one at least
+pub record AllDone (work : SlotWork) (place : ℕ) (ds : List Duty) (lanes : List (List DutyStep)) (results : List DutyResult) : Type 0 where
+  pub some : 0 < length lanes
+  pub each : EachDoneIn work (length lanes) 0 place ds results lanes
+
+-- The duties that are due at the slot were looked up. Blocks were done at once, and votes a third into the slot, in lanes, each duty with
+-- a result of its own steps; and then a line was written of each, blocks before votes.
 pub record AllTold (setup : DutySetup) (slot : ℕ) (steps : List TurnStep) : Type 0 where
   pub front : List TurnStep
   pub answers : List TakenAnswer
   pub active : List PubKey
   pub due : List Duty
   pub work : SlotWork
-  pub made : List DutyStep
+  pub made : List (List DutyStep)
   pub proposed : List DutyResult
   pub reached : ℕ
-  pub voted : List DutyStep
+  pub voted : List (List DutyStep)
   pub cast : List DutyResult
   pub text : List ℕ
   pub behind : List TurnStep
-  pub are : steps ≡ front ++ (LooksUp answers slot active, Due due) ∷ (Works work (blocks_in due), Worked made (Some proposed)) ∷ (Waits (votes_start setup.genesis_time slot), Woke reached)
-      ∷ (Works work (votes_in due), Worked voted (Some cast)) ∷ (Writes text, Wrote true text) ∷ behind
+  pub are : steps ≡ front ++ (LooksUp answers slot active, Due due) ∷ (Works work 0 (blocks_in due), Worked made (Some proposed)) ∷ (Waits (votes_start setup.genesis_time slot), Woke reached)
+      ∷ (Works work (length (blocks_in due)) (votes_in due), Worked voted (Some cast)) ∷ (Writes text, Wrote true text) ∷ behind
   pub found : IsDue answers slot active due
   pub work_slot : work.slot ≡ slot
-  pub blocks : EachDone work (blocks_in due) made proposed
-  pub votes : EachDone work (votes_in due) voted cast
+  pub blocks : AllDone work 0 (blocks_in due) made proposed
+  pub votes : AllDone work (length (blocks_in due)) (votes_in due) voted cast
   pub lines : text ≡ duty_lines slot due (proposed ++ cast)
   pub each : length (proposed ++ cast) ≡ length due
 

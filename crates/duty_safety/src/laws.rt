@@ -1,5 +1,5 @@
 //! What holds of duties, whatever takes the desk's calls.
-ghost use Rattle.std.specs.Prelude.{ℕ, ◌<◌, ◌≤◌, ◌^◌, List, All, ◌++◌, Option, Some, Result, Ok};
+ghost use Rattle.std.specs.Prelude.{ℕ, ◌<◌, ◌≤◌, ◌^◌, List, All, Contains, ◌++◌, Option, Some, Result, Ok};
 ghost use Rattle.edge_kit.specs.declared.bytes.PubKey.{PubKey};
 ghost use Rattle.slash_defs.specs.declared.message.Message.{Message};
 ghost use Rattle.slash_defs.specs.Lists.{SafeList};
@@ -12,8 +12,7 @@ ghost use Rattle.check_sign.specs.Contents.{Seen};
 ghost use Rattle.check_sign.specs.Paths.{Path as CallsOf};
 ghost use Rattle.check_sign.specs.Standing.{DeskStands};
 ghost use Rattle.client_calls.specs.Machines.{CanMake, state_after};
-ghost use Rattle.duty_plans.specs.Guards.{PostedGranted, granted_in, posted_in};
-ghost use Rattle.duty_plans.specs.Steps.{DutyStep, desk_calls};
+ghost use Rattle.duty_plans.specs.Guards.{granted_in};
 ghost use Rattle.duty_plans.specs.declared.setup.DutySetup.{DutySetup};
 ghost use Rattle.duty_turns.specs.declared.held.DutyEnd.{DutyEnd};
 ghost use Rattle.duty_turns.specs.Standing.{Standing};
@@ -28,13 +27,14 @@ use desk_machine::DeskCalls;
 use edge_kit::Disk;
 
 /// Nothing slashable is posted. Whatever was signed before, safe and covered by the past of its key once the key is
-/// active, is safe beside all messages that the desk gives leave for in these calls; and so it is beside all that
-/// duties post, each of which the desk gave leave for.
+/// active, is safe beside all messages that the desk gives leave for in these calls; and so it is beside whatever is
+/// posted, where each message of it is one of those. The calls may be those of many callers of one desk, as lanes are.
 pub fn safe_law()
     ensures granted { (state : State) (calls : List (DeskCall × DeskReply)) (before : List (PubKey × Message)) → CanMake state calls → SafeList before
         → All (CoveredOnceActive state calls) before → SafeList (before ++ granted_in calls) }
-    ensures posted { (state : State) (steps : List DutyStep) (before : List (PubKey × Message)) → CanMake state (desk_calls steps)
-        → PostedGranted steps → SafeList before → All (CoveredOnceActive state (desk_calls steps)) before → SafeList (before ++ posted_in steps) }
+    ensures posted { (state : State) (calls : List (DeskCall × DeskReply)) (posted before : List (PubKey × Message)) → CanMake state calls
+        → ((x : PubKey × Message) → Contains posted x → Contains (granted_in calls) x) → SafeList before → All (CoveredOnceActive state calls) before
+        → SafeList (before ++ posted) }
 {}
 
 /// The calls of a desk over a journal are such calls: from whatever state it stood for its machine can make them, and

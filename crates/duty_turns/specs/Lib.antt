@@ -1,5 +1,6 @@
 pub mod Times
 pub mod Lines
 pub mod Standing
+pub mod Lanes
 pub mod TurnSteps
 pub mod Turns

@@ -8,39 +8,38 @@ use Rattle.desk_machine.specs.declared.call.DeskCall.{DeskCall}
 use Rattle.desk_machine.specs.declared.call.DeskReply.{DeskReply}
 use Rattle.node_calls.specs.declared.answer.Answer.{Answer}
 use Rattle.node_calls.specs.declared.answer.NodeFault.{NodeFault}
-use Rattle.node_fallback.specs.Refreshing.{AreAskedFirst, AreFlagged}
-use Rattle.node_fallback.specs.Seen.{Seen}
 use Rattle.duty_schedule.specs.Answers.{TakenAnswer}
 use Rattle.duty_schedule.specs.Due.{IsDue}
 use Rattle.duty_schedule.specs.declared.rows.Duty.{Duty}
-use Rattle.call_plans.specs.Plans.{Plan, Follows}
-use Rattle.call_plans.specs.Paths.{Path}
+use Rattle.call_plans.specs.Plans.{Plan}
 use Rattle.duty_plans.specs.declared.result.DutyResult.{DutyResult}
 use Rattle.duty_plans.specs.declared.work.SlotWork.{SlotWork}
 use Rattle.duty_plans.specs.Steps.{DutyCall, DutyReply, DutyStep}
 use Rattle.duty_plans.specs.Steps as duties
 use Rattle.duty_plans.specs.Seats.{Seat}
 use Rattle.duty_plans.specs.Seats as seats
-use Rattle.duty_plans.specs.Plans.{slot_plan}
+use Rattle.duty_turns.specs.Lanes.{AreRefreshed, DidShares, EachDoes, HasEach, IsRefreshed}
 
--- a wait for a moment; the nodes are asked which are syncing; a call of the loop's own; what is due is looked up; the duties of one
--- kind are done; and a text is written
+-- a wait for a moment; the loop's own nodes are asked which are syncing, and those of each lane; a call of the loop's own; what is due is
+-- looked up; the duties of one kind, of which the first has this place in the slot, are done in the lanes; and a text is written
 pub data TurnCall : Type 0 where
   Waits : ℕ → TurnCall
   Refreshes : TurnCall
+  RefreshesLanes : TurnCall
   Own : DutyCall → TurnCall
   LooksUp : List TakenAnswer → ℕ → List PubKey → TurnCall
-  Works : SlotWork → List Duty → TurnCall
+  Works : SlotWork → ℕ → List Duty → TurnCall
   Writes : List ℕ → TurnCall
 
--- the moment that was reached; the replies of the nodes, and whether all were asked; the reply; what is due; the duties' steps and their
--- results, None where memory ran out; and whether the whole text was written, and how much of it
+-- the moment that was reached; the replies of the nodes, and whether all were asked, and so lane by lane; the reply; what is due; the steps
+-- of each lane, and the duties' results, None where memory ran out; and whether the whole text was written, and how much of it
 pub data TurnReply : Type 0 where
   Woke : ℕ → TurnReply
   Refreshed : Bool → List (Result Answer NodeFault) → TurnReply
+  LanesRefreshed : Bool → List (List (Result Answer NodeFault)) → TurnReply
   Owned : DutyReply → TurnReply
   Due : List Duty → TurnReply
-  Worked : List DutyStep → Option (List DutyResult) → TurnReply
+  Worked : List (List DutyStep) → Option (List DutyResult) → TurnReply
   Wrote : Bool → List ℕ → TurnReply
 
 abbrev pub TurnStep : Type 0
@@ -54,13 +53,14 @@ abbrev pub IsPiece : List ℕ → Bool → List ℕ → Type 0
 IsPiece text true piece = piece ≡ text
 IsPiece text false piece = (n : ℕ) × (n < length text) × (piece ≡ take n text)
 
--- the reply is one that the call may have
+-- the reply is one that the call may have; duties are done in one lane at least
 abbrev pub Fits : TurnCall → TurnReply → Type 0
 Fits (Waits moment) (Woke reached) = Unit {0}
 Fits Refreshes (Refreshed whole replies) = Unit {0}
+Fits RefreshesLanes (LanesRefreshed whole replies) = Unit {0}
 Fits (Own c) (Owned r) = duties.Fits c r
 Fits (LooksUp answers slot active) (Due found) = IsDue answers slot active found
-Fits (Works work found) (Worked steps results) = Follows duties.Fits (slot_plan work found) steps results
+Fits (Works work place found) (Worked lanes results) = DidShares work place found results (length lanes) 0 lanes × HasEach found results × (0 < length lanes)
 Fits (Writes text) (Wrote whole piece) = IsPiece text whole piece
 Fits c r = ⊥
 
@@ -71,24 +71,17 @@ pub record SinkSeen : Type 0 where
   pub held : Option (List ℕ)
   pub faults : ℕ
 
+-- The loop's own desk and nodes, which sign nothing, the lanes, and the output.
 pub record House (K : Type 0) : Type 0 where
   pub seat : Seat K
+  pub lanes : List (Seat K)
   pub out : SinkSeen
 
-abbrev pub in_house : {K : Type 0} → Seat K → SinkSeen → House K
-in_house seat out = record { seat = seat; out = out }
+abbrev pub in_house : {K : Type 0} → Seat K → List (Seat K) → SinkSeen → House K
+in_house seat lanes out = record { seat = seat; lanes = lanes; out = out }
 
 abbrev pub sink_seen : {O : Type 0} → (O → Option (List ℕ)) → (O → ℕ) → O → SinkSeen
 sink_seen held faults out = record { held = held out; faults = faults out }
-
--- the seat with other flags and tellings of the nodes
-abbrev pub with_nodes : {K : Type 0} → Seat K → List Seen → Seat K
-with_nodes a nodes = seats.at_seat a.desk a.hand a.signer nodes
-
--- a refresh of the nodes, whole or cut short
-abbrev pub AreRefreshed : Bool → List Seen → List (Result Answer NodeFault) → List Seen → Type 0
-AreRefreshed true old replies new = AreFlagged old replies new
-AreRefreshed false old replies new = AreAskedFirst old replies new
 
 -- the output took this; a text is cut short only where its count of faults rose
 pub record HasTaken (before now : SinkSeen) (whole : Bool) (piece : List ℕ) : Type 0 where
@@ -99,9 +92,10 @@ pub record HasTaken (before now : SinkSeen) (whole : Bool) (piece : List ℕ) : 
 -- a step leads from the one to the other; a clock that is told on time has a start
 abbrev pub Does : {K : Type 0} → (K → List (DeskCall × DeskReply) → K → Type 0) → Option ℕ → House K → TurnStep → House K → Type 0
 Does leads start a (Waits moment, Woke reached) b = IsWaited start moment reached × (b ≡ a)
-Does leads start a (Refreshes, Refreshed whole replies) b = (ns : List Seen) × AreRefreshed whole a.seat.nodes replies ns × (b ≡ in_house (with_nodes a.seat ns) a.out)
-Does leads start a (Own c, Owned r) b = seats.Does leads a.seat (c, r) b.seat × (b.out ≡ a.out)
+Does leads start a (Refreshes, Refreshed whole replies) b = IsRefreshed whole a.seat replies b.seat × (b ≡ in_house b.seat a.lanes a.out)
+Does leads start a (RefreshesLanes, LanesRefreshed whole replies) b = AreRefreshed whole a.lanes replies b.lanes × (b ≡ in_house a.seat b.lanes a.out)
+Does leads start a (Own c, Owned r) b = seats.Does leads a.seat (c, r) b.seat × (b ≡ in_house b.seat a.lanes a.out)
 Does leads start a (LooksUp answers slot active, Due found) b = b ≡ a
-Does leads start a (Works work found, Worked steps results) b = Path (seats.Does leads) a.seat steps b.seat × (b.out ≡ a.out)
-Does leads start a (Writes text, Wrote whole piece) b = HasTaken a.out b.out whole piece × (b.seat ≡ a.seat)
+Does leads start a (Works work place found, Worked lanes results) b = EachDoes leads a.lanes lanes b.lanes × (b ≡ in_house a.seat b.lanes a.out)
+Does leads start a (Writes text, Wrote whole piece) b = HasTaken a.out b.out whole piece × (b ≡ in_house a.seat a.lanes b.out)
 Does leads start a s b = ⊥

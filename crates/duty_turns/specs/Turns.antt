@@ -37,7 +37,7 @@ use Rattle.record_join.specs.Keys.{kept_of}
 use Rattle.duty_turns.specs.Lines.{duty_lines, none_line}
 use Rattle.duty_turns.specs.Standing.{Standing, indices_of, with_attesters, with_fork, with_indices, with_proposers}
 use Rattle.duty_turns.specs.Times.{epoch_of, is_first_slot, next_slot, slot_of, slot_start, votes_start}
-use Rattle.duty_turns.specs.TurnSteps.{TurnPlan, TurnReply, Waits, Refreshes, Own, LooksUp, Works, Writes, Woke, Refreshed, Owned, Due, Worked, Wrote}
+use Rattle.duty_turns.specs.TurnSteps.{TurnPlan, TurnReply, Waits, Refreshes, RefreshesLanes, Own, LooksUp, Works, Writes, Woke, Refreshed, LanesRefreshed, Owned, Due, Worked, Wrote}
 
 -- what stands behind a part of a turn; None: the output failed
 abbrev pub PartPlan : Type 0
@@ -58,6 +58,13 @@ refreshed r next = Stop
 
 abbrev pub refreshes : {X : Type 0} → TurnPlan X → TurnPlan X
 refreshes next = Step Refreshes (λ r. refreshed r next)
+
+abbrev pub lanes_refreshed : {X : Type 0} → TurnReply → TurnPlan X → TurnPlan X
+lanes_refreshed (LanesRefreshed true replies) next = next
+lanes_refreshed r next = Stop
+
+abbrev pub refreshes_lanes : {X : Type 0} → TurnPlan X → TurnPlan X
+refreshes_lanes next = Step RefreshesLanes (λ r. lanes_refreshed r next)
 
 abbrev pub own_answer : TurnReply → Result Answer NoAnswer
 own_answer (Owned r) = answer_reply r
@@ -81,11 +88,11 @@ abbrev pub looks_up : {X : Type 0} → List TakenAnswer → ℕ → List PubKey 
 looks_up answers slot active next_by = Step (LooksUp answers slot active) (λ r. found r next_by)
 
 abbrev pub worked : {X : Type 0} → TurnReply → (List DutyResult → TurnPlan X) → TurnPlan X
-worked (Worked steps (Some results)) next_by = next_by results
+worked (Worked lanes (Some results)) next_by = next_by results
 worked r next_by = Stop
 
-abbrev pub works : {X : Type 0} → SlotWork → List Duty → (List DutyResult → TurnPlan X) → TurnPlan X
-works work ds next_by = Step (Works work ds) (λ r. worked r next_by)
+abbrev pub works : {X : Type 0} → SlotWork → ℕ → List Duty → (List DutyResult → TurnPlan X) → TurnPlan X
+works work place ds next_by = Step (Works work place ds) (λ r. worked r next_by)
 
 abbrev pub written : {X : Type 0} → TurnReply → TurnPlan (Option X) → TurnPlan (Option X)
 written (Wrote true piece) next = next
@@ -258,16 +265,17 @@ at_slot slot s = record s { slot = slot }
 abbrev pub work_of : DutySetup → Standing → SlotWork
 work_of setup s = slot_work setup.genesis (record { fork = s.fork; genesis = setup.genesis }) s.slot (epoch_of s.slot)
 
--- a third into the slot the votes are cast; later than the slot they are dropped, and the next turn is that later slot
+-- a third into the slot the votes are cast, whose places are behind those of the blocks; later than the slot they are dropped, and the
+-- next turn is that later slot
 abbrev pub votes_plan : DutySetup → Standing → List Duty → List DutyResult → ℕ → NextPlan
 votes_plan setup s ds proposed reached =
     if nat_lt s.slot (slot_of setup.genesis_time reached)
     then close_plan s.slot (blocks_in ds) proposed (at_slot (slot_of setup.genesis_time reached) s)
-    else works (work_of setup s) (votes_in ds) (λ cast. close_plan s.slot (blocks_in ds ++ votes_in ds) (proposed ++ cast) (at_slot (next_slot s.slot) s))
+    else works (work_of setup s) (length (blocks_in ds)) (votes_in ds) (λ cast. close_plan s.slot (blocks_in ds ++ votes_in ds) (proposed ++ cast) (at_slot (next_slot s.slot) s))
 
 -- what is due is done: blocks at once, votes a third into the slot
 abbrev pub due_plan : DutySetup → Standing → List Duty → NextPlan
-due_plan setup s ds = works (work_of setup s) (blocks_in ds) (λ proposed. waits (votes_start setup.genesis_time s.slot) (votes_plan setup s ds proposed))
+due_plan setup s ds = works (work_of setup s) 0 (blocks_in ds) (λ proposed. waits (votes_start setup.genesis_time s.slot) (votes_plan setup s ds proposed))
 
 abbrev pub with_active : List PubKey → Standing → Standing
 with_active active s = record s { active = Some active }
@@ -303,13 +311,14 @@ sized r next = Stop
 abbrev pub shortens : {X : Type 0} → Standing → TurnPlan X → TurnPlan X
 shortens s next = if is_first_slot s.slot then calls call.Size (λ r. sized r next) else next
 
--- at its slot's start the nodes are refreshed, a journal that has grown is compacted where the slot is an epoch's first, and the desk is
--- asked for its keys; later than the slot its duties are dropped, and the next turn is that later slot
+-- at its slot's start the nodes are refreshed, the loop's own and then those of the lanes, a journal that has grown is compacted where the
+-- slot is an epoch's first, and the desk is asked for its keys; later than the slot its duties are dropped, and the next turn is that later
+-- slot
 abbrev pub woken_plan : DutySetup → Standing → ℕ → NextPlan
 woken_plan setup s reached =
     if nat_lt s.slot (slot_of setup.genesis_time reached)
     then close_plan s.slot [] [] (at_slot (slot_of setup.genesis_time reached) s)
-    else refreshes (shortens s (calls call.Keys (listed_plan setup s)))
+    else refreshes (refreshes_lanes (shortens s (calls call.Keys (listed_plan setup s))))
 
 abbrev pub turn_plan : DutySetup → Standing → NextPlan
 turn_plan setup s = waits (slot_start setup.genesis_time s.slot) (woken_plan setup s)

@@ -1,8 +1,9 @@
 //! What an object in memory keeps of its calls.
-ghost use Rattle.std.specs.Prelude.{◌≡◌};
+ghost use Rattle.std.specs.Prelude.{◌≡◌, IfOk};
 
 use crate::faults::count_fault;
 use crate::traits::Failed;
+use std::alloc::{AllocError, Global};
 
 /// How many calls came, which of them are to fail by their numbers from 0, and how many failed. Each count
 /// stands still at 18446744073709551615.
@@ -25,6 +26,14 @@ impl Calls {
             failing,
             faults: 0,
         }
+    }
+
+    /// No call yet, the same ones of which are to fail. The error is want of memory.
+    pub(crate) fn anew(&self, alloc: Global) -> Result<Self, AllocError>
+        ensures { IfOk result (λ calls. AreNew calls self.now.failing.items) }
+    {
+        let failing = Vec::from_slice(alloc, self.failing.as_slice())?;
+        Ok(Calls::new(failing))
     }
 
     /// Counts a call, and answers whether it is one that is to fail.

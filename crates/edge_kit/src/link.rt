@@ -1,5 +1,5 @@
 //! A two-way stream of bytes, by its meaning.
-ghost use Rattle.std.specs.Prelude.{ℕ, List, ◌<◌, length, IfOk, OnOk};
+ghost use Rattle.std.specs.Prelude.{◌≡◌, ℕ, List, ◌<◌, length, IfOk, OnOk};
 ghost use Rattle.std.specs.declared.option.Option.{Option};
 ghost use Rattle.std.specs.Io.{ReadsAtMost, WritesAtMost};
 ghost use Rattle.std.specs.Io.KnownBytes.{ReadConsumes, WriteAppends};
@@ -7,6 +7,7 @@ ghost use Rattle.edge_kit.specs.Causes.{HasCause};
 ghost use Rattle.edge_kit.specs.Links.{Stays, Opens};
 
 use crate::traits::Failed;
+use std::alloc::{AllocError, Global};
 
 /// One two-way stream of bytes at a time.
 pub trait Link {
@@ -52,4 +53,14 @@ pub trait Link {
         ensures held { Stays (held self.old) (held self.new) }
         ensures coming { Stays (coming self.old) (coming self.new) }
         ensures cause { HasCause (faults self.old) (faults self.new) result };
+
+    /// Another access to the same peer, with a count of faults of its own at 0. Where this one tells, it begins
+    /// with what this one holds. The error is want of memory.
+    fn twin(&self, alloc: Global) -> Result<Self, AllocError>
+    where
+        Self: Sized,
+        ensures left { IfOk result (λ t. Stays (left self.now) (left t)) }
+        ensures coming { IfOk result (λ t. Stays (coming self.now) (coming t)) }
+        ensures held { IfOk result (λ t. Stays (held self.now) (held t)) }
+        ensures faults { IfOk result (λ t. faults t ≡ 0) };
 }

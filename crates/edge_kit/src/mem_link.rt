@@ -60,8 +60,9 @@ impl MemLink {
 impl Link for MemLink {
     ghost use Rattle.std.specs.Io.{ReadsAtMost, WritesAtMost};
     ghost use Rattle.std.specs.Io.KnownBytes.{ReadConsumes, WriteAppends};
+    ghost use Rattle.edge_kit.specs.Calls.{AreNew};
     ghost use Rattle.edge_kit.specs.Links.{Stays, Begins};
-    ghost use Rattle.edge_kit.specs.OnMemLinks.{link_left, link_coming, link_held, link_room, link_works, send_works, HoldsSame, IsCalled};
+    ghost use Rattle.edge_kit.specs.OnMemLinks.{link_left, link_coming, link_held, link_room, link_works, send_works, whole_room, link_calls, HoldsSame, IsCalled};
 
     ghost left = { λ s. Some (link_left s) };
 
@@ -149,4 +150,37 @@ impl Link for MemLink {
         self.at = 0;
         Ok(())
     }
+
+    /// Another link to the same peer: it has the same bytes left, coming and held, and the same room. The same
+    /// calls of it fail, counted anew from 0.
+    fn twin(&self, alloc: Global) -> Result<Self, AllocError>
+        ensures left { IfOk result (λ t. link_left t ≡ link_left self.now) }
+        ensures coming { IfOk result (λ t. link_coming t ≡ link_coming self.now) }
+        ensures held { IfOk result (λ t. link_held t ≡ link_held self.now) }
+        ensures room { IfOk result (λ t. whole_room t ≡ whole_room self.now) }
+        ensures calls { IfOk result (λ t. AreNew (link_calls t) (link_calls self.now).failing.items) }
+        ensures faults { IfOk result (λ t. t.calls.faults ≡ 0) }
+    {
+        let mut sent = Vec::with_capacity(alloc, self.room)?;
+        sent.extend_from_slice(self.sent.as_slice())?;
+        Ok(MemLink {
+            conversations: conversations_copy(alloc, self.conversations.as_slice())?,
+            current: Vec::from_slice(alloc, self.current.as_slice())?,
+            at: self.at,
+            sent,
+            room: self.room,
+            calls: self.calls.anew(alloc)?,
+        })
+    }
+}
+
+/// The same bytes again, conversation by conversation. The error is want of memory.
+fn conversations_copy(alloc: Global, conversations: &[Vec<u8>]) -> Result<Vec<Vec<u8>>, AllocError>
+    ensures { IfOk result (λ copies. map (λ v. v.items) copies.items ≡ map (λ v. v.items) conversations.now) }
+{
+    let mut copies = Vec::with_capacity(alloc, conversations.len())?;
+    'conversations: for conversation in conversations {
+        copies.push(Vec::from_slice(alloc, conversation.as_slice())?)?;
+    }
+    Ok(copies)
 }

@@ -1,5 +1,5 @@
 //! A TCP listener of the system as a door. It tells nothing of its connections.
-ghost use Rattle.std.specs.Prelude.{◌≡◌, None};
+ghost use Rattle.std.specs.Prelude.{◌≡◌, None, IfOk};
 ghost use Rattle.std.specs.Result.{result_ok};
 ghost use Rattle.edge_kit.specs.Causes.{HasCause};
 
@@ -7,7 +7,7 @@ use crate::address::Address;
 use crate::tcp_stream::{limited, recv_over, send_over};
 use crate::told::counted;
 use edge_kit::{Door, Failed, Link, count_fault};
-use std::alloc::Global;
+use std::alloc::{AllocError, Global};
 use std::io;
 use std::io::{BufReader, Eprint, ErrorKind, Read, Write};
 use std::net::{Net, OpenListener, TcpListener};
@@ -154,6 +154,18 @@ impl<S: Read + Write + Drop> Link for TcpConn<S> {
         self.stream = None;
         Ok(())
     }
+
+    /// A connection that is not there, since its peer began one alone: each `connect`, `send` and `recv` of it fails
+    /// and is counted. Takes no memory.
+    fn twin(&self, _alloc: Global) -> Result<Self, AllocError>
+        ensures faults { IfOk result (λ t. t.faults ≡ 0) }
+        ensures gone { IfOk result (λ t. t.stream ≡ None) }
+    {
+        Ok(TcpConn {
+            stream: None,
+            faults: 0,
+        })
+    }
 }
 
 #[cfg(test)]
@@ -179,6 +191,11 @@ mod tests {
             let mut byte = [0u8; 1];
             assert_eq!(rt; conn.recv(&mut byte), Ok(1));
             assert_eq!(rt; byte, *b"a");
+            let mut twin = conn.twin(rt.alloc())?;
+            assert_eq!(rt; twin.send(b"z"), Err(Failed));
+            assert_eq!(rt; twin.recv(&mut byte), Err(Failed));
+            assert_eq!(rt; twin.connect(), Err(Failed));
+            assert_eq!(rt; twin.faults, 3);
             assert_eq!(rt; conn.send(b"z"), Ok(1));
             peer.read_exact(&mut byte)?;
             assert_eq!(rt; byte, *b"z");

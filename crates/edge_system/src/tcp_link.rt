@@ -1,5 +1,5 @@
 //! A TCP connection of the system as a link. It tells nothing of its bytes.
-ghost use Rattle.std.specs.Prelude.{◌≡◌, None};
+ghost use Rattle.std.specs.Prelude.{◌≡◌, None, IfOk, string_bytes};
 ghost use Rattle.std.specs.Result.{result_ok};
 ghost use Rattle.edge_kit.specs.Causes.{HasCause};
 
@@ -7,7 +7,7 @@ use crate::address::Address;
 use crate::tcp_stream::{limited, recv_over, send_over};
 use crate::told::counted;
 use edge_kit::{Failed, Link};
-use std::alloc::Global;
+use std::alloc::{AllocError, Global};
 use std::io;
 use std::io::{BufReader, Eprint, ErrorKind};
 use std::net::{Net, OpenStream, ToSocketAddrs};
@@ -81,7 +81,7 @@ impl<N: Net + Eprint + Drop> TcpLink<N> {
     }
 }
 
-impl<N: Net + Eprint + Drop> Link for TcpLink<N> {
+impl<N: Net + Eprint + Copy + Drop> Link for TcpLink<N> {
     ghost left = { λ _. None };
 
     ghost coming = { λ _. None };
@@ -110,6 +110,25 @@ impl<N: Net + Eprint + Drop> Link for TcpLink<N> {
     fn hang_up(&mut self) -> Result<(), Failed> {
         self.stream = None;
         Ok(())
+    }
+
+    /// Another link to the same host and port, with the same limit, which is not yet connected.
+    fn twin(&self, alloc: Global) -> Result<Self, AllocError>
+        ensures handle { IfOk result (λ t. t.handle ≡ self.now.handle) }
+        ensures host { IfOk result (λ t. string_bytes t.host ≡ string_bytes self.now.host) }
+        ensures port { IfOk result (λ t. t.port ≡ self.now.port) }
+        ensures limit { IfOk result (λ t. t.limit ≡ self.now.limit) }
+        ensures faults { IfOk result (λ t. t.faults ≡ 0) }
+    {
+        Ok(TcpLink {
+            alloc,
+            handle: self.handle,
+            host: String::from_str(alloc, self.host.as_str())?,
+            port: self.port,
+            limit: self.limit,
+            stream: None,
+            faults: 0,
+        })
     }
 }
 
@@ -145,6 +164,35 @@ mod tests {
         drop(listener);
         assert_eq!(rt; link.connect(), Err(Failed));
         assert_eq!(rt; link.faults, 3);
+        Ok(())
+    }
+
+    #[test]
+    fn a_twin_is_a_connection_of_its_own(rt: HostRuntime) -> Result<(), Fail> {
+        let listener = TcpListener::bind(&rt, "127.0.0.1:0")?;
+        let port = listener.local_addr()?.port();
+        let host = String::from_str(rt.alloc(), "localhost")?;
+        let mut link = TcpLink::new(rt.alloc(), &rt, host, port);
+        link.set_limit(Duration::from_millis(200));
+        let mut byte = [0u8; 1];
+        assert_eq!(rt; link.send(b"x"), Err(Failed));
+        assert_eq!(rt; link.connect(), Ok(()));
+        let (mut peer, _) = listener.accept()?;
+        let mut twin = link.twin(rt.alloc())?;
+        assert_eq!(rt; twin.faults, 0);
+        assert_eq!(rt; twin.send(b"y"), Err(Failed));
+        assert_eq!(rt; twin.connect(), Ok(()));
+        let (mut other, _) = listener.accept()?;
+        assert_eq!(rt; twin.send(b"y"), Ok(1));
+        other.read_exact(&mut byte)?;
+        assert_eq!(rt; byte, *b"y");
+        assert_eq!(rt; twin.recv(&mut byte), Err(Failed));
+        assert_eq!(rt; twin.hang_up(), Ok(()));
+        assert_eq!(rt; link.send(b"x"), Ok(1));
+        peer.read_exact(&mut byte)?;
+        assert_eq!(rt; byte, *b"x");
+        assert_eq!(rt; link.faults, 1);
+        assert_eq!(rt; twin.faults, 2);
         Ok(())
     }
 }

@@ -29,8 +29,9 @@ fn options_words(alloc: Global, options: &ServeOptions) -> Result<String, AllocE
     let watch = options.watch;
     let slots = options.slots;
     let connections = options.connections;
+    let lanes = options.lanes.get();
     let mut text = format!(in alloc;
-        "{journal} {signer}{path} {listen} {token} {watch} {slots} {connections}"
+        "{journal} {signer}{path} {listen} {token} {watch} {slots} {connections} {lanes}"
     )?;
     for node in options.nodes.as_slice() {
         let authority = node.authority();
@@ -44,7 +45,7 @@ fn options_words(alloc: Global, options: &ServeOptions) -> Result<String, AllocE
 const SERVERS: [(&[&str], &str); 5] = [
     (
         &PLAIN,
-        "keys signer:9000 127.0.0.1:5062 secret false 18446744073709551615 18446744073709551615 node:5052",
+        "keys signer:9000 127.0.0.1:5062 secret false 18446744073709551615 18446744073709551615 4 node:5052",
     ),
     (
         &[
@@ -63,17 +64,20 @@ const SERVERS: [(&[&str], &str); 5] = [
             "32",
             "--connections",
             "0",
+            "--lanes",
+            "64",
             "http://first",
             "http://second:5053/a",
             "http://first",
         ],
-        "/var/a b signer/v1 localhost:0 !~=0x true 32 0 first second:5053/a first",
+        "/var/a b signer/v1 localhost:0 !~=0x true 32 0 64 first second:5053/a first",
     ),
     (
         &[
             "serve",
             "http://first",
             "--connections=18446744073709551615",
+            "--lanes=1",
             "--token=t",
             "http://second",
             "--slots=00000000000000000007",
@@ -82,7 +86,7 @@ const SERVERS: [(&[&str], &str); 5] = [
             "--journal=a=b",
             GENESIS,
         ],
-        "a=b [::1]:9000 0.0.0.0:65535 t false 7 18446744073709551615 first second",
+        "a=b [::1]:9000 0.0.0.0:65535 t false 7 18446744073709551615 1 first second",
     ),
     (
         &[
@@ -95,7 +99,7 @@ const SERVERS: [(&[&str], &str); 5] = [
             "--",
             "http://node",
         ],
-        "keys signer:9000 255.255.255.255:80 secret false 18446744073709551615 18446744073709551615 node",
+        "keys signer:9000 255.255.255.255:80 secret false 18446744073709551615 18446744073709551615 4 node",
     ),
     (
         &[
@@ -107,7 +111,7 @@ const SERVERS: [(&[&str], &str); 5] = [
             "--token=secret",
             "http://node",
         ],
-        "keys signer:9000 10.2.3.4:1 secret false 18446744073709551615 18446744073709551615 node",
+        "keys signer:9000 10.2.3.4:1 secret false 18446744073709551615 18446744073709551615 4 node",
     ),
 ];
 
@@ -221,9 +225,7 @@ fn each_option_has_its_fault(rt: HostRuntime) -> Result<(), Fail> {
 }
 
 /// Words in front of those of a plain server, each with a piece of what is told.
-const FAULTY_IN_FRONT: [(&[&str], &str); 10] = [
-    (&["--lanes", "4"], "unexpected argument '--lanes'"),
-    (&["--lanes=4"], "unexpected argument '--lanes'"),
+const FAULTY_IN_FRONT: [(&[&str], &str); 13] = [
     (&["--fork=a"], "unexpected argument '--fork'"),
     (&["--watch=no"], "unexpected value 'no' for '--watch'"),
     (&["--watch", "--watch"], "cannot be used multiple times"),
@@ -237,6 +239,11 @@ const FAULTY_IN_FRONT: [(&[&str], &str); 10] = [
         &["--connections=0x1"],
         "value '0x1' for '--connections <N>': a number",
     ),
+    (&["--lanes="], "value '' for '--lanes <N>': 1 to 64"),
+    (&["--lanes=0"], "value '0' for '--lanes <N>': 1 to 64"),
+    (&["--lanes", "65"], "value '65' for '--lanes <N>': 1 to 64"),
+    (&["--lanes=0x1"], "value '0x1' for '--lanes <N>': 1 to 64"),
+    (&["--lanes=4", "--lanes=4"], "cannot be used multiple times"),
     (&["https://more"], "value 'https://more' for '<NODE>...'"),
 ];
 
@@ -275,7 +282,7 @@ fn a_token_has_at_most_256_characters(rt: HostRuntime) -> Result<(), Fail> {
 }
 
 /// The words of a server with a fault in each value, and in place of each fault a value without one.
-const FAULTS_IN_ORDER: [(&str, &str, &str); 8] = [
+const FAULTS_IN_ORDER: [(&str, &str, &str); 9] = [
     ("--genesis=0x", GENESIS, "for '--genesis"),
     ("--journal=", "--journal=keys", "for '--journal"),
     ("--signer=a", "--signer=http://signer", "for '--signer"),
@@ -283,6 +290,7 @@ const FAULTS_IN_ORDER: [(&str, &str, &str); 8] = [
     ("--token=", "--token=secret", "for '--token"),
     ("--slots=a", "--slots=1", "for '--slots"),
     ("--connections=a", "--connections=1", "for '--connections"),
+    ("--lanes=a", "--lanes=1", "for '--lanes"),
     ("first", "http://first", "value 'first' for '<NODE>"),
 ];
 
@@ -322,6 +330,7 @@ Options:
       --slots <N>           Duties end after so many slots; for tests and scripts [default: no end]
       --connections <N>     The Keymanager API ends after so many connections;
                             for tests and scripts [default: no end]
+      --lanes <N>           How many duties are done beside each other, 1 to 64 [default: 4]
   -h, --help                Print help
 ";
 

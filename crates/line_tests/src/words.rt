@@ -329,6 +329,8 @@ Options of serve:
       --connections <N>
           The Keymanager API ends after so many connections; for tests and scripts
           [default: no end]
+      --lanes <N>
+          How many duties are done beside each other, 1 to 64 [default: 4]
       <NODE>...
           Beacon nodes, as http://127.0.0.1:5052, one or more, behind the options [required]
 
@@ -336,7 +338,7 @@ Options of merge and show:
       --genesis <HEX32>
           Genesis validators root of the chain: 0x and 64 hex digits [required]
       --journal <PATH>
-          Journal of a session, in PATH.a and PATH.b [required]
+          Journal of a session or of serve, in PATH.a and PATH.b [required]
 
 A session reads requests from standard input, one JSON object a line, and writes the answer to each
 to standard output, until the input ends. Hex digits may be of either case.
@@ -366,7 +368,7 @@ Usage: validator merge --genesis <HEX32> --journal <PATH>
 
 Options:
       --genesis <HEX32>  Genesis validators root of the chain: 0x and 64 hex digits
-      --journal <PATH>   Journal of a session, in PATH.a and PATH.b
+      --journal <PATH>   Journal of a session or of serve, in PATH.a and PATH.b
   -h, --help             Print help
 ";
 

@@ -5,6 +5,7 @@ ghost use Rattle.node_calls.specs.Asking.{is_given};
 use crate::answer::{Answer, NodeFault};
 use crate::ask::Ask;
 use crate::post::Post;
+use crate::told::{NodeCall, PostCall};
 use block_copies::{attestation_copy, block_copy};
 use edge_kit::Items;
 use phase0_blocks::Signed;
@@ -118,6 +119,85 @@ impl Post {
                 signature: block.signature,
             }),
         })
+    }
+}
+
+impl PostCall {
+    /// The same call again. The error is want of memory.
+    pub fn copy(&self, alloc: Global) -> Result<PostCall, AllocError>
+        ensures { IfOk result (λ copy. copy ≡ self.now) }
+    {
+        Ok(PostCall {
+            key: self.key,
+            message: self.message,
+            post: self.post.copy(alloc)?,
+        })
+    }
+}
+
+impl NodeCall {
+    /// The same call with its reply again. The error is want of memory, and stands for the reply `OutOfMemory` too.
+    pub fn copy(&self, alloc: Global) -> Result<NodeCall, AllocError>
+        ensures { IfOk result (λ copy. copy ≡ self.now) }
+    {
+        match self {
+            NodeCall::Asked(ask, reply) => Ok(NodeCall::Asked(
+                ask.copy(alloc)?,
+                answered_copy(alloc, reply)?,
+            )),
+            NodeCall::Posted(call, reply) => Ok(NodeCall::Posted(
+                call.copy(alloc)?,
+                taken_copy(alloc, reply)?,
+            )),
+        }
+    }
+}
+
+/// The same calls with their replies again, likewise.
+pub fn calls_copy(alloc: Global, calls: &[NodeCall]) -> Result<Vec<NodeCall>, AllocError>
+    ensures { IfOk result (λ copies. copies.items ≡ calls.now) }
+{
+    let mut copies = Vec::with_capacity(alloc, calls.len())?;
+    'calls: for call in calls {
+        copies.push(call.copy(alloc)?)?;
+    }
+    Ok(copies)
+}
+
+/// The same answers again. The error is want of memory.
+pub(crate) fn answers_copy(alloc: Global, answers: &[Answer]) -> Result<Vec<Answer>, AllocError>
+    ensures { IfOk result (λ copies. copies.items ≡ answers.now) }
+{
+    let mut copies = Vec::with_capacity(alloc, answers.len())?;
+    'answers: for answer in answers {
+        copies.push(answer.copy(alloc)?)?;
+    }
+    Ok(copies)
+}
+
+/// The same reply to a question again.
+fn answered_copy(
+    alloc: Global,
+    reply: &Result<Answer, NodeFault>,
+) -> Result<Result<Answer, NodeFault>, AllocError>
+    ensures { IfOk result (λ copy. copy ≡ reply.now) }
+{
+    match reply {
+        Ok(answer) => Ok(Ok(answer.copy(alloc)?)),
+        Err(fault) => Ok(Err(fault.copy(alloc)?)),
+    }
+}
+
+/// And to a post.
+fn taken_copy(
+    alloc: Global,
+    reply: &Result<(), NodeFault>,
+) -> Result<Result<(), NodeFault>, AllocError>
+    ensures { IfOk result (λ copy. copy ≡ reply.now) }
+{
+    match reply {
+        Ok(()) => Ok(Ok(())),
+        Err(fault) => Ok(Err(fault.copy(alloc)?)),
     }
 }
 

@@ -12,6 +12,7 @@ mod told;
 
 pub use answer::{Answer, AttesterRow, LivenessRow, NodeFault, ProposerRow, ValidatorRow};
 pub use ask::Ask;
+pub use copies::calls_copy;
 pub use fitting::{are_attesters, are_proposers};
 pub use mem_node::MemNode;
 pub use node::Node;

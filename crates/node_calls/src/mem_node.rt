@@ -8,6 +8,7 @@ ghost use Rattle.node_calls.specs.InMemory.{FailsNext, IsCounted, MemAsks, MemPo
 
 use crate::answer::{Answer, NodeFault};
 use crate::ask::Ask;
+use crate::copies::{answers_copy, calls_copy};
 use crate::node::Node;
 use crate::post::Post;
 use crate::told::{NodeCall, PostCall};
@@ -197,6 +198,27 @@ impl Node for MemNode {
         let key = *grant.key();
         let message = grant.what().copied();
         self.take(key, message, post)
+    }
+
+    /// Another access to the same node: it has the same answers and as many of them given, and tells the same calls.
+    /// The same calls of it fail, counted anew from 0.
+    fn twin(&self, alloc: Global) -> Result<Self, AllocError>
+        ensures told { IfOk result (λ t. t.told.items ≡ self.now.told.items) }
+        ensures answers { IfOk result (λ t. t.answers.items ≡ self.now.answers.items) }
+        ensures given { IfOk result (λ t. t.given ≡ self.now.given) }
+        ensures failing { IfOk result (λ t. t.failing.items ≡ self.now.failing.items) }
+        ensures calls { IfOk result (λ t. t.calls ≡ 0) }
+        ensures faults { IfOk result (λ t. t.faults ≡ 0) }
+    {
+        Ok(MemNode {
+            alloc,
+            answers: answers_copy(alloc, self.answers.as_slice())?,
+            failing: Vec::from_slice(alloc, self.failing.as_slice())?,
+            told: calls_copy(alloc, self.told.as_slice())?,
+            given: self.given,
+            calls: 0,
+            faults: 0,
+        })
     }
 }
 

@@ -11,6 +11,7 @@ use crate::answer::{Answer, NodeFault};
 use crate::ask::Ask;
 use crate::post::Post;
 use slash_defs::Granted;
+use std::alloc::{AllocError, Global};
 
 /// A beacon node. It may tell each call with its reply; its faults are counted. After `OutOfMemory` nothing is
 /// told.
@@ -35,4 +36,12 @@ pub trait Node {
         ensures told { Tells (told self.old) (told self.new) (told_post (posted (G.granted_key grant.now) (G.granted_message grant.now) post.now) result) }
         ensures later { faults self.old ≤ faults self.new }
         ensures fault { result ≡ Err NodeFault.Fault → Rose (faults self.old) (faults self.new) };
+
+    /// Another access to the same node, with a count of faults of its own at 0. Where this one tells, it begins
+    /// with what this one told. The error is want of memory.
+    fn twin(&self, alloc: Global) -> Result<Self, AllocError>
+    where
+        Self: Sized,
+        ensures told { IfOk result (λ t. told t ≡ told self.now) }
+        ensures faults { IfOk result (λ t. faults t ≡ 0) };
 }

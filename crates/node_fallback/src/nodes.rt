@@ -5,6 +5,7 @@ ghost use Rattle.node_calls.specs.Fitting.{fits};
 ghost use Rattle.node_fallback.specs.InOrder.{Tries};
 ghost use Rattle.node_fallback.specs.Refreshing.{AreAskedFirst, AreFlagged, WithReplies};
 ghost use Rattle.node_fallback.specs.Seen.{seen_of};
+ghost use Rattle.node_fallback.specs.Twins.{AreTwins, EachTwin};
 
 use crate::no_node::NoAnswer;
 use crate::one_node::{Refused, ask_syncing, keep, try_ask, try_post};
@@ -40,6 +41,18 @@ impl<N: Node + Drop> Nodes<N> {
         ensures { result ≡ self.nodes }
     {
         self.nodes
+    }
+
+    /// Each node's twin, in the order of the nodes, with the same ones taken to be syncing. The error is want of
+    /// memory, at any of them.
+    pub fn twin(&self, alloc: Global) -> Result<Nodes<N>, AllocError>
+        ensures { IfOk result (λ t. AreTwins N.told N.faults self.now.nodes.items self.now.syncing.items t.nodes.items t.syncing.items) }
+    {
+        Ok(Nodes {
+            alloc,
+            nodes: twins_of(alloc, self.nodes.as_slice())?,
+            syncing: Vec::from_slice(alloc, self.syncing.as_slice())?,
+        })
     }
 
     /// Whether the node at this place was syncing when the nodes were last refreshed.
@@ -104,4 +117,16 @@ impl<N: Node + Drop> Nodes<N> {
         }
         Err(NoAnswer::NoNode(Items::from_vec(causes)))
     }
+}
+
+/// Each node's twin, in order.
+fn twins_of<N: Node + Drop>(alloc: Global, nodes: &[N]) -> Result<Vec<N>, AllocError>
+    ensures { IfOk result (λ twins. EachTwin N.told N.faults nodes.now twins.items) }
+{
+    let mut twins = Vec::with_capacity(alloc, nodes.len())?;
+    'nodes: for node in nodes {
+        let twin = node.twin(alloc)?;
+        twins.push(twin)?;
+    }
+    Ok(twins)
 }

@@ -50,6 +50,14 @@ impl Signer for KeepingSigner {
     fn delete(&mut self, _key: &PubKey) -> DeleteReply {
         DeleteReply::NotFound
     }
+
+    /// One that has kept no request yet.
+    fn twin(&self, alloc: Global) -> Result<Self, AllocError> {
+        Ok(KeepingSigner {
+            alloc,
+            requests: Vec::new(alloc),
+        })
+    }
 }
 
 /// Which calls of the input and the output fail, and the output's room.
@@ -128,7 +136,7 @@ impl<S> Ended<S> {
 }
 
 /// Runs the program over disks and an input. Its words are one text, with marks and with spaces between them.
-pub fn run<T: Threads + Wait + Sync, S: Signer + Drop>(
+pub fn run<T: Threads + Wait + Sync, S: Signer + Send + Drop>(
     rt: &T,
     alloc: Global,
     words: &str,

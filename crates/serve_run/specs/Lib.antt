@@ -1,4 +1,6 @@
 pub mod Starting
 pub mod Clients
+pub mod Equipping
 pub mod Serving
+pub mod Seating
 pub mod Ends

@@ -2,9 +2,10 @@
 ghost use Rattle.std.specs.Prelude.{◌≡◌, ◌≤◌, ◌++◌, IfOk, OnOk, flat_map, string_bytes};
 ghost use Rattle.edge_kit.specs.declared.bytes.Root.{Root};
 ghost use Rattle.journal_commands.specs.Views.{output_of};
-ghost use Rattle.serve_run.specs.Serving.{ClosesConnections, ClosesDuties};
+ghost use Rattle.serve_run.specs.Serving.{ClosesBoth, ClosesConnections, ClosesMemory};
 ghost use Rattle.serve_run.specs.Starting.{ClosesUnstarted, behind_comma, causes_text};
 
+use crate::beside::LoopEnds;
 use crate::start::Unstarted;
 use duty_turns::DutyEnd;
 use edge_kit::{Root, Sink};
@@ -69,20 +70,21 @@ fn push_causes(text: &mut String, causes: &[Cause]) -> Result<(), AllocError>
     Ok(())
 }
 
-/// Closes the output where the duties ended before their number of turns.
-pub(crate) fn close_duties<O: Sink>(alloc: Global, out: &mut O, end: DutyEnd) -> Status
-    ensures closes { ClosesDuties end (output_of O.held O.faults out.old) (output_of O.held O.faults out.new) result }
+/// Closes the output behind both loops: where both ended by a fault, as the lesser status says.
+pub(crate) fn close_both<O: Sink>(alloc: Global, out: &mut O, loops: LoopEnds) -> Status
+    ensures closes { ClosesBoth loops.duties loops.connections (output_of O.held O.faults out.old) (output_of O.held O.faults out.new) result }
     ensures later { O.faults out.old ≤ O.faults out.new }
 {
-    match end {
-        DutyEnd::Disk => close(alloc, out, &ClosingLine::DiskFault),
-        DutyEnd::Write => Status::WriteFault,
-        DutyEnd::OutOfMemory => Status::OutOfMemory,
+    match loops.duties {
+        Ok(()) => close_connections(alloc, out, loops.connections),
+        Err(DutyEnd::Disk) => close(alloc, out, &ClosingLine::DiskFault),
+        Err(DutyEnd::Write) => Status::WriteFault,
+        Err(DutyEnd::OutOfMemory) => close_memory(alloc, out, loops.connections),
     }
 }
 
-/// Closes the output behind the connections, where they ended by a fault.
-pub(crate) fn close_connections<O: Sink>(
+/// Closes the output where the duties came to their number of turns.
+fn close_connections<O: Sink>(
     alloc: Global,
     out: &mut O,
     ended: Result<(), ConnectionsEnd>,
@@ -94,5 +96,16 @@ pub(crate) fn close_connections<O: Sink>(
         Ok(()) => Status::Done,
         Err(ConnectionsEnd::Door) => close(alloc, out, &ClosingLine::DoorFault),
         Err(ConnectionsEnd::Disk) => close(alloc, out, &ClosingLine::DiskFault),
+    }
+}
+
+/// Closes the output where memory ran out in the duties.
+fn close_memory<O: Sink>(alloc: Global, out: &mut O, ended: Result<(), ConnectionsEnd>) -> Status
+    ensures closes { ClosesMemory ended (output_of O.held O.faults out.old) (output_of O.held O.faults out.new) result }
+    ensures later { O.faults out.old ≤ O.faults out.new }
+{
+    match ended {
+        Err(ConnectionsEnd::Disk) => close(alloc, out, &ClosingLine::DiskFault),
+        Ok(()) | Err(ConnectionsEnd::Door) => Status::OutOfMemory,
     }
 }

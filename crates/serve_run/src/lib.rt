@@ -1,10 +1,16 @@
 //! The validator client over its disks: it learns its chain from the beacon nodes, opens its journal, does the duties of
-//! its keys and answers the Keymanager API.
+//! its keys in lanes, and answers the Keymanager API beside them.
 #![tactic(auto)]
 
+mod beside;
 mod close;
+mod held;
+mod lanes;
 mod run;
+mod seats;
+mod shared;
 mod start;
 
-pub use run::run_serve;
+pub use lanes::LaneEnd;
+pub use run::{ServeEnd, run_serve};
 pub use start::{Start, Unstarted, ask_start};

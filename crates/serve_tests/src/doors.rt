@@ -1,12 +1,12 @@
-//! Connections behind the duties.
+//! Connections beside the duties.
 use crate::runs::{Run, look_at};
-use crate::said::{Due, K1, K2, Said};
+use crate::said::{Due, K1, Said};
 use crate::starts::{OF_G0, ONE_SLOT};
 use std::test::Fail;
 use validator_cli::Status;
 
 /// Asks for the keys, with the token.
-const LIST: &str = "GET /eth/v1/keystores HTTP/1.1\r\nAuthorization: Bearer TOKEN\r\n\r\n";
+pub const LIST: &str = "GET /eth/v1/keystores HTTP/1.1\r\nAuthorization: Bearer TOKEN\r\n\r\n";
 
 /// Asks for the keys, with another token.
 const LIST_WITH_ANOTHER: &str =
@@ -23,17 +23,16 @@ const TAKEN_IN: &str =
     "HTTP/1.1 200 OK\r\nContent-Type: application/json\r\nContent-Length: 45\r\nConnection: close\r\n\r\n{\"data\":[{\"message\":\"\",\"status\":\"imported\"}]}";
 
 /// K1 is listed.
-const ONE_LISTED: &str =
+pub const ONE_LISTED: &str =
     "HTTP/1.1 200 OK\r\nContent-Type: application/json\r\nContent-Length: 171\r\nConnection: close\r\n\r\n{\"data\":[{\"derivation_path\":\"\",\"readonly\":false,\"validating_pubkey\":\"<K1>\"}]}";
 
 /// K1 and K2 are listed.
 const BOTH_LISTED: &str =
     "HTTP/1.1 200 OK\r\nContent-Type: application/json\r\nContent-Length: 332\r\nConnection: close\r\n\r\n{\"data\":[{\"derivation_path\":\"\",\"readonly\":false,\"validating_pubkey\":\"<K1>\"},{\"derivation_path\":\"\",\"readonly\":false,\"validating_pubkey\":\"<K2>\"}]}";
 
-/// A slot in which both keys are to vote.
-const BOTH_VOTE: Said = Said {
-    slots: 1,
-    due: &[Due::Vote(0, K1, Some(0)), Due::Vote(0, K2, Some(0))],
+/// A slot in which K1 is to vote.
+pub const ONE_VOTE: Said = Said {
+    due: &[Due::Vote(0, K1, Some(0))],
     ..OF_G0
 };
 
@@ -46,18 +45,18 @@ const DOORS: [Run; 3] = [
         ..ONE_SLOT
     },
     Run {
-        shows: "a key that comes in behind the duties has none",
+        shows: "a key comes in beside the duties of another",
         options: "--slots 1 --connections 2",
-        nodes: &[BOTH_VOTE],
+        nodes: &[ONE_VOTE],
         callers: &[BRING, LIST],
         output: "0 vote <K1> sent\n",
         sent: &[TAKEN_IN, BOTH_LISTED],
         ..ONE_SLOT
     },
     Run {
-        shows: "the door fails behind the duties",
+        shows: "the duties are done where the door fails beside them",
         options: "--slots 1 --connections 2",
-        nodes: &[BOTH_VOTE],
+        nodes: &[ONE_VOTE],
         callers: &[LIST, LIST],
         door_fails: &[1],
         status: Status::DoorFault,
@@ -68,6 +67,6 @@ const DOORS: [Run; 3] = [
 ];
 
 #[test]
-fn connections_are_served_behind_the_duties(rt: HostRuntime) -> Result<(), Fail> {
+fn connections_are_served_beside_the_duties(rt: HostRuntime) -> Result<(), Fail> {
     look_at(&rt, rt.alloc(), &DOORS)
 }

@@ -1,18 +1,12 @@
 //! Duties of whole epochs, with and without a watch.
 use crate::runs::{Run, look_at};
 use crate::said::{Due, K1, K2, Said};
-use crate::starts::{OF_G0, ONE_SLOT};
+use crate::starts::{ACTIVATE_BOTH, OF_G0, ONE_SLOT};
 use std::test::Fail;
-
-/// Requests that make K1 and K2 active.
-const ACTIVATE_BOTH: &str = r#"{"op":"activate","pubkey":"<K1>"}
-{"op":"activate","pubkey":"<K2>"}
-"#;
 
 /// Two blocks and two votes in each epoch. In the second one vote's data is of another slot, and in the third no block
 /// is given once.
 const THREE_EPOCHS: Said = Said {
-    slots: 96,
     due: &[
         Due::Block(3, K1, Some(3)),
         Due::Vote(5, K1, Some(5)),
@@ -60,7 +54,6 @@ const TWO_VOTES: Run = Run {
     shows: "without a watch a key votes at once",
     options: "--slots 34 --connections 0",
     nodes: &[Said {
-        slots: 34,
         due: &[Due::Vote(1, K1, Some(1)), Due::Vote(33, K1, Some(33))],
         ..OF_G0
     }],

@@ -2,9 +2,17 @@
 #![tactic(auto)]
 
 #[cfg(test)]
+mod beside;
+#[cfg(test)]
+mod chain_node;
+#[cfg(test)]
 mod doors;
 #[cfg(test)]
 mod duties;
+#[cfg(test)]
+mod lanes;
+#[cfg(test)]
+mod meetings;
 #[cfg(test)]
 mod runs;
 #[cfg(test)]

@@ -1,15 +1,17 @@
 //! Runs of the validator client over objects in memory, and what is expected of them.
-use crate::said::{Said, node};
+use crate::chain_node::ChainNode;
+use crate::said::Said;
 use edge_clock::MemClock;
-use edge_kit::{Disks, Link, MemDisk, MemDoor, MemLink, MemSink, MemSource};
-use node_calls::MemNode;
+use edge_kit::{Disks, Door, Link, MemDisk, MemDoor, MemLink, MemSink, MemSource};
+use node_calls::Node;
 use run_doubles::{SESSION, disks_after, filled, fresh_disks, is_text, play, ready_signer};
+use signer_link::Signer;
 use std::alloc::{AllocError, Global};
 use std::process::Abort;
 use std::sync::Wait;
 use std::test::Fail;
 use std::thread::Threads;
-use validator_cli::{Status, run_validator};
+use validator_cli::{LaneEnd, Status, run_validator};
 
 /// The words of a server for the chain G0, without the options that may be absent. The objects are handed in, and the
 /// path and the addresses name nothing here.
@@ -39,20 +41,22 @@ pub struct Run {
 
 /// What stands for the outside of a run.
 #[derive(Drop)]
-struct Outside {
-    disks: Disks<MemDisk>,
-    nodes: Vec<MemNode>,
-    door: MemDoor,
-    out: MemSink,
+pub struct Outside<S, N, R> {
+    pub disks: Disks<MemDisk>,
+    pub signer: S,
+    pub nodes: Vec<N>,
+    pub door: R,
+    pub out: MemSink,
 }
 
 /// What a run leaves.
 #[derive(Drop)]
-struct Served {
-    status: Status,
-    disks: Disks<MemDisk>,
-    door: MemDoor,
-    output: Vec<u8>,
+pub struct Served<S, N, R> {
+    pub status: Status,
+    pub disks: Disks<MemDisk>,
+    pub door: R,
+    pub lanes: Vec<LaneEnd<S, N>>,
+    pub output: Vec<u8>,
 }
 
 /// The disks that a session leaves, empty ones where there was none.
@@ -69,10 +73,10 @@ fn disks_before<T: Threads + Wait + Sync>(
     disks_after(alloc, &ended)
 }
 
-fn nodes_of(alloc: Global, all: &[Said]) -> Result<Vec<MemNode>, AllocError> {
+fn nodes_of(alloc: Global, all: &[Said]) -> Result<Vec<ChainNode>, AllocError> {
     let mut nodes = Vec::new(alloc);
     for said in all {
-        nodes.push(node(alloc, said)?)?;
+        nodes.push(ChainNode::new(alloc, *said))?;
     }
     Ok(nodes)
 }
@@ -94,17 +98,20 @@ fn door_of(alloc: Global, run: &Run) -> Result<MemDoor, AllocError> {
     MemDoor::new(alloc, coming, run.door_fails.to_vec(alloc)?)
 }
 
-fn outside_of<T: Threads + Wait + Sync>(
+/// What a run begins with, and this signer.
+pub fn outside_of<T: Threads + Wait + Sync, S: Drop>(
     rt: &T,
     alloc: Global,
     run: &Run,
-) -> Result<Outside, AllocError> {
+    signer: S,
+) -> Result<Outside<S, ChainNode, MemDoor>, AllocError> {
     let disks = disks_before(rt, alloc, run.before)?;
     let nodes = nodes_of(alloc, run.nodes)?;
     let door = door_of(alloc, run)?;
     let out = MemSink::new(alloc, ROOM, Vec::new(alloc))?;
     Ok(Outside {
         disks,
+        signer,
         nodes,
         door,
         out,
@@ -112,7 +119,7 @@ fn outside_of<T: Threads + Wait + Sync>(
 }
 
 /// The words of a server with these options.
-fn words_of(alloc: Global, options: &str) -> Result<Vec<String>, AllocError> {
+pub fn words_of(alloc: Global, options: &str) -> Result<Vec<String>, AllocError> {
     let mut text = filled(alloc, SERVE)?;
     text.push_str(options)?;
     let mut words = Vec::new(alloc);
@@ -123,19 +130,19 @@ fn words_of(alloc: Global, options: &str) -> Result<Vec<String>, AllocError> {
 }
 
 /// Does what the words say.
-fn serve<T: Threads + Wait + Sync>(
-    rt: &T,
-    alloc: Global,
-    words: &[String],
-    outside: Outside,
-) -> Served {
+pub fn serve<
+    T: Threads + Wait + Sync,
+    S: Signer + Send + Drop,
+    N: Node + Send + Drop,
+    R: Door + Send,
+>(rt: &T, alloc: Global, words: &[String], outside: Outside<S, N, R>) -> Served<S, N, R> {
     let Outside {
         disks,
+        signer,
         nodes,
         door,
         mut out,
     } = outside;
-    let signer = ready_signer(alloc);
     let clock = MemClock::new(0, Vec::new(alloc));
     let mut input = MemSource::new(Vec::new(alloc), Vec::new(alloc));
     let ending = run_validator(
@@ -145,6 +152,7 @@ fn serve<T: Threads + Wait + Sync>(
         status: ending.status,
         disks: ending.disks,
         door: ending.door,
+        lanes: ending.lanes,
         output: out.into_bytes(),
     }
 }
@@ -182,7 +190,12 @@ fn has_sent(alloc: Global, door: MemDoor, replies: &[&str]) -> Result<bool, Allo
 }
 
 /// Compares what a run left with what is expected of it.
-fn compare<T: Abort>(rt: &T, alloc: Global, run: &Run, served: Served) -> Result<(), Fail> {
+pub fn compare<T: Abort, S: Drop, N: Drop>(
+    rt: &T,
+    alloc: Global,
+    run: &Run,
+    served: Served<S, N, MemDoor>,
+) -> Result<(), Fail> {
     let shows = run.shows;
     let is_written = is_text(alloc, served.output.as_slice(), run.output)?;
     assert!(rt; is_written, "{shows}");
@@ -193,6 +206,18 @@ fn compare<T: Abort>(rt: &T, alloc: Global, run: &Run, served: Served) -> Result
     Ok(())
 }
 
+/// Carries out a run, and compares what it left.
+fn look_at_one<T: Threads + Wait + Sync + Abort>(
+    rt: &T,
+    alloc: Global,
+    run: &Run,
+) -> Result<(), Fail> {
+    let words = words_of(alloc, run.options)?;
+    let outside = outside_of(rt, alloc, run, ready_signer(alloc))?;
+    let served = serve(rt, alloc, words.as_slice(), outside);
+    compare(rt, alloc, run, served)
+}
+
 /// Carries out each run, and compares what it left.
 pub fn look_at<T: Threads + Wait + Sync + Abort>(
     rt: &T,
@@ -200,10 +225,7 @@ pub fn look_at<T: Threads + Wait + Sync + Abort>(
     runs: &[Run],
 ) -> Result<(), Fail> {
     for run in runs {
-        let words = words_of(alloc, run.options)?;
-        let outside = outside_of(rt, alloc, run)?;
-        let served = serve(rt, alloc, words.as_slice(), outside);
-        compare(rt, alloc, run, served)?;
+        look_at_one(rt, alloc, run)?;
     }
     Ok(())
 }

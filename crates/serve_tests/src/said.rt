@@ -1,6 +1,6 @@
 //! What a node says in a test.
 use edge_kit::{Items, PubKey, Root, Sig};
-use node_calls::{Answer, AttesterRow, MemNode, ProposerRow, ValidatorRow};
+use node_calls::{Answer, Ask, AttesterRow, ProposerRow, ValidatorRow};
 use phase0_blocks::{BeaconBlock, BeaconBlockBody};
 use phase0_types::{AttestationData, BoundedList, Checkpoint, Eth1Data, Fork};
 use std::alloc::{AllocError, Global};
@@ -29,90 +29,40 @@ pub enum Due {
 }
 
 /// Which calls of a node fail, and what it says of a chain that began at second 0: the byte of which its root of genesis
-/// validators has 32, and the duties in its first slots, of which there are so many. Duties of one slot stand in the order
-/// in which they are done.
+/// validators has 32, and the duties. Duties of one slot stand in the order in which they are done, and what is given for
+/// its votes is that of the first of them.
 #[derive(Clone, Copy)]
 pub struct Said {
     pub failing: &'static [u64],
     pub root: u8,
-    pub slots: u64,
     pub due: &'static [Due],
 }
 
-/// A node that says this. K1 and K2 are its validators.
-pub fn node(alloc: Global, said: &Said) -> Result<MemNode, AllocError> {
-    let mut answers = Vec::new(alloc);
-    push_start(&mut answers, said.root)?;
-    for slot in 0..said.slots {
-        push_turn(alloc, &mut answers, slot, said.due)?;
+/// What a node that says this answers to a question; none where it can't be read. K1 and K2 are its validators.
+pub fn answer_to(alloc: Global, said: &Said, ask: &Ask) -> Result<Option<Answer>, AllocError> {
+    match ask {
+        Ask::Genesis => Ok(Some(genesis(said.root))),
+        Ask::Fork => Ok(Some(Answer::Fork(FORK))),
+        Ask::Syncing => Ok(Some(Answer::Syncing { is_syncing: false })),
+        Ask::Validators { .. } => Ok(Some(validators(alloc)?)),
+        Ask::Proposer { epoch } => Ok(Some(proposers(alloc, *epoch, said.due)?)),
+        Ask::Attester { epoch, .. } => Ok(Some(attesters(alloc, *epoch, said.due)?)),
+        Ask::Data { slot, .. } => Ok(data_at(*slot, said.due)),
+        Ask::Block { slot, .. } => Ok(block_at(alloc, *slot, said.due)),
+        Ask::Liveness { .. } => Ok(None),
     }
-    Ok(MemNode::new(alloc, answers, said.failing.to_vec(alloc)?))
 }
 
-/// What is asked for before the first turn.
-fn push_start(answers: &mut Vec<Answer>, root: u8) -> Result<(), AllocError> {
-    answers.push(Answer::Genesis {
+fn genesis(root: u8) -> Answer {
+    Answer::Genesis {
         genesis_time: 0,
         genesis_validators_root: Root([root; 32]),
-    })?;
-    answers.push(Answer::Fork(FORK))?;
-    Ok(())
-}
-
-/// What is asked for in the turn of a slot.
-fn push_turn(
-    alloc: Global,
-    answers: &mut Vec<Answer>,
-    slot: u64,
-    due: &[Due],
-) -> Result<(), AllocError> {
-    answers.push(Answer::Syncing { is_syncing: false })?;
-    if slot % SLOTS_PER_EPOCH == 0 {
-        push_chain(alloc, answers)?;
     }
-    push_rows(alloc, answers, slot / SLOTS_PER_EPOCH, due)?;
-    push_given(alloc, answers, slot, due)
 }
 
-/// What is asked for at an epoch's first slot.
-fn push_chain(alloc: Global, answers: &mut Vec<Answer>) -> Result<(), AllocError> {
+fn validators(alloc: Global) -> Result<Answer, AllocError> {
     let rows = vec![in alloc; validator(K1), validator(K2)]?;
-    answers.push(Answer::Fork(FORK))?;
-    answers.push(Answer::Validators(Items::from_vec(rows)))?;
-    Ok(())
-}
-
-/// Who proposes and who votes in an epoch.
-fn push_rows(
-    alloc: Global,
-    answers: &mut Vec<Answer>,
-    epoch: u64,
-    due: &[Due],
-) -> Result<(), AllocError> {
-    answers.push(Answer::Proposer {
-        dependent_root: ZERO,
-        rows: proposers(alloc, epoch, due)?,
-    })?;
-    answers.push(Answer::Attester {
-        dependent_root: ZERO,
-        rows: attesters(alloc, epoch, due)?,
-    })?;
-    Ok(())
-}
-
-/// What is given for the duties of a slot.
-fn push_given(
-    alloc: Global,
-    answers: &mut Vec<Answer>,
-    slot: u64,
-    due: &[Due],
-) -> Result<(), AllocError> {
-    for due in due {
-        if let Some(answer) = given(alloc, slot, *due) {
-            answers.push(answer)?;
-        }
-    }
-    Ok(())
+    Ok(Answer::Validators(Items::from_vec(rows)))
 }
 
 fn index_of(key: PubKey) -> u64 {
@@ -126,7 +76,8 @@ fn validator(key: PubKey) -> ValidatorRow {
     }
 }
 
-fn proposers(alloc: Global, epoch: u64, due: &[Due]) -> Result<Items<ProposerRow>, AllocError> {
+/// Who proposes in an epoch.
+fn proposers(alloc: Global, epoch: u64, due: &[Due]) -> Result<Answer, AllocError> {
     let mut rows = Vec::new(alloc);
     for due in due {
         if let Due::Block(slot, key, _) = *due {
@@ -135,7 +86,10 @@ fn proposers(alloc: Global, epoch: u64, due: &[Due]) -> Result<Items<ProposerRow
             }
         }
     }
-    Ok(Items::from_vec(rows))
+    Ok(Answer::Proposer {
+        dependent_root: ZERO,
+        rows: Items::from_vec(rows),
+    })
 }
 
 fn proposer(slot: u64, key: PubKey) -> ProposerRow {
@@ -146,7 +100,8 @@ fn proposer(slot: u64, key: PubKey) -> ProposerRow {
     }
 }
 
-fn attesters(alloc: Global, epoch: u64, due: &[Due]) -> Result<Items<AttesterRow>, AllocError> {
+/// Who votes in an epoch.
+fn attesters(alloc: Global, epoch: u64, due: &[Due]) -> Result<Answer, AllocError> {
     let mut rows = Vec::new(alloc);
     for due in due {
         if let Due::Vote(slot, key, _) = *due {
@@ -155,7 +110,10 @@ fn attesters(alloc: Global, epoch: u64, due: &[Due]) -> Result<Items<AttesterRow
             }
         }
     }
-    Ok(Items::from_vec(rows))
+    Ok(Answer::Attester {
+        dependent_root: ZERO,
+        rows: Items::from_vec(rows),
+    })
 }
 
 fn attester(slot: u64, key: PubKey) -> AttesterRow {
@@ -170,29 +128,34 @@ fn attester(slot: u64, key: PubKey) -> AttesterRow {
     }
 }
 
-/// What is given for a duty, if it is of this slot.
-fn given(alloc: Global, slot: u64, due: Due) -> Option<Answer> {
-    match due {
-        Due::Block(at, _, given) if at == slot => Some(block_given(alloc, given)),
-        Due::Vote(at, _, given) if at == slot => Some(data_given(given)),
-        _ => None,
+/// What is to be voted in a slot.
+fn data_at(slot: u64, due: &[Due]) -> Option<Answer> {
+    for due in due {
+        match *due {
+            Due::Vote(at, _, given) if at == slot => return data_given(given),
+            _ => {}
+        }
     }
+    None
 }
 
-/// A block of this slot; without one, an answer that fits neither a block's question nor a vote's.
-fn block_given(alloc: Global, slot: Option<u64>) -> Answer {
-    match slot {
-        Some(slot) => Answer::Block(block(alloc, slot)),
-        None => Answer::Fork(FORK),
-    }
+fn data_given(slot: Option<u64>) -> Option<Answer> {
+    Some(Answer::Data(details(slot?)))
 }
 
-/// What is to be voted in this slot; without one, an answer that fits neither a block's question nor a vote's.
-fn data_given(slot: Option<u64>) -> Answer {
-    match slot {
-        Some(slot) => Answer::Data(details(slot)),
-        None => Answer::Fork(FORK),
+/// The block of a slot.
+fn block_at(alloc: Global, slot: u64, due: &[Due]) -> Option<Answer> {
+    for due in due {
+        match *due {
+            Due::Block(at, _, given) if at == slot => return block_given(alloc, given),
+            _ => {}
+        }
     }
+    None
+}
+
+fn block_given(alloc: Global, slot: Option<u64>) -> Option<Answer> {
+    Some(Answer::Block(block(alloc, slot?)))
 }
 
 fn details(slot: u64) -> AttestationData {

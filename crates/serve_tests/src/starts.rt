@@ -8,11 +8,15 @@ use validator_cli::Status;
 pub const ACTIVATE: &str = r#"{"op":"activate","pubkey":"<K1>"}
 "#;
 
-/// A node of the chain G0 that says nothing of its slots.
+/// Requests that make K1 and K2 active.
+pub const ACTIVATE_BOTH: &str = r#"{"op":"activate","pubkey":"<K1>"}
+{"op":"activate","pubkey":"<K2>"}
+"#;
+
+/// A node of the chain G0 without duties.
 pub const OF_G0: Said = Said {
     failing: &[],
     root: 0,
-    slots: 0,
     due: &[],
 };
 
@@ -31,7 +35,7 @@ pub const ONE_SLOT: Run = Run {
     shows: "a slot without a duty",
     before: ACTIVATE,
     options: "--slots 1 --connections 0",
-    nodes: &[Said { slots: 1, ..OF_G0 }],
+    nodes: &[OF_G0],
     callers: &[],
     door_fails: &[],
     status: Status::Done,
@@ -61,7 +65,7 @@ const STARTS: [Run; 4] = [
     },
     Run {
         shows: "the second node answers where the first fails",
-        nodes: &[FAULTY, Said { slots: 1, ..OF_G0 }],
+        nodes: &[FAULTY, OF_G0],
         ..ONE_SLOT
     },
     ONE_SLOT,

@@ -1,11 +1,10 @@
 //! Sessions whose journal is compacted.
 use crate::files::FILES;
-use crate::sessions::{ACTIVATE, compare, play_each};
+use crate::sessions::{ACTIVATE, halves_of, play_each, play_last, play_over, push_filled};
 use crate::signing::SIGNING;
-use edge_kit::MemDisk;
+use edge_kit::{Disks, MemDisk};
 use run_doubles::{
-    Ended, SESSION, Session, disks_after, disks_of, filled, fresh_disks, in_two, is_text, play,
-    titled, words_of,
+    Ended, SESSION, Session, disks_after, disks_of, fresh_disks, is_text, play, titled, words_of,
 };
 use signer_link::MemSigner;
 use std::alloc::{AllocError, Global};
@@ -46,8 +45,8 @@ fn compacting(alloc: Global, input: &str) -> Result<String, AllocError> {
     Ok(text)
 }
 
-/// The lines that do not tell of a compaction, and how many do.
-fn beside_compactions(alloc: Global, text: &str) -> Result<(String, usize), AllocError> {
+/// The lines that do not tell of a compaction.
+fn beside_compactions(alloc: Global, text: &str) -> Result<String, AllocError> {
     let mut rest = String::new(alloc);
     for line in text.lines() {
         if !line.contains("compacted") {
@@ -55,8 +54,29 @@ fn beside_compactions(alloc: Global, text: &str) -> Result<(String, usize), Allo
             rest.push('\n')?;
         }
     }
+    Ok(rest)
+}
+
+/// How many lines tell of a compaction.
+fn compactions(text: &str) -> usize {
     let told = text.lines().filter(|line| line.contains("compacted"));
-    Ok((rest, told.count()))
+    told.count()
+}
+
+/// Looks whether so many lines of a text tell of a compaction, and compares its other lines.
+fn look_beside<T: Abort>(
+    rt: &T,
+    alloc: Global,
+    shows: &str,
+    text: &str,
+    count: usize,
+    wanted: &str,
+) -> Result<(), AllocError> {
+    assert_eq!(rt; compactions(text), count, "{shows}");
+    let rest = beside_compactions(alloc, text)?;
+    let is_same = is_text(alloc, rest.as_bytes(), wanted)?;
+    assert!(rt; is_same, "{shows}");
+    Ok(())
 }
 
 /// Compares what a run came to with a session after each of whose requests the journal was compacted.
@@ -68,48 +88,53 @@ fn compare_beside<T: Abort>(
     session: &Session,
 ) -> Result<(), AllocError> {
     assert_eq!(rt; ended.status, Status::Done, "{shows}");
-    let requests = session.input.as_str().lines().count();
+    let count = session.input.as_str().lines().count();
     let Ok(output) = std::str::from_utf8(ended.output.as_slice()) else {
         rt.panic("the output is no text")
     };
-    let (output, told) = beside_compactions(alloc, output)?;
-    assert_eq!(rt; told, requests, "{shows}");
-    assert!(rt;
-        is_text(alloc, output.as_bytes(), session.output.as_str())?,
-        "{shows}"
-    );
+    look_beside(rt, alloc, shows, output, count, session.output.as_str())?;
     let events = words_of(alloc, ended.events.as_slice())?;
-    let (events, noted) = beside_compactions(alloc, events.as_str())?;
-    assert_eq!(rt; noted, requests, "{shows}");
-    assert!(rt;
-        is_text(alloc, events.as_bytes(), session.events.as_str())?,
-        "{shows}"
-    );
-    Ok(())
+    let wanted = session.events.as_str();
+    look_beside(rt, alloc, shows, events.as_str(), count, wanted)
 }
 
-/// Runs each session but for its last request with a compaction after each request, and the last request over the
-/// disks that it leaves. Both answer as without compactions; in the second run, grants and moments are counted anew.
+/// Runs a session over empty disks with a compaction after each request, compares what it came to, and gives the disks
+/// that it leaves.
+fn play_beside<T: Threads + Wait + Sync + Abort>(
+    rt: &T,
+    alloc: Global,
+    shows: &str,
+    session: &Session,
+) -> Result<Disks<MemDisk>, AllocError> {
+    let input = compacting(alloc, session.input.as_str())?;
+    let disks = fresh_disks(alloc)?;
+    let ended = play(rt, alloc, SESSION, disks, input.as_str())?;
+    compare_beside(rt, alloc, shows, &ended, session)?;
+    disks_after(alloc, &ended)
+}
+
+/// Runs the session of a script but for its last request with a compaction after each request, and the last request
+/// over the disks that it leaves. Both answer as without compactions; in the second run, grants and moments are counted
+/// anew.
+fn play_compacting<T: Threads + Wait + Sync + Abort>(
+    rt: &T,
+    alloc: Global,
+    script: &str,
+) -> Result<(), AllocError> {
+    let (shows, lines) = titled(script);
+    let halves = halves_of(alloc, lines)?;
+    let disks = play_beside(rt, alloc, shows, &halves.before)?;
+    play_last(rt, alloc, shows, disks, &halves.last)
+}
+
+/// Runs each session so.
 fn play_each_compacting<T: Threads + Wait + Sync + Abort>(
     rt: &T,
     alloc: Global,
     scripts: &[&str],
 ) -> Result<(), AllocError> {
     for script in scripts {
-        let (shows, lines) = titled(script);
-        let (before, last) = in_two(alloc, lines)?;
-        let before = Session::read(alloc, before.as_str())?;
-        let last = Session::read(alloc, last.as_str())?;
-        let input = compacting(alloc, before.input.as_str())?;
-        let disks = fresh_disks(alloc)?;
-        let first = play(rt, alloc, SESSION, disks, input.as_str())?;
-        compare_beside(rt, alloc, shows, &first, &before)?;
-        let disks = disks_after(alloc, &first)?;
-        let second = play(rt, alloc, SESSION, disks, last.input.as_str())?;
-        assert_eq!(rt; second.status, Status::Done, "{shows}");
-        assert!(rt; second.wrote(alloc, last.output.as_str())?, "{shows}");
-        let noted = last.events.as_str().lines().count();
-        assert_eq!(rt; second.events.len(), noted, "{shows}");
+        play_compacting(rt, alloc, script)?;
     }
     Ok(())
 }
@@ -133,21 +158,70 @@ fn last_file(alloc: Global) -> Result<Vec<u8>, AllocError> {
     Ok(file)
 }
 
-#[test]
-fn behind_the_last_generation_there_is_none(rt: HostRuntime) -> Result<(), Fail> {
-    let alloc = rt.alloc();
-    let session = Session::read(
-        alloc,
-        r#"> {"op":"compact"}
+const LAST: &str = r#"> {"op":"compact"}
 < {"answer":"refused","reason":"last_generation"}
 > {"op":"activate","pubkey":"<K1>"}
 < {"answer":"active"}
-* 0 activated <K1>"#,
+* 0 activated <K1>"#;
+
+#[test]
+fn behind_the_last_generation_there_is_none(rt: HostRuntime) -> Result<(), Fail> {
+    let alloc = rt.alloc();
+    let session = Session::read(alloc, LAST)?;
+    let file = last_file(alloc)?;
+    let disks = disks_of(alloc, file, Vec::new(alloc))?;
+    play_over(
+        &rt,
+        alloc,
+        "no generation is left",
+        SESSION,
+        disks,
+        &session,
     )?;
-    let disks = disks_of(alloc, last_file(alloc)?, Vec::new(alloc))?;
-    let ended = play(&rt, alloc, SESSION, disks, session.input.as_str())?;
-    compare(&rt, alloc, "no generation is left", &ended, &session)?;
     Ok(())
+}
+
+/// Empty disks, of which the second fails at this call.
+fn failing_disks(alloc: Global, failing: u64) -> Result<Disks<MemDisk>, AllocError> {
+    let calls = vec![in alloc; failing]?;
+    let second = MemDisk::new(alloc, Vec::new(alloc), calls, None)?;
+    let first = MemDisk::new(alloc, Vec::new(alloc), Vec::new(alloc), None)?;
+    Ok(Disks { first, second })
+}
+
+/// Runs a session over such disks, which tells the fault, and gives the disks that it leaves.
+fn fail_at<T: Threads + Wait + Sync + Abort>(
+    rt: &T,
+    alloc: Global,
+    failing: u64,
+    input: &str,
+) -> Result<Disks<MemDisk>, AllocError> {
+    let disks = failing_disks(alloc, failing)?;
+    let ended = play(rt, alloc, SESSION, disks, input)?;
+    assert!(rt; ended.status != Status::Done, "call {failing}");
+    disks_after(alloc, &ended)
+}
+
+/// Runs the session again over the disks that it left, where one thing alone is done.
+fn go_on<T: Threads + Wait + Sync + Abort>(
+    rt: &T,
+    alloc: Global,
+    failing: u64,
+    disks: Disks<MemDisk>,
+    input: &str,
+) -> Result<(), AllocError> {
+    let again = play(rt, alloc, SESSION, disks, input)?;
+    assert_eq!(rt; again.status, Status::Done, "call {failing}");
+    assert_eq!(rt; again.events.len(), 1, "call {failing}");
+    Ok(())
+}
+
+/// Requests that make K1 active and compact the journal.
+fn activate_and_compact(alloc: Global) -> Result<String, AllocError> {
+    let mut input = String::new(alloc);
+    push_filled(alloc, ACTIVATE, &mut input)?;
+    input.push_str("{\"op\":\"compact\"}\n")?;
+    Ok(input)
 }
 
 /// The other file is read when the journal is opened; a compaction then syncs, measures and reads it before it
@@ -156,19 +230,10 @@ fn behind_the_last_generation_there_is_none(rt: HostRuntime) -> Result<(), Fail>
 #[test]
 fn a_fault_of_the_other_disk_is_told_and_nothing_is_lost(rt: HostRuntime) -> Result<(), Fail> {
     let alloc = rt.alloc();
+    let input = activate_and_compact(alloc)?;
     for failing in 3..13u64 {
-        let mut disks = fresh_disks(alloc)?;
-        let mut calls = Vec::new(alloc);
-        calls.push(failing)?;
-        disks.second = MemDisk::new(alloc, Vec::new(alloc), calls, None)?;
-        let mut input = filled(alloc, ACTIVATE)?;
-        input.push_str("{\"op\":\"compact\"}\n")?;
-        let ended = play(&rt, alloc, SESSION, disks, input.as_str())?;
-        assert!(rt; ended.status != Status::Done, "call {failing}");
-        let disks = disks_after(alloc, &ended)?;
-        let again = play(&rt, alloc, SESSION, disks, input.as_str())?;
-        assert_eq!(rt; again.status, Status::Done, "call {failing}");
-        assert_eq!(rt; again.events.len(), 1, "call {failing}");
+        let disks = fail_at(&rt, alloc, failing, input.as_str())?;
+        go_on(&rt, alloc, failing, disks, input.as_str())?;
     }
     Ok(())
 }

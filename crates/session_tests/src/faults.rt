@@ -1,8 +1,10 @@
 //! Sessions over an input, an output and a signer that fail.
+use crate::sessions::{look_at, run_fresh};
 use edge_kit::PubKey;
-use run_doubles::{Ended, Faults, SESSION, filled, fresh_disks, no_faults, ready_signer, run};
+use run_doubles::{Ended, Faults, SESSION, filled, no_faults, ready_signer};
 use signer_link::MemSigner;
 use std::alloc::{AllocError, Global};
+use std::process::Abort;
 use std::sync::Wait;
 use std::test::Fail;
 use std::thread::Threads;
@@ -24,7 +26,7 @@ struct Faulty {
     events: &'static str,
 }
 
-const OUTSIDE: [Faulty; 4] = [
+const OUTSIDE: &[Faulty] = &[
     Faulty {
         reads: &[0],
         writes: &[],
@@ -67,51 +69,57 @@ fn run_input<T: Threads + Wait + Sync>(
     faults: Faults,
 ) -> Result<Ended<MemSigner>, AllocError> {
     let input = filled(alloc, INPUT)?;
-    let disks = fresh_disks(alloc)?;
-    run(rt, alloc, SESSION, disks, input.as_bytes(), signer, faults)
+    run_fresh(rt, alloc, SESSION, input.as_str(), signer, faults)
 }
 
 /// The faults of a row.
 fn faults_of(alloc: Global, row: &Faulty) -> Result<Faults, AllocError> {
+    let reads = Vec::from_slice(alloc, row.reads)?;
+    let writes = Vec::from_slice(alloc, row.writes)?;
     Ok(Faults {
-        reads: Vec::from_slice(alloc, row.reads)?,
-        writes: Vec::from_slice(alloc, row.writes)?,
+        reads,
+        writes,
         room: row.room,
     })
 }
 
+/// Runs a session with the faults of a row, and compares what it came to.
+fn fail_so<T: Threads + Wait + Sync + Abort>(
+    rt: &T,
+    alloc: Global,
+    row: &Faulty,
+) -> Result<(), AllocError> {
+    let faults = faults_of(alloc, row)?;
+    let ended = run_input(rt, alloc, ready_signer(alloc), faults)?;
+    look_at(rt, alloc, &ended, row.status, row.output, row.events)
+}
+
 #[test]
 fn faults_end_the_session_with_their_status(rt: HostRuntime) -> Result<(), Fail> {
-    let alloc = rt.alloc();
     for row in OUTSIDE {
-        let faults = faults_of(alloc, &row)?;
-        let ended = run_input(&rt, alloc, ready_signer(alloc), faults)?;
-        let output = row.output;
-        assert_eq!(rt; ended.status, row.status, "{output}");
-        assert!(rt; ended.wrote(alloc, output)?, "{output}");
-        assert!(rt; ended.did(alloc, row.events)?, "{output}");
+        fail_so(&rt, rt.alloc(), row)?;
     }
     Ok(())
 }
 
-/// Which keys the signer lacks, which of its calls fail, and the cause that is told.
+/// Which keys the signer lacks, which of its calls fail, and what is told.
 #[derive(Clone, Copy)]
 struct Unsigned {
     lacking: &'static [PubKey],
     failing: &'static [u64],
-    cause: &'static str,
+    output: &'static str,
 }
 
-const UNSIGNED: [Unsigned; 2] = [
+const UNSIGNED: &[Unsigned] = &[
     Unsigned {
         lacking: &[PubKey([0x11; 48])],
         failing: &[],
-        cause: "no_key",
+        output: "{\"answer\":\"active\"}\n{\"answer\":\"unsigned\",\"cause\":\"no_key\"}\n",
     },
     Unsigned {
         lacking: &[],
         failing: &[0],
-        cause: "fault",
+        output: "{\"answer\":\"active\"}\n{\"answer\":\"unsigned\",\"cause\":\"fault\"}\n",
     },
 ];
 
@@ -122,46 +130,58 @@ fn signer_of(alloc: Global, row: &Unsigned) -> Result<MemSigner, AllocError> {
     Ok(MemSigner::new(alloc, lacking, failing))
 }
 
+/// Runs a session with the signer of a row, and compares what it came to.
+fn sign_none<T: Threads + Wait + Sync + Abort>(
+    rt: &T,
+    alloc: Global,
+    row: &Unsigned,
+) -> Result<(), AllocError> {
+    let signer = signer_of(alloc, row)?;
+    let ended = run_input(rt, alloc, signer, no_faults(alloc))?;
+    let events = "0 activated <K1>\n0 granted 0 <K1> block 1 <Ra>\n0 dropped 0\n";
+    look_at(rt, alloc, &ended, Status::Done, row.output, events)
+}
+
 #[test]
 fn a_granted_block_that_is_not_signed_is_told_with_its_cause(rt: HostRuntime) -> Result<(), Fail> {
-    let alloc = rt.alloc();
-    let events = "0 activated <K1>\n0 granted 0 <K1> block 1 <Ra>\n0 dropped 0\n";
     for row in UNSIGNED {
-        let cause = row.cause;
-        let ended = run_input(&rt, alloc, signer_of(alloc, &row)?, no_faults(alloc))?;
-        assert_eq!(rt; ended.status, Status::Done, "{cause}");
-        let output = format!(in alloc;
-            "{{\"answer\":\"active\"}}\n{{\"answer\":\"unsigned\",\"cause\":\"{cause}\"}}\n"
-        )?;
-        assert!(rt; ended.wrote(alloc, output.as_str())?, "{cause}");
-        assert!(rt; ended.did(alloc, events)?, "{cause}");
+        sign_none(&rt, rt.alloc(), row)?;
     }
     Ok(())
 }
 
-/// Runs a session over so many letters, without a newline.
-fn run_letters<T: Threads + Wait + Sync>(
+/// So many letters.
+fn letters(alloc: Global, count: u32) -> Result<String, AllocError> {
+    let mut letters = String::new(alloc);
+    for _ in 0..count {
+        letters.push('a')?;
+    }
+    Ok(letters)
+}
+
+/// Runs a session over so many letters, without a newline, and compares what it came to. Nothing is done.
+fn read_letters<T: Threads + Wait + Sync + Abort>(
     rt: &T,
     alloc: Global,
-    count: usize,
-) -> Result<Ended<MemSigner>, AllocError> {
-    let letters = vec![in alloc; b'a'; count]?;
-    let disks = fresh_disks(alloc)?;
-    let input = letters.as_slice();
-    let signer = ready_signer(alloc);
-    run(rt, alloc, SESSION, disks, input, signer, no_faults(alloc))
+    count: u32,
+    status: Status,
+    output: &str,
+) -> Result<(), AllocError> {
+    let letters = letters(alloc, count)?;
+    let (signer, faults) = (ready_signer(alloc), no_faults(alloc));
+    let ended = run_fresh(rt, alloc, SESSION, letters.as_str(), signer, faults)?;
+    look_at(rt, alloc, &ended, status, output, "")
 }
+
+const TOO_LONG: Status = Status::InputTooLong(Limit::Line);
 
 #[test]
 fn a_line_over_the_limit_ends_the_session(rt: HostRuntime) -> Result<(), Fail> {
     let alloc = rt.alloc();
-    let ended = run_letters(&rt, alloc, 16_777_217)?;
-    assert_eq!(rt; ended.status, Status::InputTooLong(Limit::Line));
-    assert_eq!(rt; ended.status.code(), 9);
-    assert!(rt; ended.wrote(alloc, "validator: input too long: limit 16777216\n")?);
-    let ended = run_letters(&rt, alloc, 16_777_216)?;
-    assert_eq!(rt; ended.status, Status::Done);
+    let output = "validator: input too long: limit 16777216\n";
+    read_letters(&rt, alloc, 16_777_217, TOO_LONG, output)?;
+    assert_eq!(rt; TOO_LONG.code(), 9);
     let output = "{\"answer\":\"refused\",\"member\":\"line\",\"reason\":\"bad_request\"}\n";
-    assert!(rt; ended.wrote(alloc, output)?);
+    read_letters(&rt, alloc, 16_777_216, Status::Done, output)?;
     Ok(())
 }

@@ -1,8 +1,8 @@
 //! Sessions whose requests give the object in place of the signing root.
-use crate::sessions::ACTIVATE;
+use crate::sessions::{ACTIVATE, look_at, push_filled, run_fresh};
 use edge_kit::Root;
 use phase0_types::{AttestationData, BeaconBlockHeader, Checkpoint, Fork};
-use run_doubles::{Ended, KeepingSigner, filled, fresh_disks, no_faults, run};
+use run_doubles::{Ended, KeepingSigner, no_faults};
 use signer_link::{SignObject, SignRequest};
 use std::alloc::{AllocError, Global};
 use std::process::Abort;
@@ -22,21 +22,26 @@ const ATTESTATION: &str =
     r#"{"op":"vote","pubkey":"<K1>","attestation":{"slot":"331","index":"5","beacon_block_root":"0x4444444444444444444444444444444444444444444444444444444444444444","source":{"epoch":"3","root":"0x5555555555555555555555555555555555555555555555555555555555555555"},"target":{"epoch":"12","root":"0x6666666666666666666666666666666666666666666666666666666666666666"}}}
 "#;
 
+/// A request that makes K1 active, and this line.
+fn activate_and(alloc: Global, line: &str) -> Result<String, AllocError> {
+    let mut input = String::new(alloc);
+    push_filled(alloc, ACTIVATE, &mut input)?;
+    push_filled(alloc, line, &mut input)?;
+    Ok(input)
+}
+
 /// Runs a session of the forked chain that makes K1 active and then has this line.
 fn run_line<T: Threads + Wait + Sync>(
     rt: &T,
     alloc: Global,
     line: &str,
 ) -> Result<Ended<KeepingSigner>, AllocError> {
-    let mut input = filled(alloc, ACTIVATE)?;
-    input.push_str(filled(alloc, line)?.as_str())?;
-    let disks = fresh_disks(alloc)?;
+    let input = activate_and(alloc, line)?;
     let signer = KeepingSigner {
         alloc,
         requests: Vec::new(alloc),
     };
-    let faults = no_faults(alloc);
-    run(rt, alloc, FORKED, disks, input.as_bytes(), signer, faults)
+    run_fresh(rt, alloc, FORKED, input.as_str(), signer, no_faults(alloc))
 }
 
 /// The fork of `FORKED`.
@@ -59,6 +64,24 @@ fn was_asked(requests: &[SignRequest], object: &SignObject) -> bool {
     is_object && request.fork == FORK && request.genesis == Root([0; 32])
 }
 
+/// Compares what a run came to where the desk granted the message that begins so and it was signed by this root.
+fn look_at_signed<T: Abort>(
+    rt: &T,
+    alloc: Global,
+    ended: &Ended<KeepingSigner>,
+    message: &str,
+    root: &str,
+) -> Result<(), AllocError> {
+    let output = format!(in alloc;
+        "{{\"answer\":\"active\"}}\n{{\"answer\":\"signed\",\"signature\":\"<S7>\",\"signing_root\":\"{root}\"}}\n"
+    )?;
+    let events = format!(in alloc;
+        "0 activated <K1>\n0 granted 0 <K1> {message} {root}\n0 sent 0\n"
+    )?;
+    let (output, events) = (output.as_str(), events.as_str());
+    look_at(rt, alloc, ended, Status::Done, output, events)
+}
+
 /// Runs a line, and looks whether its object was signed by this root: what is answered, that the desk granted the
 /// message that begins so, and that the signer was asked for the object.
 fn compare_signed<T: Threads + Wait + Sync + Abort>(
@@ -67,20 +90,11 @@ fn compare_signed<T: Threads + Wait + Sync + Abort>(
     line: &str,
     message: &str,
     root: &str,
-    object: SignObject,
+    object: &SignObject,
 ) -> Result<(), AllocError> {
     let ended = run_line(rt, alloc, line)?;
-    assert_eq!(rt; ended.status, Status::Done);
-    let output = format!(in alloc;
-        "{{\"answer\":\"active\"}}\n{{\"answer\":\"signed\",\"signature\":\"<S7>\",\"signing_root\":\"{root}\"}}\n"
-    )?;
-    assert!(rt; ended.wrote(alloc, output.as_str())?);
-    let events = format!(in alloc;
-        "0 activated <K1>\n0 granted 0 <K1> {message} {root}\n0 sent 0\n"
-    )?;
-    assert!(rt; ended.did(alloc, events.as_str())?);
-    assert!(rt; was_asked(ended.signer.requests.as_slice(), &object));
-    Ok(())
+    assert!(rt; was_asked(ended.signer.requests.as_slice(), object));
+    look_at_signed(rt, alloc, &ended, message, root)
 }
 
 #[test]
@@ -95,7 +109,7 @@ fn a_header_gives_the_slot_and_the_signing_root_of_its_epochs_version(
         state_root: Root([0x22; 32]),
         body_root: Root([0x33; 32]),
     });
-    compare_signed(&rt, rt.alloc(), HEADER, "block 5", root, object)?;
+    compare_signed(&rt, rt.alloc(), HEADER, "block 5", root, &object)?;
     Ok(())
 }
 
@@ -117,7 +131,7 @@ fn attestation_data_give_the_epochs_and_the_signing_root_of_the_targets_version(
             root: Root([0x66; 32]),
         },
     });
-    compare_signed(&rt, rt.alloc(), ATTESTATION, "vote 3 12", root, object)?;
+    compare_signed(&rt, rt.alloc(), ATTESTATION, "vote 3 12", root, &object)?;
     Ok(())
 }
 
@@ -125,13 +139,12 @@ fn attestation_data_give_the_epochs_and_the_signing_root_of_the_targets_version(
 fn a_header_without_its_proposer_is_refused_by_that_member(rt: HostRuntime) -> Result<(), Fail> {
     let alloc = rt.alloc();
     let line = "{\"op\":\"block\",\"pubkey\":\"<K1>\",\"header\":{\"slot\":\"1\"}}\n";
-    let ended = run_line(&rt, alloc, line)?;
-    assert_eq!(rt; ended.status, Status::Done);
     let output = r#"{"answer":"active"}
 {"answer":"refused","member":"proposer_index","reason":"bad_request"}
 "#;
-    assert!(rt; ended.wrote(alloc, output)?);
-    assert!(rt; ended.did(alloc, "0 activated <K1>\n")?);
+    let ended = run_line(&rt, alloc, line)?;
     assert!(rt; ended.signer.requests.is_empty());
+    let events = "0 activated <K1>\n";
+    look_at(&rt, alloc, &ended, Status::Done, output, events)?;
     Ok(())
 }

@@ -1,10 +1,12 @@
 //! Sessions whose signatures a service makes, over a link in memory.
+use crate::sessions::run_fresh;
 use edge_kit::{MemLink, PubKey, Root, Sig};
-use run_doubles::{Ended, SESSION, filled, fresh_disks, no_faults, run};
+use run_doubles::{Ended, SESSION, filled, no_faults};
 use service_url::ServiceUrl;
 use signer_link::{SignReply, Told};
 use slash_defs::Message;
 use std::alloc::{AllocError, Global};
+use std::process::Abort;
 use std::sync::Wait;
 use std::test::Fail;
 use std::thread::Threads;
@@ -43,7 +45,7 @@ const FAULT: &str = "\"unsigned\",\"cause\":\"fault\"";
 
 const TEXT: &str = "HTTP/1.1 200 OK\r\n\r\n<S7>";
 
-const SAID: [Said; 13] = [
+const SAID: &[Said] = &[
     Said {
         response: TEXT,
         failing: &[],
@@ -111,15 +113,18 @@ const SAID: [Said; 13] = [
     },
 ];
 
-/// The link to a service that says this, and the service's address.
-fn link_to(alloc: Global, said: &Said) -> Result<(MemLink, ServiceUrl), AllocError> {
-    let response = filled(alloc, said.response)?;
-    let mut conversations = Vec::new(alloc);
-    conversations.push(response.into_bytes())?;
+/// The link to a service that says this.
+fn link_to(alloc: Global, said: &Said) -> Result<MemLink, AllocError> {
+    let response = filled(alloc, said.response)?.into_bytes();
+    let conversations = vec![in alloc; response]?;
     let failing = Vec::from_slice(alloc, said.failing)?;
-    let link = MemLink::new(alloc, conversations, 4096, failing)?;
+    MemLink::new(alloc, conversations, 4096, failing)
+}
+
+/// The service's address.
+fn address(alloc: Global) -> Result<ServiceUrl, AllocError> {
     match ServiceUrl::read(alloc, ADDRESS)? {
-        Some(service) => Ok((link, service)),
+        Some(service) => Ok(service),
         None => Err(AllocError),
     }
 }
@@ -131,16 +136,7 @@ fn run_over<T: Threads + Wait + Sync>(
     signer: Web3Signer<MemLink>,
 ) -> Result<Ended<Web3Signer<MemLink>>, AllocError> {
     let input = filled(alloc, INPUT)?;
-    let disks = fresh_disks(alloc)?;
-    run(
-        rt,
-        alloc,
-        SESSION,
-        disks,
-        input.as_bytes(),
-        signer,
-        no_faults(alloc),
-    )
+    run_fresh(rt, alloc, SESSION, input.as_str(), signer, no_faults(alloc))
 }
 
 /// Runs it with a service that says this.
@@ -149,40 +145,69 @@ fn run_said<T: Threads + Wait + Sync>(
     alloc: Global,
     said: &Said,
 ) -> Result<Ended<Web3Signer<MemLink>>, AllocError> {
-    let (link, service) = link_to(alloc, said)?;
+    let service = address(alloc)?;
+    let link = link_to(alloc, said)?;
     run_over(rt, alloc, Web3Signer::new(link, service))
+}
+
+/// Looks whether a session was done and answered so.
+fn look_at_answer<T: Abort>(
+    rt: &T,
+    alloc: Global,
+    ended: &Ended<Web3Signer<MemLink>>,
+    said: &Said,
+) -> Result<(), AllocError> {
+    let (response, answer) = (said.response, said.answer);
+    assert_eq!(rt; ended.status, Status::Done, "{response}");
+    let output = format!(in alloc; "{{\"answer\":\"active\"}}\n{{\"answer\":{answer}}}\n")?;
+    let is_written = ended.wrote(alloc, output.as_str())?;
+    assert!(rt; is_written, "{response}");
+    Ok(())
+}
+
+/// Runs a session with a service that says this, and compares how it was answered.
+fn answer_so<T: Threads + Wait + Sync + Abort>(
+    rt: &T,
+    alloc: Global,
+    said: &Said,
+) -> Result<(), AllocError> {
+    let ended = run_said(rt, alloc, said)?;
+    look_at_answer(rt, alloc, &ended, said)
 }
 
 #[test]
 fn a_service_is_read_by_its_answer(rt: HostRuntime) -> Result<(), Fail> {
-    let alloc = rt.alloc();
     for said in SAID {
-        let response = said.response;
-        let ended = run_said(&rt, alloc, &said)?;
-        assert_eq!(rt; ended.status, Status::Done, "{response}");
-        let answer = said.answer;
-        let output = format!(in alloc; "{{\"answer\":\"active\"}}\n{{\"answer\":{answer}}}\n")?;
-        assert!(rt; ended.wrote(alloc, output.as_str())?, "{response}");
+        answer_so(&rt, rt.alloc(), said)?;
     }
     Ok(())
+}
+
+/// What a service that signs is told and sent.
+const SIGNING: Said = Said {
+    response: TEXT,
+    failing: &[],
+    answer: SIGNED,
+};
+
+/// What a service that signs is sent.
+fn sent<T: Threads + Wait + Sync>(rt: &T, alloc: Global) -> Result<Vec<u8>, AllocError> {
+    let ended = run_said(rt, alloc, &SIGNING)?;
+    Ok(ended.signer.into_link().into_sent())
 }
 
 #[test]
 fn a_service_is_sent_the_root_of_the_granted_message(rt: HostRuntime) -> Result<(), Fail> {
     let alloc = rt.alloc();
-    let ended = run_said(&rt, alloc, &SAID[0])?;
-    let sent = ended.signer.into_link().into_sent();
-    assert_eq!(rt; sent.as_slice(), filled(alloc, REQUEST)?.as_bytes());
+    let wanted = filled(alloc, REQUEST)?;
+    let sent = sent(&rt, alloc)?;
+    assert_eq!(rt; sent.as_slice(), wanted.as_bytes());
     Ok(())
 }
 
-#[test]
-fn a_service_that_tells_has_told_the_one_call(rt: HostRuntime) -> Result<(), Fail> {
-    let alloc = rt.alloc();
-    let (link, service) = link_to(alloc, &SAID[0])?;
-    let ended = run_over(&rt, alloc, Web3Signer::telling(link, service))?;
-    assert_eq!(rt; ended.status, Status::Done);
-    match ended.signer.told() {
+/// Looks whether one call was told, which signed `BLOCK`.
+fn look_at_told<T: Abort>(rt: &T, told: Option<&[Told]>) -> Result<(), Fail> {
+    match told {
         Some([Told::Sign(call, SignReply::Signed(signature))]) => {
             assert_eq!(rt; call.key, PubKey([0x11; 48]));
             assert_eq!(rt; call.message, BLOCK);
@@ -191,4 +216,14 @@ fn a_service_that_tells_has_told_the_one_call(rt: HostRuntime) -> Result<(), Fai
         }
         _ => Err(Fail::new("another list is told")),
     }
+}
+
+#[test]
+fn a_service_that_tells_has_told_the_one_call(rt: HostRuntime) -> Result<(), Fail> {
+    let alloc = rt.alloc();
+    let service = address(alloc)?;
+    let link = link_to(alloc, &SIGNING)?;
+    let ended = run_over(&rt, alloc, Web3Signer::telling(link, service))?;
+    assert_eq!(rt; ended.status, Status::Done);
+    look_at_told(&rt, ended.signer.told())
 }

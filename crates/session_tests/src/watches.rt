@@ -1,6 +1,6 @@
 //! Sessions whose keys are watched before they sign.
-use crate::sessions::{compare, play_each};
-use run_doubles::{SESSION, Session, disks_after, fresh_disks, play};
+use crate::sessions::{play_each, play_first, play_over};
+use run_doubles::Session;
 use std::test::Fail;
 
 /// The words of a session with a watch for the chain G0.
@@ -178,13 +178,9 @@ fn without_a_watch_nothing_is_waited_for_and_a_journal_that_is_opened_begins_it_
     rt: HostRuntime,
 ) -> Result<(), Fail> {
     let alloc = rt.alloc();
-    let session = Session::read(alloc, UNWATCHED)?;
-    let disks = fresh_disks(alloc)?;
-    let first = play(&rt, alloc, SESSION, disks, session.input.as_str())?;
-    compare(&rt, alloc, "without a watch", &first, &session)?;
+    let first = Session::read(alloc, UNWATCHED)?;
     let again = Session::read(alloc, WATCHED_AGAIN)?;
-    let disks = disks_after(alloc, &first)?;
-    let second = play(&rt, alloc, WATCHED, disks, again.input.as_str())?;
-    compare(&rt, alloc, "a watch anew", &second, &again)?;
+    let disks = play_first(&rt, alloc, "without a watch", &first)?;
+    play_over(&rt, alloc, "a watch anew", WATCHED, disks, &again)?;
     Ok(())
 }

@@ -1,6 +1,6 @@
 //! What a signer that tells its calls keeps of them, one that tells none keeping nothing: a list of calls with their
 //! answers, and `None`. Before the service is asked a signer makes room (`make_room`) and copies what it will keep
-//! (`sign_call`); behind its answer it keeps both (`tell_sign` and the like).
+//! (`sign_call`); behind its answer it keeps both (`tell_sign` and the like). Its twin begins with them (`kept_copy`).
 ghost use Rattle.std.specs.Prelude.{◌≡◌, ◌⊎◌, ◌<◌, ◌++◌, ◌∷◌, [], true, vec_len, vec_capacity, IfOk, OnOk};
 ghost use Rattle.edge_kit.specs.Tellings.{Tells};
 ghost use Rattle.signer_link.specs.Keeping.{HasRoom, IsReady, kept, told_ready};
@@ -21,6 +21,42 @@ pub fn make_room(told: &mut Option<Vec<Told>>) -> Result<(), AllocError>
     match told {
         Some(calls) => calls.reserve(1),
         None => Ok(()),
+    }
+}
+
+/// The calls so far with their answers again, where calls are kept. The error is want of memory.
+pub fn kept_copy(alloc: Global, told: &Option<Vec<Told>>) -> Result<Option<Vec<Told>>, AllocError>
+    ensures { IfOk result (λ copy. kept copy ≡ kept told.now) }
+{
+    match told {
+        Some(calls) => Ok(Some(calls_copy(alloc, calls.as_slice())?)),
+        None => Ok(None),
+    }
+}
+
+/// The same calls with their answers again. The error is want of memory, and stands for an answer `OutOfMemory` too.
+pub(crate) fn calls_copy(alloc: Global, calls: &[Told]) -> Result<Vec<Told>, AllocError>
+    ensures { IfOk result (λ copies. copies.items ≡ calls.now) }
+{
+    let mut copies = Vec::with_capacity(alloc, calls.len())?;
+    'calls: for call in calls {
+        copies.push(call_copy(alloc, call)?)?;
+    }
+    Ok(copies)
+}
+
+/// One of them.
+fn call_copy(alloc: Global, call: &Told) -> Result<Told, AllocError>
+    ensures { IfOk result (λ copy. copy ≡ call.now) }
+{
+    match call {
+        Told::Sign(call, answer) => Ok(Told::Sign(call.copy(alloc)?, sign_copy(alloc, answer)?)),
+        Told::Plain(call, answer) => Ok(Told::Plain(*call, sign_copy(alloc, answer)?)),
+        Told::Import(call, answer) => Ok(Told::Import(
+            import_call_copy(alloc, call)?,
+            import_copy(alloc, answer)?,
+        )),
+        Told::Delete(key, answer) => Ok(Told::Delete(*key, delete_copy(alloc, answer)?)),
     }
 }
 
@@ -167,6 +203,17 @@ pub(crate) fn import_call(
         key,
         keystore: Items::from_vec(Vec::from_slice(alloc, keystore.as_bytes())?),
         password: Items::from_vec(Vec::from_slice(alloc, password.as_bytes())?),
+    })
+}
+
+/// The same call to take a key in again.
+fn import_call_copy(alloc: Global, call: &ImportCall) -> Result<ImportCall, AllocError>
+    ensures { IfOk result (λ copy. copy ≡ call.now) }
+{
+    Ok(ImportCall {
+        key: call.key,
+        keystore: copied(alloc, &call.keystore)?,
+        password: copied(alloc, &call.password)?,
     })
 }
 

@@ -1,5 +1,5 @@
 //! A signer in memory, which tells.
-ghost use Rattle.std.specs.Prelude.{◌≡◌, ◌≤◌, ◌++◌, ◌∷◌, [], true, Some, None, IsSome, IfSome, false};
+ghost use Rattle.std.specs.Prelude.{◌≡◌, ◌≤◌, ◌++◌, ◌∷◌, [], true, Some, None, IsSome, IfOk, IfSome, false};
 ghost use Rattle.edge_kit.specs.Causes.{Rose};
 ghost use Rattle.edge_kit.specs.Tellings.{Tells};
 ghost use Rattle.signer_link.specs.Outcomes.{CountsDenial, delete_denied, delete_failed, delete_given, import_denied, import_failed, import_given, sign_denied, sign_failed, sign_given};
@@ -8,7 +8,7 @@ ghost use Rattle.signer_link.specs.Signing.{asked, has_block, imported, plainly_
 ghost use Rattle.signer_link.specs.InMemory.{FailsNext, IsCounted, IsFull, Lacks, MemDeletes, MemImports, MemSigns, lacking_deleted, lacking_imported, lacking_without, mem_signature, sign_found};
 ghost use Rattle.slash_defs.specs.Signing.{signing_root_of};
 
-use crate::keeping::{import_call, keep};
+use crate::keeping::{calls_copy, import_call, keep};
 use crate::reply::{DeleteReply, ImportReply, SignReply, Told};
 use crate::request::{ImportCall, PlainCall, PlainRequest, SignCall, SignRequest};
 use crate::signer::Signer;
@@ -258,6 +258,25 @@ impl Signer for MemSigner {
         ensures counted { IsCounted self.old self.new (delete_given result) (delete_failed result) }
     {
         self.give_up(*key)
+    }
+
+    /// Another access to the same keys: it lacks the same ones, and tells the same calls. The same calls of it fail,
+    /// counted anew from 0.
+    fn twin(&self, alloc: Global) -> Result<Self, AllocError>
+        ensures told { IfOk result (λ t. t.told.items ≡ self.now.told.items) }
+        ensures lacking { IfOk result (λ t. t.lacking.items ≡ self.now.lacking.items) }
+        ensures failing { IfOk result (λ t. t.failing.items ≡ self.now.failing.items) }
+        ensures calls { IfOk result (λ t. t.calls ≡ 0) }
+        ensures faults { IfOk result (λ t. t.faults ≡ 0) }
+    {
+        Ok(MemSigner {
+            alloc,
+            lacking: Vec::from_slice(alloc, self.lacking.as_slice())?,
+            failing: Vec::from_slice(alloc, self.failing.as_slice())?,
+            told: calls_copy(alloc, self.told.as_slice())?,
+            calls: 0,
+            faults: 0,
+        })
     }
 }
 

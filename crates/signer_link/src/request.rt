@@ -155,6 +155,20 @@ pub struct SignCall {
     pub request: SignRequest,
 }
 
+impl SignCall {
+    /// The same call again. The error is want of memory, which only a whole block takes.
+    pub fn copy(&self, alloc: Global) -> Result<SignCall, AllocError>
+        ensures same { IfOk result (λ copy. copy ≡ self.now) }
+        ensures memory { OnErr result (has_block self.now.request.object ≡ true) }
+    {
+        Ok(SignCall {
+            key: self.key,
+            message: self.message,
+            request: self.request.copy(alloc)?,
+        })
+    }
+}
+
 /// A call for another signature: the key, and what is to be signed.
 #[derive(Clone, Copy, PartialEq, Eq, Debug)]
 pub struct PlainCall {

@@ -1,5 +1,5 @@
 //! The service that signs, by its meaning.
-ghost use Rattle.std.specs.Prelude.{◌≡◌, ℕ, List, ◌≤◌, IsSome, IfSome};
+ghost use Rattle.std.specs.Prelude.{◌≡◌, ℕ, List, ◌≤◌, IsSome, IfOk, IfSome};
 ghost use Rattle.std.specs.declared.option.Option.{Option};
 ghost use Rattle.edge_kit.specs.Causes.{Rose};
 ghost use Rattle.edge_kit.specs.Tellings.{Tells};
@@ -11,6 +11,7 @@ use crate::reply::{DeleteReply, ImportReply, SignReply};
 use crate::request::{PlainRequest, SignRequest};
 use edge_kit::PubKey;
 use slash_defs::Granted;
+use std::alloc::{AllocError, Global};
 
 /// The service that signs. It may tell each call with its answer; its faults and its denials are counted.
 /// After `OutOfMemory` nothing is told.
@@ -60,4 +61,13 @@ pub trait Signer {
         ensures fault { result ≡ DeleteReply.Fault → Rose (faults self.old) (faults self.new) }
         ensures denials { denials self.old ≤ denials self.new }
         ensures denied { CountsDenial (delete_denied result) (denials self.old) (denials self.new) };
+
+    /// Another access to the same service, with counts of faults and of denials of its own at 0. Where this one
+    /// tells, it begins with what this one told. The error is want of memory.
+    fn twin(&self, alloc: Global) -> Result<Self, AllocError>
+    where
+        Self: Sized,
+        ensures told { IfOk result (λ t. told t ≡ told self.now) }
+        ensures faults { IfOk result (λ t. faults t ≡ 0) }
+        ensures denials { IfOk result (λ t. denials t ≡ 0) };
 }

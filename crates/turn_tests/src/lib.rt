@@ -1,10 +1,12 @@
-//! Tests of the duty loop over a desk on disks in memory, with a signing service, nodes and a clock in memory.
+//! Tests of the duty loop over desks on disks in memory, with signing services, nodes and a clock in memory.
 #![tactic(auto)]
 
 #[cfg(test)]
 mod journals;
 #[cfg(test)]
 mod keys;
+#[cfg(test)]
+mod lanes;
 #[cfg(test)]
 mod results;
 #[cfg(test)]

@@ -3,7 +3,7 @@ use crate::runs::{Case, Line, ONE_TURN, Run, look_at};
 use crate::said::{KEY, Said};
 use std::test::Fail;
 
-/// A vote in slot 32. The node's call 5 is the question what to vote, and 6 the post.
+/// A vote in slot 32. Call 1 of the lane's node is the question what to vote, and 2 the post.
 const ONE_VOTE: Run = Run {
     said: &[
         Said::Synced,
@@ -11,8 +11,8 @@ const ONE_VOTE: Run = Run {
         Said::Index,
         Said::Proposes(0xaa, &[]),
         Said::Votes(0xaa, &[(KEY, 32)]),
-        Said::Details(32),
     ],
+    lane_said: &[Said::Synced, Said::Details(32)],
     ..ONE_TURN
 };
 
@@ -27,10 +27,14 @@ const VOTES: [Case; 6] = [
                 Said::Index,
                 Said::Proposes(0xaa, &[]),
                 Said::Votes(0xaa, &[(KEY, 32)]),
-                Said::Details(32),
                 Said::Synced,
                 Said::Proposes(0xbb, &[]),
                 Said::Votes(0xbb, &[(KEY, 33)]),
+            ],
+            lane_said: &[
+                Said::Synced,
+                Said::Details(32),
+                Said::Synced,
                 Said::Details(33),
             ],
             ..ONE_TURN
@@ -39,8 +43,8 @@ const VOTES: [Case; 6] = [
             Line::Vote(32, "sent"),
             Line::Vote(33, "refused double_vote"),
         ],
-        asked: "syncing fork validators proposer attester data vote@32 \
-            syncing proposer attester data",
+        asked: "syncing fork validators proposer attester syncing proposer attester",
+        lane_asked: "syncing data vote@32 syncing data",
     },
     Case {
         run: Run {
@@ -48,7 +52,8 @@ const VOTES: [Case; 6] = [
             ..ONE_VOTE
         },
         lines: &[Line::Vote(32, "unsigned no_key")],
-        asked: "syncing fork validators proposer attester data",
+        asked: "syncing fork validators proposer attester",
+        lane_asked: "syncing data",
     },
     Case {
         run: Run {
@@ -56,15 +61,17 @@ const VOTES: [Case; 6] = [
             ..ONE_VOTE
         },
         lines: &[Line::Vote(32, "unsigned fault")],
-        asked: "syncing fork validators proposer attester data",
+        asked: "syncing fork validators proposer attester",
+        lane_asked: "syncing data",
     },
     Case {
         run: Run {
-            failing: &[5],
+            lane_failing: &[1],
             ..ONE_VOTE
         },
         lines: &[Line::Vote(32, "nodata none")],
-        asked: "syncing fork validators proposer attester data",
+        asked: "syncing fork validators proposer attester",
+        lane_asked: "syncing data",
     },
     Case {
         run: Run {
@@ -74,25 +81,27 @@ const VOTES: [Case; 6] = [
                 Said::Index,
                 Said::Proposes(0xaa, &[]),
                 Said::Votes(0xaa, &[(KEY, 32)]),
-                Said::Details(33),
             ],
+            lane_said: &[Said::Synced, Said::Details(33)],
             ..ONE_VOTE
         },
         lines: &[Line::Vote(32, "nodata differs")],
-        asked: "syncing fork validators proposer attester data",
+        asked: "syncing fork validators proposer attester",
+        lane_asked: "syncing data",
     },
     Case {
         run: Run {
-            failing: &[6],
+            lane_failing: &[2],
             ..ONE_VOTE
         },
         lines: &[Line::Vote(32, "unposted")],
-        asked: "syncing fork validators proposer attester data vote@32",
+        asked: "syncing fork validators proposer attester",
+        lane_asked: "syncing data vote@32",
     },
 ];
 
-/// A block in slot 32. The node's call 5 is the question for it, and 6 the post; the first signature that is asked
-/// for is the reveal, and the second the block's.
+/// A block in slot 32. Call 1 of the lane's node is the question for it, and 2 the post; the first signature that is
+/// asked for is the reveal, and the second the block's.
 const ONE_BLOCK: Run = Run {
     said: &[
         Said::Synced,
@@ -100,8 +109,8 @@ const ONE_BLOCK: Run = Run {
         Said::Index,
         Said::Proposes(0xaa, &[32]),
         Said::Votes(0xaa, &[(KEY, 33)]),
-        Said::Block(32),
     ],
+    lane_said: &[Said::Synced, Said::Block(32)],
     ..ONE_TURN
 };
 
@@ -114,6 +123,7 @@ const BLOCKS: [Case; 6] = [
         },
         lines: &[Line::Block(32, "unsigned fault")],
         asked: "syncing fork validators proposer attester",
+        lane_asked: "syncing",
     },
     Case {
         run: Run {
@@ -122,6 +132,7 @@ const BLOCKS: [Case; 6] = [
         },
         lines: &[Line::Block(32, "unsigned no_key")],
         asked: "syncing fork validators proposer attester",
+        lane_asked: "syncing",
     },
     Case {
         run: Run {
@@ -129,15 +140,17 @@ const BLOCKS: [Case; 6] = [
             ..ONE_BLOCK
         },
         lines: &[Line::Block(32, "unsigned fault")],
-        asked: "syncing fork validators proposer attester block",
+        asked: "syncing fork validators proposer attester",
+        lane_asked: "syncing block",
     },
     Case {
         run: Run {
-            failing: &[5],
+            lane_failing: &[1],
             ..ONE_BLOCK
         },
         lines: &[Line::Block(32, "nodata none")],
-        asked: "syncing fork validators proposer attester block",
+        asked: "syncing fork validators proposer attester",
+        lane_asked: "syncing block",
     },
     Case {
         run: Run {
@@ -147,20 +160,22 @@ const BLOCKS: [Case; 6] = [
                 Said::Index,
                 Said::Proposes(0xaa, &[32]),
                 Said::Votes(0xaa, &[(KEY, 33)]),
-                Said::Block(33),
             ],
+            lane_said: &[Said::Synced, Said::Block(33)],
             ..ONE_BLOCK
         },
         lines: &[Line::Block(32, "nodata differs")],
-        asked: "syncing fork validators proposer attester block",
+        asked: "syncing fork validators proposer attester",
+        lane_asked: "syncing block",
     },
     Case {
         run: Run {
-            failing: &[6],
+            lane_failing: &[2],
             ..ONE_BLOCK
         },
         lines: &[Line::Block(32, "unposted")],
-        asked: "syncing fork validators proposer attester block block@32",
+        asked: "syncing fork validators proposer attester",
+        lane_asked: "syncing block block@32",
     },
 ];
 

@@ -1,6 +1,7 @@
-//! Runs of turns over a desk, a signing service, nodes and a clock in memory, and what is expected of them.
+//! Runs of turns over desks, a signing service, nodes and a clock in memory, and what is expected of them.
 use crate::said::{FORK, KEY, Said, node, words};
 use check_sign::{Desk, DeskReply, Event, MOMENT_LIMIT};
+use duty_lanes::Lane;
 use duty_loop::run_duties;
 use duty_plans::DutySetup;
 use edge_clock::{Delay, MemClock};
@@ -12,6 +13,7 @@ use std::alloc::{AllocError, Global};
 use std::process::Abort;
 use std::sync::Wait;
 use std::test::Fail;
+use std::thread::Threads;
 
 /// When the chain began.
 pub const GENESIS_TIME: u64 = 1000;
@@ -19,9 +21,10 @@ pub const GENESIS_TIME: u64 = 1000;
 /// When slot 32 begins, the first of epoch 1.
 pub const AT_32: u64 = 1384;
 
-/// A run of turns: when its clock starts, which waits are late, how many turns there are, whether keys are watched,
-/// from the epoch on at which `KEY` was made active, which calls of the signing service fail and which keys it lacks,
-/// what the node says, and which of its calls fail.
+/// A run of turns over one lane: when its clock starts, which waits are late, how many turns there are, whether the loop's
+/// desk watches keys, from the epoch on at which `KEY` was made active, and what the loop's node says and which of its
+/// calls fail. Of the lane: whether its desk, which is another, watches keys, which calls of its signing service fail and
+/// which keys that lacks, and what its node says and which of its calls fail.
 #[derive(Clone, Copy)]
 pub struct Run {
     pub start: u64,
@@ -29,10 +32,13 @@ pub struct Run {
     pub slots: u64,
     pub watches: bool,
     pub active_at: u64,
-    pub failing_signs: &'static [u64],
-    pub lacking: &'static [PubKey],
     pub said: &'static [Said],
     pub failing: &'static [u64],
+    pub lane_watches: bool,
+    pub failing_signs: &'static [u64],
+    pub lacking: &'static [PubKey],
+    pub lane_said: &'static [Said],
+    pub lane_failing: &'static [u64],
 }
 
 /// One turn, of slot 32.
@@ -42,19 +48,25 @@ pub const ONE_TURN: Run = Run {
     slots: 1,
     watches: false,
     active_at: 1,
-    failing_signs: &[],
-    lacking: &[],
     said: &[],
     failing: &[],
+    lane_watches: false,
+    failing_signs: &[],
+    lacking: &[],
+    lane_said: &[],
+    lane_failing: &[],
 };
 
-/// What turns are taken over.
+/// A lane with a desk of its own.
+pub type MemLane = Lane<Desk<MemDisk>, MemSigner, MemNode>;
+
+/// What turns are taken over: the clock, the loop's own desk and nodes, the lanes, and the output.
 #[derive(Drop)]
 pub struct Stage {
     pub clock: MemClock,
     pub desk: Desk<MemDisk>,
-    pub signer: MemSigner,
     pub nodes: Nodes<MemNode>,
+    pub lanes: Vec<MemLane>,
     pub out: MemSink,
 }
 
@@ -71,11 +83,12 @@ pub enum Line {
     NoNode(u64),
 }
 
-/// A run, what it prints, and what its node is asked and handed over.
+/// A run, what it prints, and what the loop's node and the lane's are asked and handed over.
 pub struct Case {
     pub run: Run,
     pub lines: &'static [Line],
     pub asked: &'static str,
+    pub lane_asked: &'static str,
 }
 
 /// A setup of this many turns.
@@ -119,37 +132,51 @@ fn signer_of(alloc: Global, run: &Run) -> Result<MemSigner, AllocError> {
     Ok(MemSigner::new(alloc, run.lacking.to_vec(alloc)?, failing))
 }
 
-fn nodes_of(alloc: Global, run: &Run) -> Result<Nodes<MemNode>, AllocError> {
-    let nodes = vec![in alloc; node(alloc, run.said, run.failing)?]?;
+fn nodes_of(alloc: Global, said: &[Said], failing: &[u64]) -> Result<Nodes<MemNode>, AllocError> {
+    let nodes = vec![in alloc; node(alloc, said, failing)?]?;
     Ok(Nodes::new(alloc, nodes))
+}
+
+/// The lane of a run.
+pub fn lane_of<T: Abort>(rt: &T, alloc: Global, run: &Run) -> Result<MemLane, AllocError> {
+    let signer = signer_of(alloc, run)?;
+    let nodes = nodes_of(alloc, run.lane_said, run.lane_failing)?;
+    let desk = desk_of_one(rt, alloc, run.lane_watches, run.active_at)?;
+    Ok(Lane::new(desk, signer, nodes))
 }
 
 /// What the turns of a run are taken over.
 pub fn stage_of<T: Abort>(rt: &T, alloc: Global, run: &Run) -> Result<Stage, AllocError> {
     let clock = clock_of(alloc, run)?;
     let out = MemSink::new(alloc, 4096, Vec::new(alloc))?;
-    let signer = signer_of(alloc, run)?;
-    let nodes = nodes_of(alloc, run)?;
+    let nodes = nodes_of(alloc, run.said, run.failing)?;
+    let lanes = vec![in alloc; lane_of(rt, alloc, run)?]?;
     let desk = desk_of_one(rt, alloc, run.watches, run.active_at)?;
     Ok(Stage {
         clock,
         desk,
-        signer,
         nodes,
+        lanes,
         out,
     })
 }
 
 /// Takes the turns of a run.
-pub fn take_turns<T: Abort + Wait>(rt: &T, alloc: Global, run: &Run, stage: &mut Stage) {
+pub fn take_turns<T: Abort + Threads + Wait + Sync>(
+    rt: &T,
+    alloc: Global,
+    run: &Run,
+    stage: &mut Stage,
+) {
+    assert!(rt; !stage.lanes.is_empty());
     let ended = run_duties(
         rt,
         alloc,
         &setup_of(run.slots, run.watches),
         &stage.clock,
         &mut stage.desk,
-        &mut stage.signer,
         &mut stage.nodes,
+        stage.lanes.as_mut_slice(),
         &mut stage.out,
     );
     assert!(rt; ended.is_ok());
@@ -161,6 +188,24 @@ fn first_words(alloc: Global, nodes: Nodes<MemNode>) -> Result<String, AllocErro
         Some(node) => words(alloc, node),
         None => Ok(String::new(alloc)),
     }
+}
+
+/// What the first of each lane's nodes was asked and handed over, lane by lane. The desk of none was compacted.
+fn words_of_lanes<T: Abort>(
+    rt: &T,
+    alloc: Global,
+    lanes: Vec<MemLane>,
+) -> Result<String, AllocError> {
+    let mut text = String::new(alloc);
+    for lane in lanes {
+        let (desk, _signer, nodes) = lane.into_parts();
+        assert_eq!(rt; compacted(desk), (false, false));
+        if !text.is_empty() {
+            text.push_str(" |")?;
+        }
+        text.push_str(first_words(alloc, nodes)?.as_str())?;
+    }
+    Ok(text)
 }
 
 /// Whether a desk's second disk is begun, and whether an event tells of a compaction.
@@ -201,35 +246,43 @@ fn text_of(alloc: Global, lines: &[Line]) -> Result<String, AllocError> {
     Ok(text)
 }
 
-/// Looks at what the turns printed, at what the node was asked and handed over, and that no journal was compacted.
+/// Looks at what the turns printed, at what the loop's node and those of the lanes were asked and handed over, with a bar
+/// between two lanes, and that no journal was compacted.
 pub fn look_at_end<T: Abort>(
     rt: &T,
     alloc: Global,
     stage: Stage,
     lines: &[Line],
     asked: &str,
+    lane_asked: &str,
 ) -> Result<(), Fail> {
     let Stage {
         clock: _,
         desk,
-        signer: _,
         nodes,
+        lanes,
         out,
     } = stage;
     assert_eq!(rt; compacted(desk), (false, false));
     let words = first_words(alloc, nodes)?;
     assert_eq!(rt; words.as_str().trim_start(), asked);
+    let words = words_of_lanes(rt, alloc, lanes)?;
+    assert_eq!(rt; words.as_str().trim_start(), lane_asked);
     let text = text_of(alloc, lines)?;
     assert!(rt; out.into_bytes().as_slice() == text.as_bytes());
     Ok(())
 }
 
 /// Carries out each run, and looks at what it printed and asked.
-pub fn look_at<T: Abort + Wait>(rt: &T, alloc: Global, cases: &[Case]) -> Result<(), Fail> {
+pub fn look_at<T: Abort + Threads + Wait + Sync>(
+    rt: &T,
+    alloc: Global,
+    cases: &[Case],
+) -> Result<(), Fail> {
     for case in cases {
         let mut stage = stage_of(rt, alloc, &case.run)?;
         take_turns(rt, alloc, &case.run, &mut stage);
-        look_at_end(rt, alloc, stage, case.lines, case.asked)?;
+        look_at_end(rt, alloc, stage, case.lines, case.asked, case.lane_asked)?;
     }
     Ok(())
 }

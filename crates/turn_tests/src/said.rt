@@ -1,7 +1,8 @@
 //! What a node says in a test, and what it was asked.
 use edge_kit::{Items, PubKey, Root, Sig};
 use node_calls::{
-    Answer, Ask, AttesterRow, LivenessRow, MemNode, NodeCall, Post, ProposerRow, ValidatorRow,
+    Answer, Ask, AttesterRow, LivenessRow, MemNode, NodeCall, Post, PostCall, ProposerRow,
+    ValidatorRow,
 };
 use phase0_blocks::{BeaconBlock, BeaconBlockBody};
 use phase0_types::{AttestationData, BoundedList, Checkpoint, Eth1Data, Fork};
@@ -195,21 +196,26 @@ fn word(ask: &Ask) -> &'static str {
     }
 }
 
-/// Puts what was posted behind a text, with its slot.
-fn write_post(text: &mut String, post: &Post) -> Result<(), AllocError> {
-    match post {
-        Post::Vote(vote) => write!(text, " vote@{}", vote.details.slot),
-        Post::Block(signed) => write!(text, " block@{}", signed.message.slot),
+/// Puts what was posted behind a text, with its slot, and a mark where it is not of `KEY`.
+fn write_post(text: &mut String, call: &PostCall) -> Result<(), AllocError> {
+    match &call.post {
+        Post::Vote(vote) => write!(text, " vote@{}", vote.details.slot)?,
+        Post::Block(signed) => write!(text, " block@{}", signed.message.slot)?,
     }
+    if call.key != KEY {
+        text.push_str("*")?;
+    }
+    Ok(())
 }
 
-/// What was called of a node, in words: each question by its name, each post by what was posted and its slot.
+/// What was called of a node, in words: each question by its name, each post by what was posted and its slot, with a
+/// star behind it where it is not of `KEY`.
 pub fn words(alloc: Global, node: &MemNode) -> Result<String, AllocError> {
     let mut text = String::new(alloc);
     for call in node.told() {
         match call {
             NodeCall::Asked(ask, _) => write!(text, " {}", word(ask))?,
-            NodeCall::Posted(call, _) => write_post(&mut text, &call.post)?,
+            NodeCall::Posted(call, _) => write_post(&mut text, call)?,
         }
     }
     Ok(text)

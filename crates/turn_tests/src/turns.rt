@@ -13,10 +13,14 @@ const TWO_TURNS: Run = Run {
         Said::Index,
         Said::Proposes(0xaa, &[32]),
         Said::Votes(0xaa, &[(KEY, 33)]),
-        Said::Block(32),
         Said::Synced,
         Said::Proposes(0xaa, &[32]),
         Said::Votes(0xaa, &[(KEY, 33)]),
+    ],
+    lane_said: &[
+        Said::Synced,
+        Said::Block(32),
+        Said::Synced,
         Said::Details(33),
     ],
     ..ONE_TURN
@@ -27,8 +31,8 @@ const TURNS: [Case; 5] = [
     Case {
         run: TWO_TURNS,
         lines: &[Line::Block(32, "sent"), Line::Vote(33, "sent")],
-        asked: "syncing fork validators proposer attester block block@32 \
-            syncing proposer attester data vote@33",
+        asked: "syncing fork validators proposer attester syncing proposer attester",
+        lane_asked: "syncing block block@32 syncing data vote@33",
     },
     // late at the start of slot 33: it is passed over, and what is asked next is asked for slot 34
     Case {
@@ -41,8 +45,8 @@ const TURNS: [Case; 5] = [
             ..TWO_TURNS
         },
         lines: &[Line::Block(32, "sent")],
-        asked: "syncing fork validators proposer attester block block@32 \
-            syncing proposer attester",
+        asked: "syncing fork validators proposer attester syncing proposer attester",
+        lane_asked: "syncing block block@32 syncing",
     },
     // late when votes are cast in slot 32: the vote is dropped, and the next turn is that of slot 33
     Case {
@@ -60,13 +64,13 @@ const TURNS: [Case; 5] = [
                 Said::Synced,
                 Said::Proposes(0xaa, &[33]),
                 Said::Votes(0xaa, &[(KEY, 32)]),
-                Said::Block(33),
             ],
+            lane_said: &[Said::Synced, Said::Synced, Said::Block(33)],
             ..TWO_TURNS
         },
         lines: &[Line::Block(33, "sent")],
-        asked: "syncing fork validators proposer attester \
-            syncing proposer attester block block@33",
+        asked: "syncing fork validators proposer attester syncing proposer attester",
+        lane_asked: "syncing syncing block block@33",
     },
     // other duties under another dependent root, and then under the same root again, where what is held stays
     Case {
@@ -84,13 +88,14 @@ const TURNS: [Case; 5] = [
                 Said::Synced,
                 Said::Proposes(0xaa, &[34]),
                 Said::Votes(0xbb, &[]),
-                Said::Details(34),
             ],
+            lane_said: &[Said::Synced, Said::Synced, Said::Synced, Said::Details(34)],
             ..TWO_TURNS
         },
         lines: &[Line::Vote(34, "sent")],
-        asked: "syncing fork validators proposer attester \
-            syncing proposer attester syncing proposer attester data vote@34",
+        asked: "syncing fork validators proposer attester syncing proposer attester \
+            syncing proposer attester",
+        lane_asked: "syncing syncing syncing data vote@34",
     },
     // before genesis the first slot is 0
     Case {
@@ -103,12 +108,13 @@ const TURNS: [Case; 5] = [
                 Said::Index,
                 Said::Proposes(0xaa, &[0]),
                 Said::Votes(0xaa, &[(KEY, 1)]),
-                Said::Block(0),
             ],
+            lane_said: &[Said::Synced, Said::Block(0)],
             ..ONE_TURN
         },
         lines: &[Line::Block(0, "sent")],
-        asked: "syncing fork validators proposer attester block block@0",
+        asked: "syncing fork validators proposer attester",
+        lane_asked: "syncing block block@0",
     },
 ];
 

@@ -1,6 +1,8 @@
 //! Watched keys, and nodes that don't answer.
-use crate::runs::{AT_32, Case, Line, ONE_TURN, Run, look_at};
+use crate::runs::{AT_32, Case, Line, ONE_TURN, Run, Stage, look_at_end, stage_of, take_turns};
 use crate::said::{KEY, Said};
+use check_sign::{DeskReply, KeyStanding, WatchState};
+use std::process::Abort;
 use std::test::Fail;
 
 /// A vote in slot 96, the first of epoch 3, of a key that was made active at epoch 0: epochs 1 and 2 are asked about.
@@ -16,71 +18,110 @@ const WATCHED: Run = Run {
         Said::Votes(0xaa, &[(KEY, 96)]),
         Said::Live(false),
         Said::Live(false),
-        Said::Details(96),
     ],
+    lane_said: &[Said::Synced, Said::Details(96)],
     ..ONE_TURN
 };
 
-const WATCHES: [Case; 4] = [
-    Case {
-        run: WATCHED,
-        lines: &[Line::Vote(96, "sent")],
-        asked: "syncing fork validators proposer attester liveness liveness data vote@96",
-    },
+/// How the watch of `KEY` stands at the loop's desk.
+fn watch_of<T: Abort>(rt: &T, stage: &mut Stage) -> WatchState {
+    match stage.desk.keys() {
+        DeskReply::Keys(listed) => match listed.as_slice() {
+            [(_, KeyStanding::Active(watch))] => *watch,
+            _ => rt.panic("not active"),
+        },
+        _ => rt.panic("not listed"),
+    }
+}
+
+/// Runs, and how the watch of `KEY` stands behind each at the loop's desk.
+const WATCHES: [(Case, WatchState); 4] = [
+    (
+        Case {
+            run: WATCHED,
+            lines: &[Line::Vote(96, "sent")],
+            asked: "syncing fork validators proposer attester liveness liveness",
+            lane_asked: "syncing data vote@96",
+        },
+        WatchState::Allowed,
+    ),
     // seen live in one of both
-    Case {
-        run: Run {
-            said: &[
-                Said::Synced,
-                Said::Fork,
-                Said::Index,
-                Said::Proposes(0xaa, &[]),
-                Said::Votes(0xaa, &[(KEY, 96)]),
-                Said::Live(false),
-                Said::Live(true),
-                Said::Details(96),
-            ],
-            ..WATCHED
+    (
+        Case {
+            run: Run {
+                said: &[
+                    Said::Synced,
+                    Said::Fork,
+                    Said::Index,
+                    Said::Proposes(0xaa, &[]),
+                    Said::Votes(0xaa, &[(KEY, 96)]),
+                    Said::Live(false),
+                    Said::Live(true),
+                ],
+                ..WATCHED
+            },
+            lines: &[Line::Vote(96, "sent")],
+            asked: "syncing fork validators proposer attester liveness liveness",
+            lane_asked: "syncing data vote@96",
         },
-        lines: &[Line::Vote(96, "refused live")],
-        asked: "syncing fork validators proposer attester liveness liveness data",
-    },
+        WatchState::Live(2),
+    ),
     // nothing is missing of an epoch that is over, since the key was made active in this one
-    Case {
-        run: Run {
-            start: AT_32,
-            active_at: 1,
-            said: &[
-                Said::Synced,
-                Said::Fork,
-                Said::Index,
-                Said::Proposes(0xaa, &[32]),
-                Said::Votes(0xaa, &[(KEY, 33)]),
-            ],
-            ..WATCHED
+    (
+        Case {
+            run: Run {
+                start: AT_32,
+                active_at: 1,
+                said: &[
+                    Said::Synced,
+                    Said::Fork,
+                    Said::Index,
+                    Said::Proposes(0xaa, &[32]),
+                    Said::Votes(0xaa, &[(KEY, 33)]),
+                ],
+                lane_watches: true,
+                ..WATCHED
+            },
+            lines: &[Line::Block(32, "refused watching")],
+            asked: "syncing fork validators proposer attester",
+            lane_asked: "syncing",
         },
-        lines: &[Line::Block(32, "refused watching")],
-        asked: "syncing fork validators proposer attester",
-    },
+        WatchState::Missing {
+            first: 2,
+            second: Some(3),
+        },
+    ),
     // no answer in the first turn, and what was asked for at the epoch's start is not asked for again
-    Case {
-        run: Run {
-            slots: 2,
-            failing: &[0, 1, 2, 3],
-            said: &[Said::Synced, Said::Proposes(0xaa, &[33]), Said::Block(33)],
-            ..ONE_TURN
+    (
+        Case {
+            run: Run {
+                slots: 2,
+                failing: &[0, 1, 2, 3],
+                said: &[Said::Synced, Said::Proposes(0xaa, &[33])],
+                lane_said: &[Said::Synced, Said::Synced, Said::Block(33)],
+                ..ONE_TURN
+            },
+            lines: &[
+                Line::NoNode(32),
+                Line::NoNode(32),
+                Line::NoNode(32),
+                Line::Block(33, "sent"),
+            ],
+            asked: "syncing fork validators proposer syncing proposer",
+            lane_asked: "syncing syncing block block@33",
         },
-        lines: &[
-            Line::NoNode(32),
-            Line::NoNode(32),
-            Line::NoNode(32),
-            Line::Block(33, "sent"),
-        ],
-        asked: "syncing fork validators proposer syncing proposer block block@33",
-    },
+        WatchState::Allowed,
+    ),
 ];
 
 #[test]
 fn watches_are_asked_about_and_nodes_may_be_down(rt: HostRuntime) -> Result<(), Fail> {
-    look_at(&rt, rt.alloc(), &WATCHES)
+    let alloc = rt.alloc();
+    for (case, watch) in &WATCHES {
+        let mut stage = stage_of(&rt, alloc, &case.run)?;
+        take_turns(&rt, alloc, &case.run, &mut stage);
+        assert_eq!(&rt; watch_of(&rt, &mut stage), *watch);
+        look_at_end(&rt, alloc, stage, case.lines, case.asked, case.lane_asked)?;
+    }
+    Ok(())
 }

@@ -121,6 +121,7 @@ fn places_of(files: Option<(String, String)>, options: ServeOptions) -> Places
         watch: _watch,
         slots: _slots,
         connections: _connections,
+        lanes: _lanes,
         nodes,
     } = options;
     Places {
@@ -217,7 +218,10 @@ fn door_at<'a, R: Net + Eprint>(
 }
 
 /// A run of the words over these disks, with the services that they name; with a signer in memory where they name none.
-fn run_signing<R: Threads + Wait + Sync + Input + Print + Eprint + Net + Clock, D: Disk + Drop>(
+fn run_signing<
+    R: Threads + Wait + Sync + Input + Print + Eprint + Net + Clock,
+    D: Disk + Drop + Send,
+>(
     rt: &R,
     alloc: Global,
     words: &[String],
@@ -225,7 +229,11 @@ fn run_signing<R: Threads + Wait + Sync + Input + Print + Eprint + Net + Clock, 
     service: Option<ServiceUrl>,
     nodes: Vec<ServiceUrl>,
     listen: Option<ListenAddress>,
-) -> Status {
+) -> Status
+where
+    R::Stream: Send,
+    R::Listener: Send,
+{
     let Some(service) = service else {
         let signer = MemSigner::new(alloc, Vec::new(alloc), Vec::new(alloc));
         return run_asking(rt, alloc, words, disks, signer, nodes, listen);
@@ -240,8 +248,8 @@ fn run_signing<R: Threads + Wait + Sync + Input + Print + Eprint + Net + Clock, 
 /// A run of the words over these disks, with this signer, beacon nodes at these addresses, and a door at that.
 fn run_asking<
     R: Threads + Wait + Sync + Input + Print + Eprint + Net + Clock,
-    D: Disk + Drop,
-    S: Signer + Drop,
+    D: Disk + Drop + Send,
+    S: Signer + Drop + Send,
 >(
     rt: &R,
     alloc: Global,
@@ -250,7 +258,11 @@ fn run_asking<
     signer: S,
     nodes: Vec<ServiceUrl>,
     listen: Option<ListenAddress>,
-) -> Status {
+) -> Status
+where
+    R::Stream: Send,
+    R::Listener: Send,
+{
     match nodes_at(rt, alloc, nodes) {
         Ok(nodes) => run_listening(rt, alloc, words, disks, signer, nodes, listen),
         Err(AllocError) => Status::OutOfMemory,
@@ -260,9 +272,9 @@ fn run_asking<
 /// A run of the words over these disks, with this signer and these nodes, and a door at this address.
 fn run_listening<
     R: Threads + Wait + Sync + Input + Print + Eprint + Net + Clock,
-    D: Disk + Drop,
-    S: Signer + Drop,
-    N: Node + Drop,
+    D: Disk + Drop + Send,
+    S: Signer + Drop + Send,
+    N: Node + Drop + Send,
 >(
     rt: &R,
     alloc: Global,
@@ -271,7 +283,11 @@ fn run_listening<
     signer: S,
     nodes: Vec<N>,
     listen: Option<ListenAddress>,
-) -> Status {
+) -> Status
+where
+    R::Stream: Send,
+    R::Listener: Send,
+{
     match door_at(rt, alloc, listen) {
         Ok(door) => run(rt, alloc, words, disks, signer, nodes, door),
         Err(AllocError) => Status::OutOfMemory,
@@ -281,10 +297,10 @@ fn run_listening<
 /// A run of the words over these objects.
 fn run<
     R: Threads + Wait + Sync + Input + Print + Eprint + Clock,
-    D: Disk + Drop,
-    S: Signer + Drop,
-    N: Node + Drop,
-    E: Door + Drop,
+    D: Disk + Drop + Send,
+    S: Signer + Drop + Send,
+    N: Node + Drop + Send,
+    E: Door + Drop + Send,
 >(
     rt: &R,
     alloc: Global,

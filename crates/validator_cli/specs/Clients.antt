@@ -12,15 +12,17 @@ use Rattle.keymanager_api.specs.Serving.{LinkSeen}
 use Rattle.keymanager_loop.specs.Doors.{door_seen}
 use Rattle.command_line.specs.declared.serve_options.ServeOptions.{ServeOptions}
 use Rattle.journal_commands.specs.Views.{output_of}
-use Rattle.serve_run.specs.Clients.{Parts}
+use Rattle.serve_run.specs.Clients.{Parts, lane_ends_seen}
+use Rattle.serve_run.specs.declared.lanes.LaneEnd.{LaneEnd}
 use Rattle.serve_run.specs.Ends.{ServeEnds}
 
 -- what the parts of a client tell that are handed in and out; none of its nodes counts as syncing but by these flags
 abbrev pub parts_of : {S N R C O : Type 0} → (S → Option (List Told)) → (S → ℕ) → (S → ℕ) → (N → Option (List NodeCall)) → (N → ℕ) → (R → Option (List C)) → (R → Option (List C)) → (R → ℕ) → (O → Option (List ℕ)) → (O → ℕ)
-    → S → List N → List Bool → R → O → Parts C
-parts_of signs signs_failed signs_denied asked asked_failed coming finished door_failed held writes_failed signer nodes flags door out = record {
+    → S → List N → List Bool → List (LaneEnd S N) → R → O → Parts C
+parts_of signs signs_failed signs_denied asked asked_failed coming finished door_failed held writes_failed signer nodes flags lanes door out = record {
   signer = signer_seen signs signs_failed signs_denied signer;
   nodes = seen_of asked asked_failed nodes flags;
+  lanes = lane_ends_seen signs signs_failed signs_denied asked asked_failed lanes;
   door = door_seen coming finished door_failed door;
   out = output_of held writes_failed out;
 }

@@ -2,16 +2,11 @@
 use check_sign::Events;
 use edge_kit::Disks;
 use program_end::Status;
+use serve_run::LaneEnd;
 
-/// The signer and the nodes that a lane worked with.
-#[derive(Drop)]
-pub struct LaneEnd<S, N> {
-    pub signer: S,
-    pub nodes: Vec<N>,
-}
-
-/// The status, the objects that were handed in, and what the desk did. `lanes` is empty, and `events` too
-/// where no desk was opened.
+/// The status, the objects that were handed in, and what the desk did. `lanes` has the signing service and the nodes of
+/// each lane in which duties were done, other accesses to those that were handed in; it is empty where no lanes were
+/// made. `events` is empty where no desk was opened.
 #[derive(Drop)]
 pub struct Ending<D, S, N, R> {
     pub status: Status,

@@ -9,9 +9,10 @@ mod session;
 mod usage;
 
 pub use command_line::{Plan, ShownText, Usage, plan};
-pub use ending::{Ending, LaneEnd};
+pub use ending::Ending;
 pub use journal_commands::{run_merge, run_show};
 pub use program_end::{Limit, Status};
 pub use rehearse::run_rehearse;
 pub use run::run_validator;
+pub use serve_run::LaneEnd;
 pub use session::run_session;

@@ -31,13 +31,13 @@ use std::thread::Threads;
 /// come back untouched.
 pub fn run_validator<
     T: Threads + Wait + Sync,
-    D: Disk,
-    S: Signer,
-    N: Node + Drop,
+    D: Disk + Send,
+    S: Signer + Send + Drop,
+    N: Node + Drop + Send,
     C: Clock + Drop,
-    R: Door,
+    R: Door + Send,
     I: Source,
-    O: Sink,
+    O: Sink + Send,
 >(
     rt: &T,
     alloc: Global,
@@ -54,8 +54,8 @@ pub fn run_validator<
         (outside_of I.left I.faults O.held O.faults S.told S.faults S.denials input.old out.old signer) (outside_of I.left I.faults O.held O.faults S.told S.faults S.denials input.new out.new result.signer) result.events result.status }
     ensures serves { (options : ServeOptions) → asked_of (map string_bytes words.now) ≡ serve options
         → ClientRuns D.shows D.moment D.leaves D.faults (link_seen R.Conn.left R.Conn.held R.Conn.faults) (C.start clock) options disks result.disks
-        (parts_of S.told S.faults S.denials N.told N.faults R.coming R.finished R.faults O.held O.faults signer nodes.items [] door out.old)
-        (λ flags. parts_of S.told S.faults S.denials N.told N.faults R.coming R.finished R.faults O.held O.faults result.signer result.nodes.items flags result.door out.new) result.events result.status }
+        (parts_of S.told S.faults S.denials N.told N.faults R.coming R.finished R.faults O.held O.faults signer nodes.items [] [] door out.old)
+        (λ flags. parts_of S.told S.faults S.denials N.told N.faults R.coming R.finished R.faults O.held O.faults result.signer result.nodes.items flags result.lanes.items result.door out.new) result.events result.status }
     ensures usage { result.status ≡ Status.Usage → asked_of (map string_bytes words.now) ≡ nothing }
     ensures no_command { asked_of (map string_bytes words.now) ≡ nothing
         → (result.status ≡ Status.Usage) ⊎ (result.status ≡ Status.WriteFault) ⊎ (result.status ≡ Status.OutOfMemory) }
@@ -70,7 +70,7 @@ pub fn run_validator<
     ensures unread { (options : ServeOptions) → asked_of (map string_bytes words.now) ≡ serve options → input.new ≡ input.old }
     ensures nodes { IsOther (asked_of (map string_bytes words.now)) → result.nodes ≡ nodes }
     ensures door { IsOther (asked_of (map string_bytes words.now)) → result.door ≡ door }
-    ensures lanes { result.lanes.items ≡ [] }
+    ensures lanes { IsOther (asked_of (map string_bytes words.now)) → result.lanes.items ≡ [] }
 {
     match is_serve(alloc, words) {
         Ok(Some(plan)) => run_client(rt, alloc, &plan, disks, signer, nodes, &clock, door, out),

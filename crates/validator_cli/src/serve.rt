@@ -15,10 +15,11 @@ use edge_clock::Clock;
 use edge_kit::{Disk, Disks, Door, Sink};
 use node_calls::Node;
 use node_fallback::Nodes;
-use serve_run::run_serve;
+use serve_run::{ServeEnd, run_serve};
 use signer_link::Signer;
 use std::alloc::{AllocError, Global};
 use std::sync::Wait;
+use std::thread::Threads;
 
 /// The plan of words that ask for the validator client; none where they ask for something else.
 pub(crate) fn is_serve(alloc: Global, words: &[String]) -> Result<Option<Plan>, AllocError>
@@ -38,7 +39,15 @@ pub(crate) fn is_serve(alloc: Global, words: &[String]) -> Result<Option<Plan>, 
 }
 
 /// Runs the validator client of a plan.
-pub(crate) fn run_client<T: Wait, D: Disk, S: Signer, N: Node + Drop, C: Clock, R: Door, O: Sink>(
+pub(crate) fn run_client<
+    T: Threads + Wait + Sync,
+    D: Disk + Send,
+    S: Signer + Send + Drop,
+    N: Node + Drop + Send,
+    C: Clock,
+    R: Door + Send,
+    O: Sink + Send,
+>(
     rt: &T,
     alloc: Global,
     plan: &Plan,
@@ -52,13 +61,17 @@ pub(crate) fn run_client<T: Wait, D: Disk, S: Signer, N: Node + Drop, C: Clock, 
     requires { IsServe plan.now }
     ensures ends { (options : ServeOptions) → plan.now ≡ Plan.Serve options
         → ClientEnds D.shows D.moment D.leaves D.faults (link_seen R.Conn.left R.Conn.held R.Conn.faults) (C.start clock.now) options disks result.disks
-        (parts_of S.told S.faults S.denials N.told N.faults R.coming R.finished R.faults O.held O.faults signer nodes.items [] door out.old)
-        (λ flags. parts_of S.told S.faults S.denials N.told N.faults R.coming R.finished R.faults O.held O.faults result.signer result.nodes.items flags result.door out.new) result.events result.status }
+        (parts_of S.told S.faults S.denials N.told N.faults R.coming R.finished R.faults O.held O.faults signer nodes.items [] [] door out.old)
+        (λ flags. parts_of S.told S.faults S.denials N.told N.faults R.coming R.finished R.faults O.held O.faults result.signer result.nodes.items flags result.lanes.items result.door out.new) result.events result.status }
     ensures causes { Because (Rose (O.faults out.old) (O.faults out.new)) (EitherRose D.faults disks result.disks) (Rose (R.faults door) (R.faults result.door)) result.status }
-    ensures lanes { result.lanes.items ≡ [] }
 {
     let mut nodes = Nodes::new(alloc, nodes);
-    let (status, disks, events) = run_serve(
+    let ServeEnd {
+        status,
+        disks,
+        events,
+        lanes,
+    } = run_serve(
         rt,
         alloc,
         plan,
@@ -75,7 +88,7 @@ pub(crate) fn run_client<T: Wait, D: Disk, S: Signer, N: Node + Drop, C: Clock, 
         signer,
         nodes: nodes.into_nodes(),
         door,
-        lanes: Vec::new(alloc),
+        lanes,
         events,
     }
 }

@@ -1,6 +1,7 @@
 //! Web3Signer as the service that signs.
-ghost use Rattle.std.specs.Prelude.{◌≡◌, ◌≤◌, [], None, Some, IsSome, IfSome, option_map};
+ghost use Rattle.std.specs.Prelude.{◌≡◌, ◌≤◌, [], None, Some, IsSome, IfOk, IfSome, option_map};
 ghost use Rattle.edge_kit.specs.Causes.{Rose};
+ghost use Rattle.edge_kit.specs.Links.{Stays};
 ghost use Rattle.edge_kit.specs.Tellings.{Tells};
 ghost use Rattle.signer_link.specs.Keeping.{kept};
 ghost use Rattle.signer_link.specs.Outcomes.{CountsDenial, delete_denied, import_denied, sign_denied};
@@ -14,11 +15,14 @@ use edge_kit::{Link, PubKey, count_fault};
 use http::Method;
 use http_call::call;
 use service_url::ServiceUrl;
-use signer_link::keeping::{make_room, sign_call, tell_delete, tell_import, tell_plain, tell_sign};
+use signer_link::keeping::{
+    kept_copy, make_room, sign_call, tell_delete, tell_import, tell_plain, tell_sign,
+};
 use signer_link::{
     DeleteReply, ImportReply, PlainCall, PlainRequest, SignReply, SignRequest, Signer, Told,
 };
 use slash_defs::{Granted, Message};
+use std::alloc::{AllocError, Global};
 
 /// The path of the keystores calls.
 const KEYSTORES: &str = "/eth/v1/keystores";
@@ -282,6 +286,25 @@ impl<L: Link + Drop> Signer for Web3Signer<L> {
             matches!(&answer, DeleteReply::Refused(_)),
         );
         answer
+    }
+
+    /// The Web3Signer at the same address, over the link's twin. No call was refused yet. It tells where this one
+    /// does, and begins with what this one told.
+    fn twin(&self, alloc: Global) -> Result<Self, AllocError>
+        ensures told { IfOk result (λ t. kept t.told ≡ kept self.now.told) }
+        ensures faults { IfOk result (λ t. L.faults t.link ≡ 0) }
+        ensures denials { IfOk result (λ t. t.denials ≡ 0) }
+        ensures url { IfOk result (λ t. t.url ≡ self.now.url) }
+        ensures left { IfOk result (λ t. Stays (L.left self.now.link) (L.left t.link)) }
+        ensures coming { IfOk result (λ t. Stays (L.coming self.now.link) (L.coming t.link)) }
+        ensures held { IfOk result (λ t. Stays (L.held self.now.link) (L.held t.link)) }
+    {
+        Ok(Web3Signer {
+            link: self.link.twin(alloc)?,
+            url: self.url.copy(alloc)?,
+            denials: 0,
+            told: kept_copy(alloc, &self.told)?,
+        })
     }
 }
 

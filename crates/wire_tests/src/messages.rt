@@ -60,6 +60,13 @@ impl<'a> Link for CutLink<'a> {
     fn hang_up(&mut self) -> Result<(), Failed> {
         Ok(())
     }
+
+    fn twin(&self, _alloc: Global) -> Result<Self, AllocError> {
+        Ok(CutLink {
+            bytes: self.bytes,
+            cut: self.cut,
+        })
+    }
 }
 
 /// The body of the request that the bytes spell and how many bytes are left behind it, or its fault.

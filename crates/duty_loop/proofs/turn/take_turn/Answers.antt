@@ -9,4 +9,4 @@ returns-clause-held g c =
     on_ok_weaker c.begin.result (λ (h : HoldsPlaced c.begin.new.held w.after). (w.after, h)) w.held
 
 pub returns-clause-runs : goal.returns-clause-runs
-returns-clause-runs g c = λ s h. waited g.K.DeskCalls.leads g.met.K.DeskCalls.leads_none (g.C.Clock.start c.args.clock.now) _ c.args.setup.now s _ _ c.slot_start.result c.args.held.now.slot c.wait_until-reached.result _ c.slot_start.ensures h.is.slot c.wait_until-reached.ensures (c.begin.ensures.runs s h)
+returns-clause-runs g c = λ s h. waited g.K.DeskCalls.leads (g.C.Clock.start c.args.clock.now) _ c.args.setup.now s _ _ c.slot_start.result c.args.held.now.slot c.wait_until-reached.result _ c.slot_start.ensures h.is.slot c.wait_until-reached.ensures (c.begin.ensures.runs s h)

@@ -1,7 +1,6 @@
-use Rattle.std.proofs.Common.{◌≡◌, ◌≤◌, ◌<◌, ◌-◌, ℕ, Option, true}
-use Rattle.client_calls.specs.Seats.{SignerSeen}
+use Rattle.std.proofs.Common.{◌≡◌, ◌≤◌, ◌<◌, ◌-◌, ℕ, List, Option, true}
 use Rattle.call_plans.specs.Paths.{Comes}
-use Rattle.duty_plans.specs.Seats.{nodes_seen}
+use Rattle.duty_plans.specs.Seats.{Seat, nodes_seen}
 use Rattle.duty_turns.specs.Standing.{IsHeld, Standing}
 use Rattle.duty_turns.specs.Times.{epoch_of}
 use Rattle.duty_turns.specs.Turns.{epochs_plan, missing_epochs}
@@ -16,9 +15,9 @@ invariant-epochs g l = record {
   is_now : l.now ≡ epoch_of l.held.slot;
   within : l.epoch ≤ l.now;
   missed : l.epoch < l.now → is_missed l.epoch l.listed ≡ true;
-  comes : (start : Option ℕ) (signer : SignerSeen) (s : Standing) → IsHeld l.held s → Comes Fits (Does g.K.DeskCalls.leads start) (epochs_plan l.now l.listed (missing_epochs l.now l.listed) s) (epochs_plan l.now l.listed (missing_from l.epoch l.now l.listed) s)
-      (house l.fn.desk signer (nodes_seen g.N.Node.told g.N.Node.faults l.fn.nodes) (sink_seen g.O.Sink.held g.O.Sink.faults l.fn.out))
-      (house l.desk signer (nodes_seen g.N.Node.told g.N.Node.faults l.nodes) (sink_seen g.O.Sink.held g.O.Sink.faults l.out));
+  comes : (start : Option ℕ) (lanes : List (Seat g.row.K.Denot)) (s : Standing) → IsHeld l.held s → Comes Fits (Does g.K.DeskCalls.leads start) (epochs_plan l.now l.listed (missing_epochs l.now l.listed) s) (epochs_plan l.now l.listed (missing_from l.epoch l.now l.listed) s)
+      (house l.fn.desk lanes (nodes_seen g.N.Node.told g.N.Node.faults l.fn.nodes) (sink_seen g.O.Sink.held g.O.Sink.faults l.fn.out))
+      (house l.desk lanes (nodes_seen g.N.Node.told g.N.Node.faults l.nodes) (sink_seen g.O.Sink.held g.O.Sink.faults l.out));
 }
 
 abbrev pub decreases-epochs : goal.decreases-epochs

@@ -7,17 +7,17 @@ use Rattle.duty_loop.proofs.RunLemmas.{blocks_done, blocks_short, short}
 use Rattle.duty_loop.proofs.work.do_due.Goals as goal
 
 pub do_duties-requires-clause-places : goal.do_duties-requires-clause-places
-do_duties-requires-clause-places g c = subst (λ (l : List Duty). are_placed l ≡ true) (sym (c.as_slice-blocks.ensures.value ∙ c.in-Ok.ensures)) (kind_placed is_block c.args.due.now c.requires.places)
+do_duties-requires-clause-places g c = λ lifetimes outlives. subst (λ (l : List Duty). are_placed l ≡ true) (sym (c.as_slice-blocks.ensures.value ∙ c.in-Ok.ensures)) (kind_placed is_block c.args.due.now c.requires.places)
 
 pub cast_votes-requires-clause-blocks : goal.cast_votes-requires-clause-blocks
-cast_votes-requires-clause-blocks g c = c.as_slice-blocks.ensures.value ∙ c.in-Ok.ensures
+cast_votes-requires-clause-blocks g c = λ lifetimes outlives. c.as_slice-blocks.ensures.value ∙ c.in-Ok.ensures
 
 pub returns-in_default-clause-runs : goal.returns-in_default-clause-runs
-returns-in_default-clause-runs g c = λ s h. short g.K.DeskCalls.leads g.met.K.DeskCalls.leads_none (g.C.Clock.start c.args.clock.now) _ _ s _
+returns-in_default-clause-runs g c = λ nodes s h. short g.K.DeskCalls.leads (g.C.Clock.start c.args.clock.now) _ _ s _
 
 pub returns-in_default-do_duties-clause-runs : goal.returns-in_default-do_duties-clause-runs
-returns-in_default-do_duties-clause-runs g c = λ s h. blocks_short g.K.DeskCalls.leads g.met.K.DeskCalls.leads_none (g.C.Clock.start c.args.clock.now) _ c.args.setup.now s _ _ _ _ _ _ _ c.args.due.now c.as_slice-blocks.result.now (c.as_slice-blocks.ensures.value ∙ c.in-Ok.ensures) (c.in_default-do_duties.ensures.runs s h)
+returns-in_default-do_duties-clause-runs g c = λ nodes s h. blocks_short g.K.DeskCalls.leads (g.C.Clock.start c.args.clock.now) _ c.args.setup.now s _ _ _ nodes _ c.args.due.now c.as_slice-blocks.result.now (c.as_slice-blocks.ensures.value ∙ c.in-Ok.ensures) (c.in_default-do_duties.ensures.works s h)
 
 pub returns-clause-runs : goal.returns-clause-runs
-returns-clause-runs g c = λ s h. blocks_done g.K.DeskCalls.leads g.met.K.DeskCalls.leads_none (g.C.Clock.start c.args.clock.now) _ c.args.setup.now s _ _ _ _ _ _ _ _ c.args.due.now c.as_slice-blocks.result.now c.as_slice-proposed.result.now c.votes_start.result c.args.held.now.slot c.wait_until-reached.result _ (c.as_slice-blocks.ensures.value ∙ c.in-Ok.ensures)
-    (rw c.as_slice-proposed.ensures.value (c.in-Ok-do_duties.ensures.runs s h)) c.votes_start.ensures h.is.slot c.wait_until-reached.ensures (c.cast_votes.ensures.runs (g.C.Clock.start c.args.clock.now) s h)
+returns-clause-runs g c = λ nodes s h. blocks_done g.K.DeskCalls.leads (g.C.Clock.start c.args.clock.now) _ c.args.setup.now s _ _ _ nodes _ _ c.args.due.now c.as_slice-blocks.result.now c.as_slice-proposed.result.now c.votes_start.result c.args.held.now.slot c.wait_until-reached.result _ (c.as_slice-blocks.ensures.value ∙ c.in-Ok.ensures)
+    (rw c.as_slice-proposed.ensures.value (c.in-Ok-do_duties.ensures.works s h)) c.votes_start.ensures h.is.slot c.wait_until-reached.ensures (c.cast_votes.ensures.runs (g.C.Clock.start c.args.clock.now) nodes s h)

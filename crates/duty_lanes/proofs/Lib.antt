@@ -1,0 +1,5 @@
+pub mod TurnLemmas
+pub mod DealLemmas
+pub mod GatherLemmas
+pub mod WorkLemmas
+pub mod RefreshLemmas

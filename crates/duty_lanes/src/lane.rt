@@ -1,0 +1,36 @@
+//! A lane.
+ghost use Rattle.std.specs.Prelude.{◌≡◌};
+
+use duty_plans::DutyResult;
+use node_fallback::Nodes;
+
+/// What the duties of one lane are done with: a desk, a signing service and beacon nodes of its own.
+#[derive(Drop)]
+pub struct Lane<K, S, N> {
+    pub desk: K,
+    pub signer: S,
+    pub nodes: Nodes<N>,
+    /// The results of the duties that it did last; none where memory ran out.
+    pub(crate) results: Option<Vec<DutyResult>>,
+}
+
+impl<K, S, N> Lane<K, S, N> {
+    /// A lane that has done nothing yet. Takes no memory.
+    pub fn new(desk: K, signer: S, nodes: Nodes<N>) -> Self
+        ensures { (result.desk ≡ desk) × (result.signer ≡ signer) × (result.nodes ≡ nodes) }
+    {
+        Lane {
+            desk,
+            signer,
+            nodes,
+            results: None,
+        }
+    }
+
+    /// What it was made of. Takes no memory.
+    pub fn into_parts(self) -> (K, S, Nodes<N>)
+        ensures { result ≡ (self.desk, self.signer, self.nodes) }
+    {
+        (self.desk, self.signer, self.nodes)
+    }
+}

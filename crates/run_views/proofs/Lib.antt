@@ -1,0 +1,2 @@
+pub mod TurnViews
+pub mod VisitViews

@@ -1,0 +1,41 @@
+//! Duties dealt to lanes.
+use crate::keys::activate_second;
+use crate::runs::{Line, ONE_TURN, Run, lane_of, look_at_end, stage_of, take_turns};
+use crate::said::{KEY, SECOND, Said};
+use std::test::Fail;
+
+/// A block and two votes in slot 32, at the places 0, 1 and 2, with the first of two lanes.
+const THREE_DUTIES: Run = Run {
+    said: &[
+        Said::Synced,
+        Said::Fork,
+        Said::Indices,
+        Said::Proposes(0xaa, &[32]),
+        Said::Votes(0xaa, &[(KEY, 32), (SECOND, 32)]),
+    ],
+    lane_said: &[Said::Synced, Said::Block(32), Said::Details(32)],
+    ..ONE_TURN
+};
+
+/// The second lane.
+const SECOND_LANE: Run = Run {
+    lane_said: &[Said::Synced, Said::Details(32)],
+    ..ONE_TURN
+};
+
+#[test]
+fn the_duties_of_a_slot_are_dealt_to_the_lanes(rt: HostRuntime) -> Result<(), Fail> {
+    let alloc = rt.alloc();
+    let mut stage = stage_of(&rt, alloc, &THREE_DUTIES)?;
+    stage.lanes.push(lane_of(&rt, alloc, &SECOND_LANE)?)?;
+    activate_second(&rt, &mut stage);
+    take_turns(&rt, alloc, &THREE_DUTIES, &mut stage);
+    let lines = [
+        Line::Block(32, "sent"),
+        Line::Vote(32, "sent"),
+        Line::VoteOf(32, SECOND, "sent"),
+    ];
+    let asked = "syncing fork validators proposer attester";
+    let lane_asked = "syncing block block@32 data vote@32* | syncing data vote@32";
+    look_at_end(&rt, alloc, stage, &lines, asked, lane_asked)
+}
