@@ -48,7 +48,7 @@ begun = time.time()
 listed = curl('GET')
 wanted('keys: %s' % listed, [row['validating_pubkey'] for row in listed['data']] == [key(n) for n in range(3)])
 wanted('the keys are listed after %.1f s only' % (time.time() - begun), time.time() - begun < 5)
-posts, asked = [], []
+posts = []
 while len(posts) < 13 and time.time() < begun + 11 * SLOT:
     time.sleep(1)
     posts += posted(node.take())

@@ -9,7 +9,7 @@ set -eu
 cd "$(dirname "$0")/.."
 blocks="${1:-1000}"
 program=crates/validator/out/validator
-[ -x "$program" ] || { echo "bench/signer.sh: $program is not there: run 'rt lib' or 'rt run' in crates/validator first" >&2; exit 1; }
+[ -x "$program" ] || { echo "bench/signer.sh: $program is not there: run 'rt run -- --version' in crates/validator first" >&2; exit 1; }
 exec python3 - "$program" "$blocks" <<'PY'
 import hashlib, http.client, json, os, signal, socket, subprocess, sys, tempfile, time
 
