@@ -223,3 +223,22 @@ fn another_dependent_root_from_the_second_node_replaces_the_duties(
     };
     Ok(look_at_turns(&rt, rt.alloc(), &mut stage)?)
 }
+
+/// The same nodes' twins, with a schedule of their own.
+fn twin_of(alloc: Global, stage: &Stage) -> Result<Stage, AllocError> {
+    Ok(Stage {
+        nodes: stage.nodes.twin(alloc)?,
+        schedule: Schedule::new(alloc),
+    })
+}
+
+#[test]
+fn twins_of_nodes_answer_as_those_do(rt: HostRuntime) -> Result<(), Fail> {
+    let mut stage = Stage {
+        nodes: nodes(rt.alloc())?,
+        schedule: Schedule::new(rt.alloc()),
+    };
+    let mut twin = twin_of(rt.alloc(), &stage)?;
+    look_at_turns(&rt, rt.alloc(), &mut twin)?;
+    Ok(look_at_turns(&rt, rt.alloc(), &mut stage)?)
+}

@@ -11,3 +11,5 @@ mod nodes;
 mod replies;
 #[cfg(test)]
 mod requests;
+#[cfg(test)]
+mod twins;

@@ -355,3 +355,19 @@ fn a_key_goes_in_and_out_with_these_bytes(rt: HostRuntime) -> Result<(), Fail> {
     assert_eq!(rt; sent(alloc, signer)?.as_str(), wanted.as_str());
     Ok(())
 }
+
+/// What `sign` answers for a block.
+fn signing_words(alloc: Global, signer: &mut Web3Signer<MemLink>) -> Result<String, Fail> {
+    sign_words(alloc, &signer.sign(&request_of(header()), &PERMIT))
+}
+
+#[test]
+fn a_twin_is_answered_as_its_first_is(rt: HostRuntime) -> Result<(), Fail> {
+    let alloc = rt.alloc();
+    let said = response(alloc, 412, "")?;
+    let mut first = signer(alloc, said, Vec::new(alloc))?;
+    let mut twin = first.twin(alloc)?;
+    assert_eq!(rt; signing_words(alloc, &mut twin)?.as_str(), "denied 412");
+    assert_eq!(rt; signing_words(alloc, &mut first)?.as_str(), "denied 412");
+    Ok(())
+}
