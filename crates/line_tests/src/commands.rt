@@ -4,6 +4,7 @@ use edge_kit::{Disks, MemDisk, MemSink, MemSource, Root};
 use journal_commands::{run_merge, run_show};
 use program_end::Status;
 use std::alloc::Global;
+use std::process::Abort;
 use std::test::Fail;
 
 const FILE: &str =
@@ -20,57 +21,101 @@ fn path(alloc: Global) -> Result<PathText, Fail> {
     Ok(PathText::new(String::from_str(alloc, "journal")?))
 }
 
-/// Two empty disks.
-fn new_disks(alloc: Global) -> Result<Disks<MemDisk>, Fail> {
-    Ok(Disks {
-        first: MemDisk::new(alloc, Vec::new(alloc), Vec::new(alloc), None)?,
-        second: MemDisk::new(alloc, Vec::new(alloc), Vec::new(alloc), None)?,
-    })
+/// An empty disk.
+fn new_disk(alloc: Global) -> Result<MemDisk, Fail> {
+    Ok(MemDisk::new(alloc, Vec::new(alloc), Vec::new(alloc), None)?)
 }
 
-/// What an output holds, with the status of a merge of this text, and the disks.
-fn merged(
+/// Two empty disks.
+fn new_disks(alloc: Global) -> Result<Disks<MemDisk>, Fail> {
+    let first = new_disk(alloc)?;
+    let second = new_disk(alloc)?;
+    Ok(Disks { first, second })
+}
+
+/// An output with room.
+fn output(alloc: Global) -> Result<MemSink, Fail> {
+    Ok(MemSink::new(alloc, 4096, Vec::new(alloc))?)
+}
+
+/// An input of this text.
+fn input(alloc: Global, text: &str) -> Result<MemSource, Fail> {
+    let bytes = Vec::from_slice(alloc, text.as_bytes())?;
+    Ok(MemSource::new(bytes, Vec::new(alloc)))
+}
+
+/// Merges an input, and gives the status and the disks.
+fn merge(
     alloc: Global,
     disks: Disks<MemDisk>,
-    text: &str,
-) -> Result<(Status, Disks<MemDisk>, Vec<u8>), Fail> {
-    let bytes = Vec::from_slice(alloc, text.as_bytes())?;
-    let mut input = MemSource::new(bytes, Vec::new(alloc));
-    let mut out = MemSink::new(alloc, 4096, Vec::new(alloc))?;
+    input: &mut MemSource,
+    out: &mut MemSink,
+) -> Result<(Status, Disks<MemDisk>), Fail> {
     let plan = Plan::Merge {
         genesis: GENESIS,
         journal: path(alloc)?,
     };
-    let (status, disks, _events) = run_merge(alloc, &plan, disks, &mut input, &mut out);
-    Ok((status, disks, out.into_bytes()))
+    let (status, disks, _events) = run_merge(alloc, &plan, disks, input, out);
+    Ok((status, disks))
+}
+
+/// Merges a text over empty disks, and gives the status and the disks.
+fn merge_text(
+    alloc: Global,
+    text: &str,
+    out: &mut MemSink,
+) -> Result<(Status, Disks<MemDisk>), Fail> {
+    let disks = new_disks(alloc)?;
+    let mut input = input(alloc, text)?;
+    merge(alloc, disks, &mut input, out)
+}
+
+/// Compares what an output holds.
+fn compare_output<T: Abort>(rt: &T, out: MemSink, wanted: &str) {
+    let told = out.into_bytes();
+    assert!(rt; told.as_slice() == wanted.as_bytes(), "{wanted}");
+}
+
+/// Merges a text over empty disks, compares the status and the output, and gives the disks.
+fn merge_so<T: Abort>(
+    rt: &T,
+    alloc: Global,
+    text: &str,
+    wanted: Status,
+    told: &str,
+) -> Result<Disks<MemDisk>, Fail> {
+    let mut out = output(alloc)?;
+    let (status, disks) = merge_text(alloc, text, &mut out)?;
+    assert_eq!(rt; status, wanted);
+    compare_output(rt, out, told);
+    Ok(disks)
+}
+
+/// Shows the keys of disks, and gives the status.
+fn show(alloc: Global, disks: Disks<MemDisk>, out: &mut MemSink) -> Result<Status, Fail> {
+    let plan = Plan::Show {
+        genesis: GENESIS,
+        journal: path(alloc)?,
+    };
+    let (status, _disks, _events) = run_show(alloc, &plan, disks, out);
+    Ok(status)
 }
 
 #[test]
 fn a_merged_file_is_shown(rt: HostRuntime) -> Result<(), Fail> {
     let alloc = rt.alloc();
-    let disks = new_disks(alloc)?;
-    let (status, disks, told) = merged(alloc, disks, FILE)?;
+    let disks = merge_so(&rt, alloc, FILE, Status::Done, "merged 1\n")?;
+    let mut out = output(alloc)?;
+    let status = show(alloc, disks, &mut out)?;
     assert_eq!(rt; status, Status::Done);
-    assert!(rt; told.as_slice() == "merged 1\n".as_bytes());
-    let mut out = MemSink::new(alloc, 4096, Vec::new(alloc))?;
-    let plan = Plan::Show {
-        genesis: GENESIS,
-        journal: path(alloc)?,
-    };
-    let (status, _disks, _events) = run_show(alloc, &plan, disks, &mut out);
-    assert_eq!(rt; status, Status::Done);
-    let shown = out.into_bytes();
-    assert!(rt; shown.as_slice() == LINE.as_bytes());
+    compare_output(&rt, out, LINE);
     Ok(())
 }
 
 #[test]
 fn a_text_that_is_no_file_is_refused(rt: HostRuntime) -> Result<(), Fail> {
-    let alloc = rt.alloc();
-    let disks = new_disks(alloc)?;
-    let (status, _disks, told) = merged(alloc, disks, "{")?;
-    assert_eq!(rt; status, Status::FileRefused);
+    let (status, told) = (Status::FileRefused, "validator: file refused: json\n");
+    merge_so(&rt, rt.alloc(), "{", status, told)?;
     assert_eq!(rt; status.code(), 12);
-    assert!(rt; told.as_slice() == "validator: file refused: json\n".as_bytes());
     Ok(())
 }

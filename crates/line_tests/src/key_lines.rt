@@ -5,6 +5,7 @@ use protect_record::{Floors, Record};
 use record_replay::KeyState;
 use slash_defs::{BlockEntry, VoteEntry};
 use std::alloc::Global;
+use std::process::Abort;
 use std::test::Fail;
 
 const KEY: &str =
@@ -20,20 +21,24 @@ fn is_line(alloc: Global, state: KeyState, kept: &Record, rest: &str) -> Result<
 }
 
 #[test]
-fn a_key_has_its_line(rt: HostRuntime) -> Result<(), Fail> {
-    let alloc = rt.alloc();
-    let empty = Record::new(alloc);
+fn a_key_without_a_past_has_its_line(rt: HostRuntime) -> Result<(), Fail> {
+    let empty = Record::new(rt.alloc());
     let known = " known blocks 0 votes 0 floor_slot - floor_source - floor_target -\n";
-    assert!(rt; is_line(alloc, KeyState::Known, &empty, known)?);
-    let floors = Floors {
-        block: Some(100),
-        vote: Some((7, 9)),
-    };
-    let mut blocks = Vec::new(alloc);
-    blocks.push(BlockEntry {
+    assert!(rt; is_line(rt.alloc(), KeyState::Known, &empty, known)?);
+    Ok(())
+}
+
+/// One block.
+fn blocks(alloc: Global) -> Result<Vec<BlockEntry>, Fail> {
+    let block = BlockEntry {
         slot: 100,
         root: None,
-    })?;
+    };
+    Ok(vec![in alloc; block]?)
+}
+
+/// Votes for the targets 9 and 10.
+fn votes(alloc: Global) -> Result<Vec<VoteEntry>, Fail> {
     let mut votes = Vec::new(alloc);
     for target in 9..11 {
         votes.push(VoteEntry {
@@ -42,19 +47,42 @@ fn a_key_has_its_line(rt: HostRuntime) -> Result<(), Fail> {
             root: None,
         })?;
     }
-    let kept = Record::of_parts(floors, blocks, votes)?;
-    let counted = "blocks 1 votes 2 floor_slot 100 floor_source 7 floor_target 9\n";
-    for (state, word) in [
-        (KeyState::Active, " active "),
-        (KeyState::Closing, " closing "),
-        (KeyState::Closed, " closed "),
-    ] {
-        let mut rest = String::new(alloc);
-        rest.push_str(word)?;
-        rest.push_str(counted)?;
-        assert!(rt; is_line(alloc, state, &kept, rest.as_str())?, "{word}");
-    }
+    Ok(votes)
+}
+
+/// A record of these.
+fn kept(alloc: Global) -> Result<Record, Fail> {
+    let floors = Floors {
+        block: Some(100),
+        vote: Some((7, 9)),
+    };
+    let blocks = blocks(alloc)?;
+    let votes = votes(alloc)?;
+    Ok(Record::of_parts(floors, blocks, votes)?)
+}
+
+/// Compares the line of a key in a state, with this word in it.
+fn compare_line<T: Abort>(
+    rt: &T,
+    alloc: Global,
+    state: KeyState,
+    kept: &Record,
+    word: &str,
+) -> Result<(), Fail> {
+    let rest = format!(in alloc;
+        " {word} blocks 1 votes 2 floor_slot 100 floor_source 7 floor_target 9\n"
+    )?;
+    assert!(rt; is_line(alloc, state, kept, rest.as_str())?, "{word}");
     Ok(())
+}
+
+#[test]
+fn a_key_has_its_line(rt: HostRuntime) -> Result<(), Fail> {
+    let alloc = rt.alloc();
+    let kept = kept(alloc)?;
+    compare_line(&rt, alloc, KeyState::Active, &kept, "active")?;
+    compare_line(&rt, alloc, KeyState::Closing, &kept, "closing")?;
+    compare_line(&rt, alloc, KeyState::Closed, &kept, "closed")
 }
 
 /// An input of so many bytes, whose call of this number fails.
@@ -67,24 +95,43 @@ fn input_of(alloc: Global, len: usize, failing: Option<u64>) -> Result<MemSource
     Ok(MemSource::new(bytes, calls))
 }
 
-#[test]
-fn an_input_is_read_up_to_its_limit(rt: HostRuntime) -> Result<(), Fail> {
-    let alloc = rt.alloc();
-    for (len, failing, limit, wanted) in [
-        (0, None, 0, Ok(0)),
-        (150_000, None, 150_000, Ok(150_000)),
-        (150_000, None, 149_999, Err(WholeFault::TooLong)),
-        (1, None, 0, Err(WholeFault::TooLong)),
-        (150_000, Some(1), 150_000, Err(WholeFault::Read)),
-        (3, Some(1), 9, Err(WholeFault::Read)),
-        (3, Some(2), u64::MAX, Ok(3)),
-    ] {
-        let mut input = input_of(alloc, len, failing)?;
-        let found = match read_whole(alloc, &mut input, limit) {
-            Ok(bytes) => Ok(bytes.len()),
-            Err(fault) => Err(fault),
-        };
-        assert_eq!(rt; found, wanted, "{len} of {limit}");
+/// An input's length, the number of its call that fails, the limit that it is read up to, and how many bytes are read.
+type Reading = (usize, Option<u64>, u64, Result<usize, WholeFault>);
+
+const READINGS: [Reading; 7] = [
+    (0, None, 0, Ok(0)),
+    (150_000, None, 150_000, Ok(150_000)),
+    (150_000, None, 149_999, Err(WholeFault::TooLong)),
+    (1, None, 0, Err(WholeFault::TooLong)),
+    (150_000, Some(1), 150_000, Err(WholeFault::Read)),
+    (3, Some(1), 9, Err(WholeFault::Read)),
+    (3, Some(2), u64::MAX, Ok(3)),
+];
+
+/// How many bytes of an input are read.
+fn read_len(
+    alloc: Global,
+    len: usize,
+    failing: Option<u64>,
+    limit: u64,
+) -> Result<Result<usize, WholeFault>, Fail> {
+    let mut input = input_of(alloc, len, failing)?;
+    match read_whole(alloc, &mut input, limit) {
+        Ok(bytes) => Ok(Ok(bytes.len())),
+        Err(fault) => Ok(Err(fault)),
+    }
+}
+
+/// Compares how many bytes of each input are read.
+fn read_each<T: Abort>(rt: &T, alloc: Global, rows: &[Reading]) -> Result<(), Fail> {
+    for (len, failing, limit, wanted) in rows {
+        let found = read_len(alloc, *len, *failing, *limit)?;
+        assert_eq!(rt; found, *wanted, "{len} of {limit}");
     }
     Ok(())
+}
+
+#[test]
+fn an_input_is_read_up_to_its_limit(rt: HostRuntime) -> Result<(), Fail> {
+    read_each(&rt, rt.alloc(), &READINGS)
 }

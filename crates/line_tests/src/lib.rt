@@ -1,4 +1,4 @@
-//! Tests of lines: those of a session, of the command line, and of the commands over a journal.
+//! Tests of lines: those of a session, of keys, and of the commands over a journal.
 #![tactic(auto)]
 
 #[cfg(test)]
@@ -7,7 +7,3 @@ mod commands;
 mod key_lines;
 #[cfg(test)]
 mod lines;
-#[cfg(test)]
-mod serve_words;
-#[cfg(test)]
-mod words;

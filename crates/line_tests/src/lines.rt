@@ -4,11 +4,12 @@ use interchange_io::{ReadFault, VersionText};
 use key_custody::{DeskRefusal, KeyStatus, KeyStatuses, Reason};
 use protect_record::Verdict;
 use record_replay::KeyState;
-use session_format::{Answer, Cause, Member, Op, read_request};
+use session_format::{Answer, Cause, Member, Op, Request, read_request};
 use sign_roots::{Domains, Fork};
 use signer_link::SignObject;
 use slash_defs::{BlockEntry, Book, File, Message, VoteEntry};
 use std::alloc::{AllocError, Global};
+use std::process::Abort;
 use std::test::Fail;
 
 const KEY: &str =
@@ -80,6 +81,22 @@ fn message_words(alloc: Global, message: &Message) -> Result<String, AllocError>
     }
 }
 
+/// A message with the kind of its object, in words.
+fn proposal_words(
+    alloc: Global,
+    message: &Message,
+    object: Option<&SignObject>,
+) -> Result<String, AllocError> {
+    let message = message_words(alloc, message)?;
+    let object = match object {
+        None => "",
+        Some(SignObject::Header(_)) => " header",
+        Some(SignObject::Block(_)) => " whole block",
+        Some(SignObject::Attestation(_)) => " attestation",
+    };
+    format!(in alloc; "{}{}", message.as_str(), object)
+}
+
 /// What a request asks for, in words.
 fn op_words(alloc: Global, op: &Op) -> Result<String, AllocError> {
     match op {
@@ -90,16 +107,7 @@ fn op_words(alloc: Global, op: &Op) -> Result<String, AllocError> {
             message,
             object,
             ..
-        } => {
-            let message = message_words(alloc, message)?;
-            let object = match object {
-                None => "",
-                Some(SignObject::Header(_)) => " header",
-                Some(SignObject::Block(_)) => " whole block",
-                Some(SignObject::Attestation(_)) => " attestation",
-            };
-            format!(in alloc; "{}{}", message.as_str(), object)
-        }
+        } => proposal_words(alloc, message, object.as_ref()),
         Op::Import { file, keystores } => {
             let (keystores, _passwords) = keystores.texts();
             let merged = if file.is_some() { " and a file" } else { "" };
@@ -115,16 +123,21 @@ fn op_words(alloc: Global, op: &Op) -> Result<String, AllocError> {
     }
 }
 
-/// The request that a line is, in words, or the member that it is refused for.
-fn outcome(alloc: Global, line: &[u8]) -> Result<String, AllocError> {
-    let request = match read_request(alloc, &domains(), line)? {
-        Ok(request) => request,
-        Err(member) => return format!(in alloc; "no {}", member.name()),
-    };
+/// A request in words.
+fn request_words(alloc: Global, request: &Request) -> Result<String, AllocError> {
     let op = op_words(alloc, &request.op)?;
     match request.epoch {
         None => Ok(op),
         Some(epoch) => format!(in alloc; "{} at {}", op.as_str(), epoch),
+    }
+}
+
+/// The request that a line is, in words, or the member that it is refused for.
+fn outcome(alloc: Global, line: &[u8]) -> Result<String, AllocError> {
+    let read = read_request(alloc, &domains(), line)?;
+    match &read {
+        Ok(request) => request_words(alloc, request),
+        Err(member) => format!(in alloc; "no {}", member.name()),
     }
 }
 
@@ -282,15 +295,36 @@ const OUTCOMES: [(&str, &str); 64] = [
     (r#"{"op":"merge","file":"{}","epoch":7}"#, "no epoch"),
 ];
 
+/// Compares what a line with marks comes to.
+fn compare_outcome<T: Abort>(
+    rt: &T,
+    alloc: Global,
+    marked: &str,
+    wanted: &str,
+) -> Result<(), AllocError> {
+    let line = filled(alloc, marked)?;
+    let found = outcome(alloc, line.as_bytes())?;
+    assert_eq!(rt; found.as_str(), wanted, "at {marked}");
+    Ok(())
+}
+
+/// Compares so what each line comes to.
+fn compare_each<T: Abort>(rt: &T, alloc: Global, rows: &[(&str, &str)]) -> Result<(), AllocError> {
+    for (marked, wanted) in rows {
+        compare_outcome(rt, alloc, marked, wanted)?;
+    }
+    Ok(())
+}
+
 #[test]
 fn each_line_has_its_request(rt: HostRuntime) -> Result<(), Fail> {
-    let alloc = rt.alloc();
-    for (marked, wanted) in OUTCOMES {
-        let line = filled(alloc, marked)?;
-        let found = outcome(alloc, line.as_bytes())?;
-        assert_eq!(rt; found.as_str(), wanted, "at {marked}");
-    }
-    let found = outcome(alloc, b"{\"op\":\"\xff\"}")?;
+    compare_each(&rt, rt.alloc(), &OUTCOMES)?;
+    Ok(())
+}
+
+#[test]
+fn a_line_that_is_no_text_is_no_line(rt: HostRuntime) -> Result<(), Fail> {
+    let found = outcome(rt.alloc(), b"{\"op\":\"\xff\"}")?;
     assert_eq!(rt; found.as_str(), "no line");
     Ok(())
 }
@@ -311,7 +345,20 @@ fn one_key(alloc: Global) -> Result<File, AllocError> {
 
 /// The answer at a place of `LINES`.
 fn answer_at(alloc: Global, place: usize) -> Result<Answer, AllocError> {
-    Ok(match place {
+    match place {
+        5 => exported(alloc),
+        10..=16 => bad_file(alloc, place - 10),
+        18 => bad_answer(alloc),
+        33 => imported(alloc),
+        34 => deleted(alloc),
+        35 => listed(alloc),
+        _ => Ok(plain_at(place)),
+    }
+}
+
+/// The answer at a place of `LINES` that takes no memory.
+fn plain_at(place: usize) -> Answer {
+    match place {
         0 => Answer::Merged { keys: 1 },
         1 => Answer::Active,
         2 => Answer::Signed {
@@ -320,38 +367,42 @@ fn answer_at(alloc: Global, place: usize) -> Result<Answer, AllocError> {
         },
         3 => Answer::Unsigned(Cause::NoKey),
         4 => Answer::Unsigned(Cause::Fault),
-        5 => Answer::Exported(one_key(alloc)?),
         6 => Answer::Pruned,
         7 => Answer::Noted,
         8 => Answer::BadRequest(Member::Header),
         9 => Answer::BadRequest(Member::Inside(phase0_types::Member::ProposerIndex)),
-        10..=16 => Answer::BadFile(fault_at(alloc, place - 10)?),
         17 => Answer::Unsigned(Cause::Denied { status: 412 }),
-        18 => Answer::Unsigned(Cause::BadAnswer {
-            body: Items::from_vec(vec![in alloc; 0xee; 257]?),
-        }),
-        33..=35 => custody_at(alloc, place)?,
         38 => Answer::Compacted {
             before: 96,
             after: 166,
         },
         _ => refusal_at(place),
-    })
+    }
 }
 
-/// What was asked of keys as a whole, at a place of `LINES`.
-fn custody_at(alloc: Global, place: usize) -> Result<Answer, AllocError> {
-    Ok(match place {
-        33 => Answer::Imported {
-            statuses: imported(alloc)?,
-        },
-        34 => Answer::Deleted {
-            statuses: deleted(alloc)?,
-            file: one_key(alloc)?,
-        },
-        _ => Answer::Listed {
-            keys: Items::from_vec(vec![in alloc; PubKey([0x11; 48]); 1]?),
-        },
+/// A file that is written.
+fn exported(alloc: Global) -> Result<Answer, AllocError> {
+    Ok(Answer::Exported(one_key(alloc)?))
+}
+
+/// A file that is refused.
+fn bad_file(alloc: Global, place: usize) -> Result<Answer, AllocError> {
+    Ok(Answer::BadFile(fault_at(alloc, place)?))
+}
+
+/// A service that said 257 bytes.
+fn bad_answer(alloc: Global) -> Result<Answer, AllocError> {
+    let body = vec![in alloc; 0xee; 257]?;
+    Ok(Answer::Unsigned(Cause::BadAnswer {
+        body: Items::from_vec(body),
+    }))
+}
+
+/// Keys that are listed.
+fn listed(alloc: Global) -> Result<Answer, AllocError> {
+    let keys = vec![in alloc; PubKey([0x11; 48]); 1]?;
+    Ok(Answer::Listed {
+        keys: Items::from_vec(keys),
     })
 }
 
@@ -362,18 +413,26 @@ fn service_text(alloc: Global, text: &[u8]) -> Result<KeyStatus, AllocError> {
 }
 
 /// What becomes of keys that are taken in, each kind once.
-fn imported(alloc: Global) -> Result<KeyStatuses, AllocError> {
+fn imported(alloc: Global) -> Result<Answer, AllocError> {
     let mut statuses = Vec::new(alloc);
     statuses.push(KeyStatus::Imported)?;
     statuses.push(KeyStatus::Duplicate)?;
     statuses.push(KeyStatus::Error(Reason::BadKeystore))?;
     statuses.push(KeyStatus::Error(Reason::SignerFault))?;
     statuses.push(service_text(alloc, b"no\xffroom")?)?;
-    Ok(Items::from_vec(statuses))
+    let statuses = Items::from_vec(statuses);
+    Ok(Answer::Imported { statuses })
+}
+
+/// Keys that are given up, with their file.
+fn deleted(alloc: Global) -> Result<Answer, AllocError> {
+    let file = one_key(alloc)?;
+    let statuses = given_up(alloc)?;
+    Ok(Answer::Deleted { statuses, file })
 }
 
 /// What becomes of keys that are given up, each kind once.
-fn deleted(alloc: Global) -> Result<KeyStatuses, AllocError> {
+fn given_up(alloc: Global) -> Result<KeyStatuses, AllocError> {
     let mut statuses = Vec::new(alloc);
     statuses.push(KeyStatus::Deleted)?;
     statuses.push(KeyStatus::NotActive)?;
@@ -491,37 +550,76 @@ const LINES: [&str; 40] = [
     r#"{"answer":"refused","reason":"last_generation"}"#,
 ];
 
-#[test]
-fn each_answer_has_its_line(rt: HostRuntime) -> Result<(), Fail> {
-    let alloc = rt.alloc();
-    for (place, marked) in LINES.iter().enumerate() {
-        let found = answer_at(alloc, place)?.line(alloc)?;
-        let mut wanted = with_bytes(alloc, marked)?;
-        wanted.push('\n')?;
-        assert_eq!(rt; found.as_str(), wanted.as_str());
+/// The line of the answer at a place of `LINES`.
+fn line_at(alloc: Global, place: usize) -> Result<String, AllocError> {
+    let answer = answer_at(alloc, place)?;
+    answer.line(alloc)
+}
+
+/// Compares the line at a place of `LINES`.
+fn compare_line<T: Abort>(
+    rt: &T,
+    alloc: Global,
+    place: usize,
+    marked: &str,
+) -> Result<(), AllocError> {
+    let found = line_at(alloc, place)?;
+    let wanted = with_bytes(alloc, marked)?;
+    let found = found.as_str().strip_suffix('\n').unwrap_or("");
+    assert_eq!(rt; found, wanted.as_str());
+    Ok(())
+}
+
+/// Compares each line.
+fn compare_lines<T: Abort>(rt: &T, alloc: Global, lines: &[&str]) -> Result<(), AllocError> {
+    for (place, marked) in lines.iter().enumerate() {
+        compare_line(rt, alloc, place, marked)?;
     }
     Ok(())
 }
 
 #[test]
-fn a_text_of_the_service_is_cut_after_200_characters(rt: HostRuntime) -> Result<(), Fail> {
-    let alloc = rt.alloc();
-    let mut text = String::new(alloc);
-    let mut wanted = String::from_str(
-        alloc,
-        r#"{"answer":"imported","data":[{"message":"signer: "#,
-    )?;
-    for _ in 0..200 {
-        text.push('é')?;
-        wanted.push('é')?;
+fn each_answer_has_its_line(rt: HostRuntime) -> Result<(), Fail> {
+    compare_lines(&rt, rt.alloc(), &LINES)?;
+    Ok(())
+}
+
+/// So many letters of two bytes each.
+fn letters(alloc: Global, count: u32) -> Result<String, AllocError> {
+    let mut letters = String::new(alloc);
+    for _ in 0..count {
+        letters.push('é')?;
     }
-    text.push('é')?;
-    wanted.push_str(r#"","status":"error"}]}"#)?;
-    wanted.push('\n')?;
-    let mut statuses = Vec::new(alloc);
-    statuses.push(service_text(alloc, text.as_bytes())?)?;
+    Ok(letters)
+}
+
+/// The answer where the service refuses a key with this text.
+fn refused_with(alloc: Global, text: &str) -> Result<Answer, AllocError> {
+    let statuses = vec![in alloc; service_text(alloc, text.as_bytes())?]?;
     let statuses = Items::from_vec(statuses);
-    let found = Answer::Imported { statuses }.line(alloc)?;
+    Ok(Answer::Imported { statuses })
+}
+
+/// Its line where the service says so many letters.
+fn line_of_letters(alloc: Global, count: u32) -> Result<String, AllocError> {
+    let text = letters(alloc, count)?;
+    let answer = refused_with(alloc, text.as_str())?;
+    answer.line(alloc)
+}
+
+/// The line that tells of so many letters.
+fn told_letters(alloc: Global, count: u32) -> Result<String, AllocError> {
+    let text = letters(alloc, count)?;
+    format!(in alloc;
+        "{{\"answer\":\"imported\",\"data\":[{{\"message\":\"signer: {}\",\"status\":\"error\"}}]}}\n",
+        text.as_str()
+    )
+}
+
+#[test]
+fn a_text_of_the_service_is_cut_after_200_characters(rt: HostRuntime) -> Result<(), Fail> {
+    let found = line_of_letters(rt.alloc(), 201)?;
+    let wanted = told_letters(rt.alloc(), 200)?;
     assert_eq!(rt; found.as_str(), wanted.as_str());
     Ok(())
 }

@@ -2,18 +2,12 @@
 #![tactic(auto)]
 
 #[cfg(test)]
-mod compactions;
-#[cfg(test)]
 mod faults;
-#[cfg(test)]
-mod files;
 #[cfg(test)]
 mod objects;
 #[cfg(test)]
 mod services;
 #[cfg(test)]
 mod sessions;
-#[cfg(test)]
-mod signing;
 #[cfg(test)]
 mod watches;

@@ -1,11 +1,10 @@
 //! Sessions without faults: what is read, what is written, and what the desk did.
-use crate::files::FILES;
-use crate::signing::SIGNING;
 use edge_kit::{Disks, MemDisk};
 use run_doubles::{
     Ended, Faults, SESSION, Session, came_to, disks_after, filled, fresh_disks, in_two, no_faults,
     play, ready_signer, run, titled,
 };
+use session_scripts::{FILES, SIGNING};
 use signer_link::{MemSigner, Signer};
 use std::alloc::{AllocError, Global};
 use std::process::Abort;
@@ -127,13 +126,13 @@ fn sessions_with_files_answer_line_by_line(rt: HostRuntime) -> Result<(), Fail> 
 
 /// A session without its last request, and its last request.
 #[derive(Drop)]
-pub struct Halves {
-    pub before: Session,
-    pub last: Session,
+struct Halves {
+    before: Session,
+    last: Session,
 }
 
 /// The halves of the session that these lines are.
-pub fn halves_of(alloc: Global, lines: &str) -> Result<Halves, AllocError> {
+fn halves_of(alloc: Global, lines: &str) -> Result<Halves, AllocError> {
     let (front, end) = in_two(alloc, lines)?;
     let before = Session::read(alloc, front.as_str())?;
     let last = Session::read(alloc, end.as_str())?;
@@ -157,7 +156,7 @@ fn compare_last<T: Abort>(
 }
 
 /// Runs the last request of a session over the disks that the requests before it left, and compares what it came to.
-pub fn play_last<T: Threads + Wait + Sync + Abort>(
+fn play_last<T: Threads + Wait + Sync + Abort>(
     rt: &T,
     alloc: Global,
     shows: &str,

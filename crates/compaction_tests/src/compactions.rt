@@ -1,11 +1,10 @@
 //! Sessions whose journal is compacted.
-use crate::files::FILES;
-use crate::sessions::{ACTIVATE, halves_of, play_each, play_last, play_over, push_filled};
-use crate::signing::SIGNING;
 use edge_kit::{Disks, MemDisk};
 use run_doubles::{
-    Ended, SESSION, Session, disks_after, disks_of, fresh_disks, is_text, play, titled, words_of,
+    Ended, SESSION, Session, came_to, disks_after, disks_of, fresh_disks, in_two, is_text, play,
+    titled, words_of,
 };
+use session_scripts::{FILES, SIGNING};
 use signer_link::MemSigner;
 use std::alloc::{AllocError, Global};
 use std::process::Abort;
@@ -13,6 +12,20 @@ use std::sync::Wait;
 use std::test::Fail;
 use std::thread::Threads;
 use validator_cli::Status;
+
+/// Runs the session of a script over disks, and compares what it came to with what it has to come to.
+fn play_over<T: Threads + Wait + Sync + Abort>(
+    rt: &T,
+    alloc: Global,
+    script: &str,
+    disks: Disks<MemDisk>,
+) -> Result<(), AllocError> {
+    let (shows, lines) = titled(script);
+    let session = Session::read(alloc, lines)?;
+    let ended = play(rt, alloc, SESSION, disks, session.input.as_str())?;
+    assert!(rt; came_to(alloc, &ended, &session)?, "{shows}");
+    Ok(())
+}
 
 const TWICE: &str = r#"a key without entries is kept, and each file follows the other
 > {"op":"activate","pubkey":"<K1>"}
@@ -31,7 +44,8 @@ const TWICE: &str = r#"a key without entries is kept, and each file follows the 
 
 #[test]
 fn a_session_compacts_its_journal(rt: HostRuntime) -> Result<(), Fail> {
-    play_each(&rt, rt.alloc(), SESSION, &[TWICE])?;
+    let alloc = rt.alloc();
+    play_over(&rt, alloc, TWICE, fresh_disks(alloc)?)?;
     Ok(())
 }
 
@@ -98,19 +112,44 @@ fn compare_beside<T: Abort>(
     look_beside(rt, alloc, shows, events.as_str(), count, wanted)
 }
 
-/// Runs a session over empty disks with a compaction after each request, compares what it came to, and gives the disks
-/// that it leaves.
+/// Runs the session of these lines over empty disks with a compaction after each request, compares what it came to, and
+/// gives the disks that it leaves.
 fn play_beside<T: Threads + Wait + Sync + Abort>(
     rt: &T,
     alloc: Global,
     shows: &str,
-    session: &Session,
+    lines: &str,
 ) -> Result<Disks<MemDisk>, AllocError> {
+    let session = Session::read(alloc, lines)?;
     let input = compacting(alloc, session.input.as_str())?;
-    let disks = fresh_disks(alloc)?;
-    let ended = play(rt, alloc, SESSION, disks, input.as_str())?;
-    compare_beside(rt, alloc, shows, &ended, session)?;
+    let ended = play(rt, alloc, SESSION, fresh_disks(alloc)?, input.as_str())?;
+    compare_beside(rt, alloc, shows, &ended, &session)?;
     disks_after(alloc, &ended)
+}
+
+/// Whether a run came to the last request of a session: grants and moments are counted anew.
+fn came_to_last(
+    alloc: Global,
+    ended: &Ended<MemSigner>,
+    last: &Session,
+) -> Result<bool, AllocError> {
+    let is_written = ended.wrote(alloc, last.output.as_str())?;
+    let noted = last.events.as_str().lines().count();
+    Ok(ended.status == Status::Done && is_written && ended.events.len() == noted)
+}
+
+/// Runs the last request of a session over the disks that the requests before it left, and compares what it came to.
+fn play_last<T: Threads + Wait + Sync + Abort>(
+    rt: &T,
+    alloc: Global,
+    shows: &str,
+    lines: &str,
+    disks: Disks<MemDisk>,
+) -> Result<(), AllocError> {
+    let last = Session::read(alloc, lines)?;
+    let ended = play(rt, alloc, SESSION, disks, last.input.as_str())?;
+    assert!(rt; came_to_last(alloc, &ended, &last)?, "{shows}");
+    Ok(())
 }
 
 /// Runs the session of a script but for its last request with a compaction after each request, and the last request
@@ -122,9 +161,9 @@ fn play_compacting<T: Threads + Wait + Sync + Abort>(
     script: &str,
 ) -> Result<(), AllocError> {
     let (shows, lines) = titled(script);
-    let halves = halves_of(alloc, lines)?;
-    let disks = play_beside(rt, alloc, shows, &halves.before)?;
-    play_last(rt, alloc, shows, disks, &halves.last)
+    let (front, end) = in_two(alloc, lines)?;
+    let disks = play_beside(rt, alloc, shows, front.as_str())?;
+    play_last(rt, alloc, shows, end.as_str(), disks)
 }
 
 /// Runs each session so.
@@ -158,7 +197,8 @@ fn last_file(alloc: Global) -> Result<Vec<u8>, AllocError> {
     Ok(file)
 }
 
-const LAST: &str = r#"> {"op":"compact"}
+const LAST: &str = r#"no generation is left
+> {"op":"compact"}
 < {"answer":"refused","reason":"last_generation"}
 > {"op":"activate","pubkey":"<K1>"}
 < {"answer":"active"}
@@ -167,19 +207,15 @@ const LAST: &str = r#"> {"op":"compact"}
 #[test]
 fn behind_the_last_generation_there_is_none(rt: HostRuntime) -> Result<(), Fail> {
     let alloc = rt.alloc();
-    let session = Session::read(alloc, LAST)?;
-    let file = last_file(alloc)?;
-    let disks = disks_of(alloc, file, Vec::new(alloc))?;
-    play_over(
-        &rt,
-        alloc,
-        "no generation is left",
-        SESSION,
-        disks,
-        &session,
-    )?;
+    let disks = disks_of(alloc, last_file(alloc)?, Vec::new(alloc))?;
+    play_over(&rt, alloc, LAST, disks)?;
     Ok(())
 }
+
+/// Requests that make K1 active and compact the journal.
+const INPUT: &str = r#"{"op":"activate","pubkey":"<K1>"}
+{"op":"compact"}
+"#;
 
 /// Empty disks, of which the second fails at this call.
 fn failing_disks(alloc: Global, failing: u64) -> Result<Disks<MemDisk>, AllocError> {
@@ -194,10 +230,9 @@ fn fail_at<T: Threads + Wait + Sync + Abort>(
     rt: &T,
     alloc: Global,
     failing: u64,
-    input: &str,
 ) -> Result<Disks<MemDisk>, AllocError> {
     let disks = failing_disks(alloc, failing)?;
-    let ended = play(rt, alloc, SESSION, disks, input)?;
+    let ended = play(rt, alloc, SESSION, disks, INPUT)?;
     assert!(rt; ended.status != Status::Done, "call {failing}");
     disks_after(alloc, &ended)
 }
@@ -208,20 +243,11 @@ fn go_on<T: Threads + Wait + Sync + Abort>(
     alloc: Global,
     failing: u64,
     disks: Disks<MemDisk>,
-    input: &str,
 ) -> Result<(), AllocError> {
-    let again = play(rt, alloc, SESSION, disks, input)?;
+    let again = play(rt, alloc, SESSION, disks, INPUT)?;
     assert_eq!(rt; again.status, Status::Done, "call {failing}");
     assert_eq!(rt; again.events.len(), 1, "call {failing}");
     Ok(())
-}
-
-/// Requests that make K1 active and compact the journal.
-fn activate_and_compact(alloc: Global) -> Result<String, AllocError> {
-    let mut input = String::new(alloc);
-    push_filled(alloc, ACTIVATE, &mut input)?;
-    input.push_str("{\"op\":\"compact\"}\n")?;
-    Ok(input)
 }
 
 /// The other file is read when the journal is opened; a compaction then syncs, measures and reads it before it
@@ -230,10 +256,9 @@ fn activate_and_compact(alloc: Global) -> Result<String, AllocError> {
 #[test]
 fn a_fault_of_the_other_disk_is_told_and_nothing_is_lost(rt: HostRuntime) -> Result<(), Fail> {
     let alloc = rt.alloc();
-    let input = activate_and_compact(alloc)?;
     for failing in 3..13u64 {
-        let disks = fail_at(&rt, alloc, failing, input.as_str())?;
-        go_on(&rt, alloc, failing, disks, input.as_str())?;
+        let disks = fail_at(&rt, alloc, failing)?;
+        go_on(&rt, alloc, failing, disks)?;
     }
     Ok(())
 }

@@ -1,6 +1,6 @@
 //! Sessions of blocks and votes.
 
-/// Scripts: what each shows in its first line, and then lines as `Session::read` has them.
+/// Scripts: what each shows in its first line, and then lines as `Session::read` of `run_doubles` has them.
 pub const SIGNING: [&str; 15] = [
     r#"the same block is signed again with the same signature
 > {"op":"activate","pubkey":"<K1>"}
