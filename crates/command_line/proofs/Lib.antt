@@ -1,4 +1,3 @@
-pub mod TableLemmas
 pub mod UniformLemmas
 pub mod PlanLemmas
 pub mod ServingLemmas

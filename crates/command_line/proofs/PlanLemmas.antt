@@ -8,7 +8,7 @@ use Rattle.clap.specs.Walk.{answers_to, nothing_held, walk}
 use Rattle.clap.specs.declared.error.kind.ErrorKind.{ErrorKind}
 use Rattle.clap.proofs.OnLiterals.{clap_on_literals}
 use Rattle.command_line.specs.Plans.{Asked, asked_by, is_display, nothing, shown}
-use Rattle.command_line.specs.Table.{table}
+use Rattle.command_table.specs.Table.{table}
 use Rattle.command_line.proofs.UniformLemmas.{AreAll, IsUniform, level_uniform, none}
 
 -- clap's clauses speak of the table

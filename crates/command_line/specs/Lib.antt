@@ -1,4 +1,3 @@
-pub mod Table
 pub mod Forks
 pub mod Options
 pub mod Serving

@@ -9,7 +9,7 @@ use Rattle.clap.specs.declared.error.kind.ErrorKind.{ErrorKind}
 use Rattle.clap.specs.declared.error.kind.ErrorKind.TheVariants.{DisplayHelp, DisplayVersion}
 use Rattle.command_line.specs.Options.{clients_in, fork_in, genesis_in, journal_in, number_in, path_at, steps_in, watch_in}
 use Rattle.command_line.specs.Serving.{serve_options_in}
-use Rattle.command_line.specs.Table.{table}
+use Rattle.command_table.specs.Table.{table}
 use Rattle.command_line.specs.declared.planned.Plan.{Plan}
 use Rattle.command_line.specs.declared.planned.Plan.TheVariants.{Session, Serve, Merge, Show, Rehearse, Shown}
 use Rattle.command_line.specs.declared.planned.Usage.{Usage}

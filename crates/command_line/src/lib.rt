@@ -1,7 +1,6 @@
 //! The command line: what the words ask the program to do, by `clap`.
 #![tactic(auto)]
 
-mod command;
 mod fault;
 mod fork_text;
 mod lane_count;

@@ -4,7 +4,6 @@ ghost use Rattle.clap.specs.Words.{found_of, kind_of, rows_of, subcommand_rows_o
 ghost use Rattle.clap.specs.declared.error.kind.ErrorKind.TheVariants.{OutOfMemory};
 ghost use Rattle.command_line.specs.Plans.{asked_at, asked_in, asked_of, help_on, is_display, merge_in, nothing, rehearse_in, session_by, session_in, session_with, show_in, shown, taken_as};
 
-use crate::command::{help, merge, program, rehearse, serve, session, show};
 use crate::fault::{Fault, refused};
 use crate::options::{
     clients_of, fork_of, genesis_of, journal_of, number_of, steps_of, text_of, watch_of,
@@ -15,6 +14,7 @@ use crate::rehearsal_size::RehearsalSize;
 use crate::serving::serve_plan;
 use clap::error::ErrorKind;
 use clap::{ArgMatches, Command, Error};
+use command_table::{help, merge, program, rehearse, serve, session, show};
 use edge_kit::Root;
 use phase0_types::Fork;
 use service_url::ServiceUrl;

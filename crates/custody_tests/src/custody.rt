@@ -1,7 +1,9 @@
 //! Keys that are taken in, listed and given up.
-use crate::stages::{GENESIS, K1, K2, K3, K4, Stage, compare_statuses, stage_of_three, stage_over};
+use crate::stages::{
+    GENESIS, K1, K2, K3, K4, Stage, compare_statuses, delete, stage_of_three, stage_over,
+};
 use edge_kit::{Items, PubKey, Root};
-use key_custody::{DeskRefusal, ImportEnd, delete_keys, import_keys, key_of_keystore, list_keys};
+use key_custody::{DeskRefusal, ImportEnd, import_keys, key_of_keystore, list_keys};
 use slash_defs::File;
 use std::alloc::{AllocError, Global};
 use std::process::Abort;
@@ -133,6 +135,24 @@ fn to_bring(alloc: Global, keystores: &[Keystore]) -> Result<Brought, AllocError
     })
 }
 
+/// Takes keys in.
+fn import(alloc: Global, brought: &Brought, stage: &mut Stage) -> Result<ImportEnd, AllocError> {
+    let keystores = brought.keystores.as_slice();
+    let passwords = brought.passwords.as_slice();
+    if passwords.len() != keystores.len() {
+        return Err(AllocError);
+    }
+    import_keys(
+        alloc,
+        None,
+        keystores,
+        passwords,
+        7,
+        &mut stage.desk,
+        &mut stage.signer,
+    )
+}
+
 /// Takes keys in, and compares what becomes of them.
 fn take_in<T: Abort>(
     rt: &T,
@@ -141,20 +161,7 @@ fn take_in<T: Abort>(
     stage: &mut Stage,
     statuses: &[&str],
 ) -> Result<(), AllocError> {
-    let keystores = brought.keystores.as_slice();
-    let passwords = brought.passwords.as_slice();
-    if passwords.len() != keystores.len() {
-        return Err(AllocError);
-    }
-    match import_keys(
-        alloc,
-        None,
-        keystores,
-        passwords,
-        7,
-        &mut stage.desk,
-        &mut stage.signer,
-    )? {
+    match import(alloc, brought, stage)? {
         ImportEnd::Treated(treated) => compare_statuses(rt, treated.as_slice(), statuses),
         ImportEnd::MergeRefused(_) => rt.panic("merge refused"),
     }
@@ -227,16 +234,14 @@ fn give_up<T: Abort>(
     stage: &mut Stage,
     statuses: &[&str],
 ) -> Result<(), AllocError> {
-    let keys = [K1, K2, K3, K4, K1];
-    let deletion = delete_keys(alloc, &keys, &mut stage.desk, &mut stage.signer)?;
+    let deletion = delete(alloc, stage, &[K1, K2, K3, K4, K1])?;
     compare_statuses(rt, deletion.statuses.as_slice(), statuses);
     Ok(())
 }
 
 /// Gives the keys up that were given up before, and counts those in the file.
 fn give_up_again<T: Abort>(rt: &T, alloc: Global, stage: &mut Stage) -> Result<(), AllocError> {
-    let keys = [K1, K2, K3, K4];
-    let deletion = delete_keys(alloc, &keys, &mut stage.desk, &mut stage.signer)?;
+    let deletion = delete(alloc, stage, &[K1, K2, K3, K4])?;
     assert_eq!(rt; deletion.file.books.len(), 3);
     Ok(())
 }
@@ -269,13 +274,13 @@ const DIFFERS: DeskRefusal = DeskRefusal::GenesisDiffers {
     given: GIVEN,
 };
 
-/// Takes no key in with a file of another chain, and gives why it was not merged, if it was not.
-fn merge_refusal(alloc: Global, stage: &mut Stage) -> Result<Option<DeskRefusal>, AllocError> {
+/// Takes no key in with a file of another chain.
+fn import_file(alloc: Global, stage: &mut Stage) -> Result<ImportEnd, AllocError> {
     let file = File {
         genesis: GIVEN,
         books: Items::new(alloc),
     };
-    match import_keys(
+    import_keys(
         alloc,
         Some(file),
         &[],
@@ -283,17 +288,31 @@ fn merge_refusal(alloc: Global, stage: &mut Stage) -> Result<Option<DeskRefusal>
         7,
         &mut stage.desk,
         &mut stage.signer,
-    )? {
+    )
+}
+
+/// Takes no key in with a file of another chain, and gives why it was not merged, if it was not.
+fn merge_refusal(alloc: Global, stage: &mut Stage) -> Result<Option<DeskRefusal>, AllocError> {
+    match import_file(alloc, stage)? {
         ImportEnd::Treated(_) => Ok(None),
         ImportEnd::MergeRefused(refusal) => Ok(Some(refusal)),
     }
 }
 
+/// Why a file of another chain is not merged at a desk without keys, if it is not.
+fn refusal_at_empty<T: Abort>(rt: &T, alloc: Global) -> Result<Option<DeskRefusal>, AllocError> {
+    let mut stage = stage_over(rt, alloc, &[], None)?;
+    merge_refusal(alloc, &mut stage)
+}
+
+fn compare_refusals<T: Abort>(rt: &T, found: Option<DeskRefusal>, wanted: Option<DeskRefusal>) {
+    assert_eq!(rt; found, wanted);
+}
+
 #[test]
 fn a_refused_merge_ends_the_import(rt: HostRuntime) -> Result<(), Fail> {
-    let mut stage = stage_over(&rt, rt.alloc(), &[], None)?;
-    let refusal = merge_refusal(rt.alloc(), &mut stage)?;
-    assert_eq!(rt; refusal, Some(DIFFERS));
+    let refusal = refusal_at_empty(&rt, rt.alloc())?;
+    compare_refusals(&rt, refusal, Some(DIFFERS));
     Ok(())
 }
 
@@ -339,18 +358,30 @@ fn key_in(alloc: Global, keystore: &Keystore) -> Result<Option<PubKey>, AllocErr
     key_of_keystore(alloc, text.as_str())
 }
 
+fn look_at_member<T: Abort>(rt: &T, alloc: Global, member: &Member) -> Result<(), AllocError> {
+    let mark = member.keystore.mark;
+    let key = key_in(alloc, &member.keystore)?;
+    assert_eq!(rt; key, member.key, "{mark}");
+    Ok(())
+}
+
 fn look_at_members<T: Abort>(rt: &T, alloc: Global) -> Result<(), AllocError> {
     for member in &MEMBERS {
-        let mark = member.keystore.mark;
-        assert_eq!(rt; key_in(alloc, &member.keystore)?, member.key, "{mark}");
+        look_at_member(rt, alloc, member)?;
     }
     Ok(())
 }
 
-/// Compares that texts are no keystores with a key.
+/// Compares that a text is no keystore with a key.
+fn look_at_other<T: Abort>(rt: &T, alloc: Global, text: &str) -> Result<(), AllocError> {
+    let key = key_of_keystore(alloc, text)?;
+    assert_eq!(rt; key, None, "{text}");
+    Ok(())
+}
+
 fn look_at_others<T: Abort>(rt: &T, alloc: Global, texts: &[&str]) -> Result<(), AllocError> {
     for text in texts {
-        assert_eq!(rt; key_of_keystore(alloc, text)?, None, "{text}");
+        look_at_other(rt, alloc, text)?;
     }
     Ok(())
 }

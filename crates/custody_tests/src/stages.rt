@@ -1,7 +1,7 @@
 //! A desk and a signer, and what becomes of keys in words.
 use check_sign::{Desk, DeskReply};
 use edge_kit::{Disks, MemDisk, PubKey, Root};
-use key_custody::{DeskRefusal, KeyStatus, Reason};
+use key_custody::{Deletion, DeskRefusal, KeyStatus, Reason, delete_keys};
 use signer_link::MemSigner;
 use std::alloc::{AllocError, Global};
 use std::process::Abort;
@@ -53,11 +53,19 @@ fn refusal_word(refusal: &DeskRefusal) -> &'static str {
     }
 }
 
+fn compare_counts<T: Abort>(rt: &T, found: usize, wanted: usize) {
+    assert_eq!(rt; found, wanted);
+}
+
+fn compare_status<T: Abort>(rt: &T, status: &KeyStatus, wanted: &str) {
+    assert_eq!(rt; word(status), wanted);
+}
+
 /// Compares what became of keys with what is expected.
 pub fn compare_statuses<T: Abort>(rt: &T, statuses: &[KeyStatus], wanted: &[&str]) {
-    assert_eq!(rt; statuses.len(), wanted.len());
+    compare_counts(rt, statuses.len(), wanted.len());
     for (status, wanted) in statuses.iter().zip(wanted) {
-        assert_eq!(rt; word(status), *wanted);
+        compare_status(rt, status, wanted);
     }
 }
 
@@ -104,6 +112,11 @@ pub fn stage_over<T: Abort>(
     let desk = desk_over(rt, alloc, bytes, stop)?;
     let signer = MemSigner::new(alloc, Vec::new(alloc), Vec::new(alloc));
     Ok(Stage { desk, signer })
+}
+
+/// Deletes keys.
+pub fn delete(alloc: Global, stage: &mut Stage, keys: &[PubKey]) -> Result<Deletion, AllocError> {
+    delete_keys(alloc, keys, &mut stage.desk, &mut stage.signer)
 }
 
 /// Makes a key active.

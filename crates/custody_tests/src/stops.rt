@@ -1,8 +1,7 @@
 //! A deletion that is stopped at a call of the disk, and sent again once the desk is opened over what was left.
-use crate::stages::{K1, Stage, activate, compare_statuses, desk_over, stage_over};
+use crate::stages::{K1, Stage, activate, compare_statuses, delete, desk_over, stage_over};
 use check_sign::{Desk, DeskReply, Outcome};
 use edge_kit::{Crash, Disks, MemDisk, Root};
-use key_custody::delete_keys;
 use slash_defs::{File, Message, VoteEntry};
 use std::alloc::{AllocError, Global};
 use std::process::Abort;
@@ -60,13 +59,13 @@ fn has_the_vote(file: &File) -> bool {
 }
 
 /// Deletes the key, and compares what became of it; whether the file has its vote.
-fn delete<T: Abort>(
+fn deletes_so<T: Abort>(
     rt: &T,
     alloc: Global,
     stage: &mut Stage,
     wanted: &str,
 ) -> Result<bool, AllocError> {
-    let deletion = delete_keys(alloc, &[K1], &mut stage.desk, &mut stage.signer)?;
+    let deletion = delete(alloc, stage, &[K1])?;
     compare_statuses(rt, deletion.statuses.as_slice(), &[wanted]);
     Ok(has_the_vote(&deletion.file))
 }
@@ -80,7 +79,7 @@ fn stopped<T: Abort>(
     crash: Crash,
 ) -> Result<Vec<u8>, AllocError> {
     let mut stage = stage_over(rt, alloc, bytes, Some(stop))?;
-    let _ = delete(rt, alloc, &mut stage, "disk")?;
+    let _ = deletes_so(rt, alloc, &mut stage, "disk")?;
     disk_of(stage.desk).image(alloc, crash)
 }
 
@@ -92,7 +91,7 @@ fn compare_again<T: Abort>(
     wanted: &str,
 ) -> Result<(), AllocError> {
     let mut stage = stage_over(rt, alloc, image, None)?;
-    let has_vote = delete(rt, alloc, &mut stage, wanted)?;
+    let has_vote = deletes_so(rt, alloc, &mut stage, wanted)?;
     assert!(rt; has_vote);
     Ok(())
 }

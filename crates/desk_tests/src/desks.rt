@@ -18,12 +18,26 @@ pub const RA: Root = Root([0xaa; 32]);
 
 const RB: Root = Root([0xbb; 32]);
 
+pub const CRASHES: [Crash; 3] = [Crash::Written, Crash::Before, Crash::Torn];
+
+/// A disk that has these bytes and stops at a call, if one is given.
+pub fn disk_with(alloc: Global, bytes: &[u8], stop: Option<u64>) -> Result<MemDisk, AllocError> {
+    let bytes = bytes.to_vec(alloc)?;
+    MemDisk::new(alloc, bytes, Vec::new(alloc), stop)
+}
+
 /// Disks of which the first has these bytes and stops at a call, and the second is empty.
 fn disks_of(alloc: Global, bytes: &[u8], stop: Option<u64>) -> Result<Disks<MemDisk>, AllocError> {
-    Ok(Disks {
-        first: MemDisk::new(alloc, bytes.to_vec(alloc)?, Vec::new(alloc), stop)?,
-        second: MemDisk::new(alloc, Vec::new(alloc), Vec::new(alloc), None)?,
-    })
+    let first = disk_with(alloc, bytes, stop)?;
+    let second = disk_with(alloc, &[], None)?;
+    Ok(Disks { first, second })
+}
+
+/// The first disk of a desk that ends.
+pub fn first_disk(desk: Desk<MemDisk>) -> MemDisk {
+    let (disks, _) = desk.end();
+    let Disks { first, second: _ } = disks;
+    first
 }
 
 /// Opens a desk.
@@ -68,14 +82,25 @@ pub fn vote(source: u64, target: u64, root: Root) -> Message {
     }
 }
 
+/// Asks for leave to sign a message. The error is another reply.
+fn proposed(desk: &mut Desk<MemDisk>, message: Message) -> Result<Grant, DeskReply>
+    ensures stands { StandsForOne desk.old.contents → StandsForOne desk.new.contents }
+    ensures is_open { IfOk result (λ grant. Contains desk.new.contents.grants grant) }
+{
+    match desk.propose(KEY, message, 0) {
+        DeskReply::Granted(grant) => Ok(grant),
+        reply => Err(reply),
+    }
+}
+
 /// Asks for leave to sign a message, which is given.
 pub fn granted<T: Abort>(rt: &T, desk: &mut Desk<MemDisk>, message: Message) -> Grant
     ensures stands { StandsForOne desk.old.contents → StandsForOne desk.new.contents }
     ensures is_open { Contains desk.new.contents.grants result }
 {
-    match desk.propose(KEY, message, 0) {
-        DeskReply::Granted(grant) => grant,
-        _ => rt.panic("not granted"),
+    match proposed(desk, message) {
+        Ok(grant) => grant,
+        Err(_) => rt.panic("not granted"),
     }
 }
 
@@ -126,47 +151,86 @@ fn closed<T: Abort>(rt: &T, desk: &mut Desk<MemDisk>) -> Book {
 }
 
 /// The first of the kept keys with how it stands.
-pub fn first_standing<T: Abort>(rt: &T, desk: &mut Desk<MemDisk>) -> Option<(PubKey, KeyStanding)> {
+fn first_standing<T: Abort>(rt: &T, desk: &mut Desk<MemDisk>) -> Option<(PubKey, KeyStanding)> {
     match desk.keys() {
         DeskReply::Keys(listed) => listed.as_slice().first().copied(),
         _ => rt.panic("no keys"),
     }
 }
 
-#[test]
-fn a_key_is_closed_once_no_grant_of_it_is_open(rt: HostRuntime) -> Result<(), Fail> {
-    let alloc = rt.alloc();
-    let mut desk = begun(&rt, alloc)?;
-    activate(&rt, &mut desk);
-    let grant = granted(&rt, &mut desk, vote(0, 1, RA));
-    begin_close(&rt, &mut desk, &grant);
-    assert_eq!(rt; busy(&rt, &mut desk, &grant), 1);
-    refused_as_closing(&rt, &mut desk, &grant, vote(1, 2, RA));
+/// Whether the key is the first of the kept keys, and stands so.
+pub fn stands_so<T: Abort>(rt: &T, desk: &mut Desk<MemDisk>, wanted: KeyStanding) -> bool {
+    first_standing(rt, desk) == Some((KEY, wanted))
+}
+
+/// Begins to close the key beside a grant, which keeps it from being closed.
+fn keep_closing<T: Abort>(rt: &T, desk: &mut Desk<MemDisk>, grant: &Grant)
+    requires stands { StandsForOne desk.old.contents }
+    requires is_open { Contains desk.old.contents.grants grant.now }
+    ensures is_open { Contains desk.new.contents.grants grant.now }
+{
+    begin_close(rt, desk, grant);
+    assert_eq!(rt; busy(rt, desk, grant), 1);
+    refused_as_closing(rt, desk, grant, vote(1, 2, RA));
+}
+
+/// Closes the key once its grant is spent, and gives what is handed over.
+fn closed_once_spent<T: Abort>(rt: &T, desk: &mut Desk<MemDisk>) -> Book
+    requires { StandsForOne desk.old.contents }
+{
+    let grant = granted(rt, desk, vote(0, 1, RA));
+    keep_closing(rt, desk, &grant);
     desk.settle(grant, Outcome::Dropped);
-    let book = closed(&rt, &mut desk);
-    let signed = VoteEntry {
-        source: 0,
-        target: 1,
-        root: Some(RA),
-    };
+    closed(rt, desk)
+}
+
+/// What the key's grant was for.
+const SIGNED: VoteEntry = VoteEntry {
+    source: 0,
+    target: 1,
+    root: Some(RA),
+};
+
+/// Looks whether what is handed over is the vote that was granted.
+fn look_at_book<T: Abort>(rt: &T, book: &Book) {
     assert!(rt; book.blocks.is_empty());
-    assert!(rt; book.votes.as_slice() == [signed].as_slice());
-    let (disks, _) = desk.end();
-    let disks = disks_of(alloc, disks.first.bytes(), None)?;
-    let mut later = opened(&rt, alloc, disks);
-    let standing = first_standing(&rt, &mut later);
-    assert!(rt; standing == Some((KEY, KeyStanding::Closed)));
+    assert!(rt; book.votes.as_slice() == [SIGNED].as_slice());
+}
+
+/// The disk of a desk at which the key is closed.
+fn closed_disk<T: Abort>(rt: &T, alloc: Global) -> Result<MemDisk, AllocError> {
+    let mut desk = begun(rt, alloc)?;
+    activate(rt, &mut desk);
+    look_at_book(rt, &closed_once_spent(rt, &mut desk));
+    Ok(first_disk(desk))
+}
+
+/// Opens a desk over a disk of these bytes, at which the key is closed.
+fn look_at_closed<T: Abort>(rt: &T, alloc: Global, bytes: &[u8]) -> Result<(), AllocError> {
+    let mut later = opened(rt, alloc, disks_of(alloc, bytes, None)?);
+    assert!(rt; stands_so(rt, &mut later, KeyStanding::Closed));
     Ok(())
 }
 
-/// Opens a desk over empty disks at epoch 3, with a watch, and makes the key active at epoch 5.
-fn watched<T: Abort>(rt: &T, alloc: Global) -> Result<Desk<MemDisk>, AllocError> {
-    let mut desk = match Desk::open(alloc, disks_of(alloc, &[], None)?, GENESIS, true, 3) {
-        Ok(desk) => desk,
+#[test]
+fn a_key_is_closed_once_no_grant_of_it_is_open(rt: HostRuntime) -> Result<(), Fail> {
+    let disk = closed_disk(&rt, rt.alloc())?;
+    Ok(look_at_closed(&rt, rt.alloc(), disk.bytes())?)
+}
+
+/// Opens a desk over empty disks at epoch 3, with a watch.
+fn watching<T: Abort>(rt: &T, alloc: Global) -> Result<Desk<MemDisk>, AllocError> {
+    let disks = disks_of(alloc, &[], None)?;
+    match Desk::open(alloc, disks, GENESIS, true, 3) {
+        Ok(desk) => Ok(desk),
         Err(_) => rt.panic("not opened"),
-    };
+    }
+}
+
+/// Makes the key active at epoch 5.
+fn activate_watched<T: Abort>(rt: &T, desk: &mut Desk<MemDisk>) {
     match desk.activate(KEY, 5) {
-        DeskReply::Active => Ok(desk),
+        DeskReply::Active => {}
         _ => rt.panic("not activated"),
     }
 }
@@ -197,25 +261,48 @@ fn allowed<T: Abort>(rt: &T, desk: &mut Desk<MemDisk>) -> Grant
     }
 }
 
+/// Tells of the epoch 7, of which and of the epoch 6 an answer is missing.
+fn tell_of_second<T: Abort>(rt: &T, desk: &mut Desk<MemDisk>) {
+    assert_eq!(rt; lacking(rt, desk), (6, Some(7)));
+    tell(rt, desk, 7);
+    assert_eq!(rt; lacking(rt, desk), (6, None));
+}
+
+/// How the key stands while an answer of the epoch 6 is missing.
+const MISSING: KeyStanding = KeyStanding::Active(WatchState::Missing {
+    first: 6,
+    second: None,
+});
+
+const ALLOWED: KeyStanding = KeyStanding::Active(WatchState::Allowed);
+
+/// Tells of the epoch 6, the last of which an answer is missing.
+fn tell_of_first<T: Abort>(rt: &T, desk: &mut Desk<MemDisk>) {
+    assert!(rt; stands_so(rt, desk, MISSING));
+    tell(rt, desk, 6);
+    assert!(rt; stands_so(rt, desk, ALLOWED));
+}
+
+/// Spends leave to sign what is no block and no vote.
+fn spend_leave<T: Abort>(rt: &T, desk: &mut Desk<MemDisk>) {
+    let grant = allowed(rt, desk);
+    desk.settle(grant, Outcome::Sent);
+}
+
+/// How much a desk did since it was opened.
+fn event_count(desk: Desk<MemDisk>) -> usize {
+    let (_, events) = desk.end();
+    events.len()
+}
+
 #[test]
 fn leave_for_what_is_no_message_waits_for_the_watch(rt: HostRuntime) -> Result<(), Fail> {
-    let mut desk = watched(&rt, rt.alloc())?;
-    assert_eq!(rt; lacking(&rt, &mut desk), (6, Some(7)));
-    tell(&rt, &mut desk, 7);
-    assert_eq!(rt; lacking(&rt, &mut desk), (6, None));
-    let missing = WatchState::Missing {
-        first: 6,
-        second: None,
-    };
-    let standing = first_standing(&rt, &mut desk);
-    assert!(rt; standing == Some((KEY, KeyStanding::Active(missing))));
-    tell(&rt, &mut desk, 6);
-    let standing = first_standing(&rt, &mut desk);
-    assert!(rt; standing == Some((KEY, KeyStanding::Active(WatchState::Allowed))));
-    let grant = allowed(&rt, &mut desk);
-    desk.settle(grant, Outcome::Sent);
-    let (_, events) = desk.end();
-    assert_eq!(rt; events.len(), 5);
+    let mut desk = watching(&rt, rt.alloc())?;
+    activate_watched(&rt, &mut desk);
+    tell_of_second(&rt, &mut desk);
+    tell_of_first(&rt, &mut desk);
+    spend_leave(&rt, &mut desk);
+    assert_eq!(rt; event_count(desk), 5);
     Ok(())
 }
 
@@ -223,69 +310,108 @@ fn leave_for_what_is_no_message_waits_for_the_watch(rt: HostRuntime) -> Result<(
 fn active_disk<T: Abort>(rt: &T, alloc: Global) -> Result<MemDisk, AllocError> {
     let mut desk = begun(rt, alloc)?;
     activate(rt, &mut desk);
-    let (disks, _) = desk.end();
-    let Disks { first, second: _ } = disks;
-    Ok(first)
+    Ok(first_disk(desk))
 }
 
 /// How many calls of the disk the opening of a desk makes.
 fn opening_calls<T: Abort>(rt: &T, alloc: Global, bytes: &[u8]) -> Result<u64, AllocError> {
-    let disks = disks_of(alloc, bytes, None)?;
-    let (disks, _) = opened(rt, alloc, disks).end();
-    Ok(disks.first.calls())
+    let desk = opened(rt, alloc, disks_of(alloc, bytes, None)?);
+    Ok(first_disk(desk).calls())
 }
 
-/// The disk at which a vote is proposed, and which stops at a call.
-fn stopped<T: Abort>(
-    rt: &T,
-    alloc: Global,
-    bytes: &[u8],
-    stop: u64,
-) -> Result<MemDisk, AllocError> {
-    let mut desk = opened(rt, alloc, disks_of(alloc, bytes, Some(stop))?);
+/// Proposes a vote at a desk whose disk stops.
+fn propose_in_vain<T: Abort>(rt: &T, desk: &mut Desk<MemDisk>) {
     match desk.propose(KEY, vote(1, 2, RA), 0) {
         DeskReply::Disk => {}
         _ => rt.panic("the disk did not stop"),
     }
-    let (disks, _) = desk.end();
-    let Disks { first, second: _ } = disks;
-    Ok(first)
+}
+
+/// What a crash leaves of the disk at which a vote is proposed, and which stops at a call.
+fn left_by_stop<T: Abort>(
+    rt: &T,
+    alloc: Global,
+    bytes: &[u8],
+    stop: u64,
+    crash: Crash,
+) -> Result<Vec<u8>, AllocError> {
+    let mut desk = opened(rt, alloc, disks_of(alloc, bytes, Some(stop))?);
+    propose_in_vain(rt, &mut desk);
+    first_disk(desk).image(alloc, crash)
+}
+
+/// Whether a desk grants another vote of the target, and not for a double vote.
+fn takes_another<T: Abort>(rt: &T, desk: &mut Desk<MemDisk>) -> bool {
+    match proposed(desk, vote(1, 2, RB)) {
+        Ok(grant) => {
+            desk.settle(grant, Outcome::Dropped);
+            true
+        }
+        Err(DeskReply::Refused(Verdict::DoubleVote(_))) => false,
+        Err(_) => rt.panic("neither granted nor a double vote"),
+    }
+}
+
+/// Takes leave to sign the vote of the stopped proposal, and drops it.
+fn repeat<T: Abort>(rt: &T, desk: &mut Desk<MemDisk>) {
+    let grant = granted(rt, desk, vote(1, 2, RA));
+    desk.settle(grant, Outcome::Dropped);
 }
 
 /// Whether a desk that is opened over these disks grants another vote of the target, and not for a double vote. The
 /// vote of the stopped proposal is granted, whether it is there or not.
 pub fn grants_another<T: Abort>(rt: &T, alloc: Global, disks: Disks<MemDisk>) -> bool {
     let mut desk = opened(rt, alloc, disks);
-    match desk.propose(KEY, vote(1, 2, RB), 0) {
-        DeskReply::Granted(grant) => {
-            desk.settle(grant, Outcome::Dropped);
-            true
-        }
-        DeskReply::Refused(Verdict::DoubleVote(_)) => {
-            let grant = granted(rt, &mut desk, vote(1, 2, RA));
-            desk.settle(grant, Outcome::Dropped);
-            false
-        }
-        _ => rt.panic("neither granted nor a double vote"),
+    let takes = takes_another(rt, &mut desk);
+    if !takes {
+        repeat(rt, &mut desk);
     }
+    takes
+}
+
+/// Whether another vote is granted over what a crash leaves.
+fn grants_after<T: Abort>(
+    rt: &T,
+    alloc: Global,
+    bytes: &[u8],
+    stop: u64,
+    crash: Crash,
+) -> Result<bool, AllocError> {
+    let image = left_by_stop(rt, alloc, bytes, stop, crash)?;
+    let disks = disks_of(alloc, image.as_slice(), None)?;
+    Ok(grants_another(rt, alloc, disks))
+}
+
+/// Stops a proposal at one of its calls, and looks whether the vote is there behind a crash.
+fn look_at_crash<T: Abort>(
+    rt: &T,
+    alloc: Global,
+    bytes: &[u8],
+    opening: u64,
+    call: u64,
+    crash: Crash,
+) -> Result<(), AllocError> {
+    let stop = opening.saturating_add(call);
+    let is_there = call >= 2 && crash == Crash::Written;
+    let grants = grants_after(rt, alloc, bytes, stop, crash)?;
+    assert_eq!(rt; grants, !is_there, "call {call}, {crash:?}");
+    Ok(())
+}
+
+fn look_at_crashes<T: Abort>(rt: &T, alloc: Global, bytes: &[u8]) -> Result<(), AllocError> {
+    let opening = opening_calls(rt, alloc, bytes)?;
+    for call in 0..4u64 {
+        for crash in CRASHES {
+            look_at_crash(rt, alloc, bytes, opening, call, crash)?;
+        }
+    }
+    Ok(())
 }
 
 /// The proposal makes four calls: the frame's write, a sync, the gate's write, a sync. The vote is there where the
 /// gate's write is.
 #[test]
 fn a_vote_outlasts_a_stop_once_its_gate_is_written(rt: HostRuntime) -> Result<(), Fail> {
-    let alloc = rt.alloc();
-    let disk = active_disk(&rt, alloc)?;
-    let opening = opening_calls(&rt, alloc, disk.bytes())?;
-    for call in 0..4u64 {
-        for crash in [Crash::Written, Crash::Before, Crash::Torn] {
-            let stop = opening.saturating_add(call);
-            let image = stopped(&rt, alloc, disk.bytes(), stop)?.image(alloc, crash)?;
-            let is_there = call >= 2 && crash == Crash::Written;
-            let disks = disks_of(alloc, image.as_slice(), None)?;
-            let grants = grants_another(&rt, alloc, disks);
-            assert_eq!(rt; grants, !is_there, "call {call}, {crash:?}");
-        }
-    }
-    Ok(())
+    let disk = active_disk(&rt, rt.alloc())?;
+    Ok(look_at_crashes(&rt, rt.alloc(), disk.bytes())?)
 }

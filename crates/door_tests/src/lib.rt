@@ -4,4 +4,6 @@
 #[cfg(test)]
 mod doors;
 #[cfg(test)]
+mod memory;
+#[cfg(test)]
 mod scenes;

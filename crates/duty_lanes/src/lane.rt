@@ -7,8 +7,11 @@ use node_fallback::Nodes;
 /// What the duties of one lane are done with: a desk, a signing service and beacon nodes of its own.
 #[derive(Drop)]
 pub struct Lane<K, S, N> {
+    /// What its grants are asked of.
     pub desk: K,
+    /// What signs for it.
     pub signer: S,
+    /// What its duties are posted to.
     pub nodes: Nodes<N>,
     /// The results of the duties that it did last; none where memory ran out.
     pub(crate) results: Option<Vec<DutyResult>>,

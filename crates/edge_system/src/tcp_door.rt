@@ -171,40 +171,156 @@ impl<S: Read + Write + Drop> Link for TcpConn<S> {
 #[cfg(test)]
 mod tests {
     use super::*;
+    use crate::looks::{look_at_connect, look_at_hang_up, look_at_recv, look_at_send, speak};
     use std::net::TcpStream;
+    use std::process::Abort;
     use std::test::Fail;
+
+    /// A door at a port of this machine.
+    fn door_at<N: Net + Eprint + Drop>(
+        alloc: Global,
+        handle: N,
+        port: u16,
+    ) -> Result<TcpDoor<N>, AllocError> {
+        let host = String::from_str(alloc, "127.0.0.1")?;
+        Ok(TcpDoor::new(alloc, handle, host, port))
+    }
+
+    /// A door at the port of a listener.
+    fn door_of<N: Net + Eprint + Drop, L: OpenListener>(
+        alloc: Global,
+        handle: N,
+        listener: &L,
+    ) -> io::Result<TcpDoor<N>> {
+        let port = listener.local_addr()?.port();
+        let door = door_at(alloc, handle, port)?;
+        Ok(door)
+    }
+
+    /// Accepts where there is no connection.
+    fn accept_none<T: Abort, D: Door>(rt: &T, door: &mut D)
+    where
+        D::Conn: Drop,
+    {
+        assert!(rt; door.accept().is_err());
+    }
+
+    /// A door at a port that another listener holds while the door tries to.
+    fn shut_door<T: Abort, N: Net + Eprint + Copy + Drop>(
+        rt: &T,
+        alloc: Global,
+        handle: N,
+    ) -> io::Result<TcpDoor<N>> {
+        let free = TcpListener::bind(&handle, "127.0.0.1:0")?;
+        let mut door = door_of(alloc, handle, &free)?;
+        accept_none(rt, &mut door);
+        Ok(door)
+    }
+
+    /// Listens at the port of that door.
+    fn listen<N: Net + Eprint + Drop>(door: &mut TcpDoor<N>) -> io::Result<()> {
+        let listener = TcpListener::bind(&door.handle, ("127.0.0.1", door.port))?;
+        door.listener = Some(listener);
+        Ok(())
+    }
+
+    /// A peer that connects to a port and says a byte.
+    fn peer_at<N: Net>(handle: &N, port: u16) -> io::Result<N::Stream> {
+        let mut peer = TcpStream::connect(handle, ("127.0.0.1", port))?;
+        peer.write_all(b"a")?;
+        Ok(peer)
+    }
+
+    /// Receives that byte.
+    fn hear<T: Abort, L: Link>(rt: &T, conn: &mut L) {
+        let byte = look_at_recv(rt, conn, Ok(1));
+        assert_eq!(rt; byte, *b"a");
+    }
+
+    /// Tries each call of a connection that is not there.
+    fn try_each<T: Abort, L: Link>(rt: &T, conn: &mut L) {
+        look_at_send(rt, conn, b"z", Err(Failed));
+        let _ = look_at_recv(rt, conn, Err(Failed));
+        look_at_connect(rt, conn, Err(Failed));
+    }
+
+    /// Tries each call of the twin of a connection.
+    fn try_twin<T: Abort, S: Read + Write + Drop>(
+        rt: &T,
+        alloc: Global,
+        conn: &TcpConn<S>,
+    ) -> Result<(), AllocError> {
+        let mut twin = conn.twin(alloc)?;
+        try_each(rt, &mut twin);
+        assert_eq!(rt; twin.faults, 3);
+        Ok(())
+    }
+
+    /// Ends a connection, and tries its calls.
+    fn hang_up<T: Abort, S: Read + Write + Drop>(rt: &T, conn: &mut TcpConn<S>) {
+        look_at_hang_up(rt, conn);
+        look_at_send(rt, conn, b"z", Err(Failed));
+        look_at_connect(rt, conn, Err(Failed));
+        assert_eq!(rt; conn.faults, 2);
+    }
+
+    /// Talks with a peer over a connection.
+    fn talk<T: Abort, S: Read + Write + Drop>(
+        rt: &T,
+        alloc: Global,
+        conn: &mut TcpConn<S>,
+        peer: &mut S,
+    ) -> io::Result<()> {
+        hear(rt, conn);
+        try_twin(rt, alloc, conn)?;
+        speak(rt, conn, peer, *b"z")?;
+        hang_up(rt, conn);
+        Ok(())
+    }
+
+    /// The connection that a door accepts next.
+    fn accepted<T: Abort, D: Door>(rt: &T, door: &mut D) -> Option<D::Conn>
+    where
+        D::Conn: Drop,
+    {
+        let accepted = door.accept();
+        assert!(rt; matches!(accepted, Ok(Some(_))));
+        match accepted {
+            Ok(conn) => conn,
+            Err(Failed) => None,
+        }
+    }
+
+    /// Accepts a connection of a peer, and talks over it.
+    fn serve<T: Abort, N: Net + Eprint + Drop>(
+        rt: &T,
+        alloc: Global,
+        door: &mut TcpDoor<N>,
+        peer: &mut N::Stream,
+    ) -> io::Result<()> {
+        if let Some(mut conn) = accepted(rt, door) {
+            talk(rt, alloc, &mut conn, peer)?;
+            door.finish(conn);
+        }
+        Ok(())
+    }
+
+    /// Opens a door, and accepts a connection of a peer that it has.
+    fn open<T: Abort, N: Net + Eprint + Copy + Drop>(
+        rt: &T,
+        alloc: Global,
+        handle: N,
+        door: &mut TcpDoor<N>,
+    ) -> io::Result<()> {
+        listen(door)?;
+        let mut peer = peer_at(&handle, door.port)?;
+        serve(rt, alloc, door, &mut peer)
+    }
 
     #[test]
     fn a_listener_is_a_door(rt: HostRuntime) -> Result<(), Fail> {
-        let free = TcpListener::bind(&rt, "127.0.0.1:0")?;
-        let port = free.local_addr()?.port();
-        let host = String::from_str(rt.alloc(), "127.0.0.1")?;
-        let mut door = TcpDoor::new(rt.alloc(), &rt, host, port);
-        assert!(rt; door.accept().is_err());
-        drop(free);
-        door.listener = Some(TcpListener::bind(&rt, ("127.0.0.1", port))?);
-        let mut peer = TcpStream::connect(&rt, ("127.0.0.1", port))?;
-        peer.write_all(b"a")?;
-        let accepted = door.accept();
-        assert!(rt; matches!(accepted, Ok(Some(_))));
-        if let Ok(Some(mut conn)) = accepted {
-            let mut byte = [0u8; 1];
-            assert_eq!(rt; conn.recv(&mut byte), Ok(1));
-            assert_eq!(rt; byte, *b"a");
-            let mut twin = conn.twin(rt.alloc())?;
-            assert_eq!(rt; twin.send(b"z"), Err(Failed));
-            assert_eq!(rt; twin.recv(&mut byte), Err(Failed));
-            assert_eq!(rt; twin.connect(), Err(Failed));
-            assert_eq!(rt; twin.faults, 3);
-            assert_eq!(rt; conn.send(b"z"), Ok(1));
-            peer.read_exact(&mut byte)?;
-            assert_eq!(rt; byte, *b"z");
-            assert_eq!(rt; conn.hang_up(), Ok(()));
-            assert_eq!(rt; conn.send(b"z"), Err(Failed));
-            assert_eq!(rt; conn.connect(), Err(Failed));
-            assert_eq!(rt; conn.faults, 2);
-            door.finish(conn);
-        }
+        let mut door = shut_door(&rt, rt.alloc(), &rt)?;
+        open(&rt, rt.alloc(), &rt, &mut door)?;
         assert_eq!(rt; door.faults, 1);
         Ok(())
     }

@@ -1,26 +1,48 @@
 use edge_kit::{Crash, Disks, MemDisk, PubKey, Root};
+use record_journal::Journal;
 use std::alloc::{AllocError, Global};
+use std::test::Fail;
 
 pub const ROOT: Root = Root([0x22; 32]);
 
 pub const KEY: PubKey = PubKey([0x11; 48]);
 
+/// The parts of a header of `ROOT`, up to the first frame's gate.
+pub const HEADER: &[&[u8]] = &[&[1], b"VKHJRN01", &[0x22; 32]];
+
+/// The parts of a file that is begun and has no frames.
+pub const BEGUN: &[&[u8]] = &[&[1], b"VKHJRN01", &[0x22; 32], &[0]];
+
 pub fn joined(alloc: Global, parts: &[&[u8]]) -> Result<Vec<u8>, AllocError> {
     let mut bytes = Vec::new(alloc);
-    for part in parts {
-        bytes.extend_from_slice(part)?;
-    }
+    add_all(&mut bytes, parts)?;
     Ok(bytes)
 }
 
-/// A header, up to the first frame's gate.
-pub fn header(alloc: Global, root: &[u8; 32]) -> Result<Vec<u8>, AllocError> {
-    joined(alloc, &[&[1], b"VKHJRN01", root])
+/// Adds these parts to bytes.
+fn add_all(bytes: &mut Vec<u8>, parts: &[&[u8]]) -> Result<(), AllocError> {
+    for part in parts {
+        bytes.extend_from_slice(part)?;
+    }
+    Ok(())
 }
 
-/// The frame of a generation, behind an open gate.
-pub fn generation(alloc: Global, number: u64) -> Result<Vec<u8>, AllocError> {
-    joined(alloc, &[&[1, 9, 0, 0, 0, 6], &number.to_le_bytes()])
+/// A file of the parts of its front and of those behind them.
+pub fn file_of(alloc: Global, front: &[&[u8]], rest: &[&[u8]]) -> Result<Vec<u8>, AllocError> {
+    let mut bytes = joined(alloc, front)?;
+    add_all(&mut bytes, rest)?;
+    Ok(bytes)
+}
+
+/// A file whose first frame is that of a generation, with these parts behind it.
+pub fn file_of_generation(
+    alloc: Global,
+    number: u64,
+    rest: &[&[u8]],
+) -> Result<Vec<u8>, AllocError> {
+    let mut bytes = file_of(alloc, HEADER, &[&[1, 9, 0, 0, 0, 6], &number.to_le_bytes()])?;
+    add_all(&mut bytes, rest)?;
+    Ok(bytes)
 }
 
 /// A disk of these bytes, which stops at a call.
@@ -46,4 +68,12 @@ pub fn images(
     let first = disks.first.image(alloc, crash)?;
     let second = disks.second.image(alloc, crash)?;
     disks_of(alloc, &first, &second)
+}
+
+/// The journal of these disks.
+pub fn opened(alloc: Global, disks: Disks<MemDisk>) -> Result<Journal<MemDisk>, Fail> {
+    match Journal::open(alloc, disks, ROOT) {
+        Ok(journal) => Ok(journal),
+        Err(_) => Err(Fail::from("not opened")),
+    }
 }

@@ -1,167 +1,408 @@
-use crate::files::{KEY, ROOT, disks_of, generation, header, joined};
-use edge_kit::Root;
+use crate::files::{BEGUN, HEADER, ROOT, disks_of, file_of, file_of_generation, joined, opened};
+use edge_kit::{Disks, MemDisk, Root};
 use record_journal::{Journal, OpenFault, Place};
-use std::alloc::Global;
+use std::alloc::{AllocError, Global};
 use std::process::Abort;
 use std::test::Fail;
 
 const OTHER: Root = Root([0x33; 32]);
 
-// The fault of opening these files.
+/// The fault of opening these files.
 fn fault_of(alloc: Global, first: &[u8], second: &[u8]) -> Result<OpenFault, Fail> {
-    match Journal::open(alloc, disks_of(alloc, first, second)?, ROOT) {
+    let disks = disks_of(alloc, first, second)?;
+    match Journal::open(alloc, disks, ROOT) {
         Ok(_journal) => Err(Fail::from("opened")),
         Err((fault, _disks)) => Ok(fault),
     }
 }
 
-// A file of these parts is damaged there, as the first file and as the second.
-fn is_damaged(
-    rt: &impl Abort,
-    alloc: Global,
-    parts: [&[u8]; 5],
+/// The parts of a file, and where it is damaged.
+#[derive(Clone, Copy)]
+struct Damage {
+    front: &'static [&'static [u8]],
+    rest: &'static [&'static [u8]],
     offset: u64,
     byte: Option<u8>,
-) -> Result<(), Fail> {
-    let bytes = joined(alloc, &parts)?;
-    let file = Place::First;
-    assert_eq!(rt;
-        fault_of(alloc, &bytes, &[])?,
-        OpenFault::Damaged { file, offset, byte }
-    );
-    let file = Place::Second;
-    assert_eq!(rt;
-        fault_of(alloc, &[], &bytes)?,
-        OpenFault::Damaged { file, offset, byte }
-    );
+}
+
+impl Damage {
+    /// The fault of opening that file at a place.
+    fn fault(&self, file: Place) -> OpenFault {
+        OpenFault::Damaged {
+            file,
+            offset: self.offset,
+            byte: self.byte,
+        }
+    }
+}
+
+/// Opens the bytes of that file as the first file and as the second.
+fn is_damaged<T: Abort>(rt: &T, alloc: Global, damage: &Damage, bytes: &[u8]) -> Result<(), Fail> {
+    let first = fault_of(alloc, bytes, &[])?;
+    assert_eq!(rt; first, damage.fault(Place::First));
+    let second = fault_of(alloc, &[], bytes)?;
+    assert_eq!(rt; second, damage.fault(Place::Second));
     Ok(())
 }
+
+/// Opens that file so.
+fn open_damaged<T: Abort>(rt: &T, alloc: Global, damage: &Damage) -> Result<(), Fail> {
+    let bytes = file_of(alloc, damage.front, damage.rest)?;
+    is_damaged(rt, alloc, damage, &bytes)
+}
+
+/// Opens each of these files so.
+fn open_each<T: Abort>(rt: &T, alloc: Global, table: &[Damage]) -> Result<(), Fail> {
+    for damage in table {
+        open_damaged(rt, alloc, damage)?;
+    }
+    Ok(())
+}
+
+/// A damaged header, then damaged frames.
+const DAMAGED: &[Damage] = &[
+    Damage {
+        front: &[],
+        rest: &[&[1], b"V"],
+        offset: 2,
+        byte: None,
+    },
+    Damage {
+        front: &[],
+        rest: &[&[1], b"VX"],
+        offset: 2,
+        byte: Some(b'X'),
+    },
+    Damage {
+        front: &[],
+        rest: &[&[1], b"VKHJRN02", &[0x22; 32], &[0]],
+        offset: 8,
+        byte: Some(b'2'),
+    },
+    Damage {
+        front: HEADER,
+        rest: &[],
+        offset: 41,
+        byte: None,
+    },
+    Damage {
+        front: HEADER,
+        rest: &[&[1]],
+        offset: 42,
+        byte: None,
+    },
+    Damage {
+        front: HEADER,
+        rest: &[&[1], &[49, 0, 0]],
+        offset: 45,
+        byte: None,
+    },
+    Damage {
+        front: HEADER,
+        rest: &[&[1], &[0, 0, 0, 0], &[0]],
+        offset: 42,
+        byte: Some(0),
+    },
+    Damage {
+        front: HEADER,
+        rest: &[&[1], &[0, 0, 0, 0]],
+        offset: 42,
+        byte: Some(0),
+    },
+    Damage {
+        front: HEADER,
+        rest: &[&[1], &[49, 0, 0, 0], &[4], &[0x11; 47]],
+        offset: 94,
+        byte: None,
+    },
+    Damage {
+        front: HEADER,
+        rest: &[&[1], &[2, 0, 0, 0], &[9]],
+        offset: 47,
+        byte: None,
+    },
+    Damage {
+        front: HEADER,
+        rest: &[&[1], &[49, 0, 0, 0], &[4], &[0x11; 48]],
+        offset: 95,
+        byte: None,
+    },
+    Damage {
+        front: HEADER,
+        rest: &[&[1], &[49, 0, 0, 0], &[4], &[0x11; 48], &[1]],
+        offset: 96,
+        byte: None,
+    },
+    Damage {
+        front: HEADER,
+        rest: &[&[1], &[1, 0, 0, 0], &[9]],
+        offset: 46,
+        byte: Some(9),
+    },
+    Damage {
+        front: HEADER,
+        rest: &[
+            &[1],
+            &[59, 0, 0, 0],
+            &[1],
+            &[0x11; 48],
+            &[7; 8],
+            &[0],
+            &[4, 0],
+        ],
+        offset: 104,
+        byte: Some(4),
+    },
+    Damage {
+        front: HEADER,
+        rest: &[&[1], &[98, 0, 0, 0], &[4], &[0x11; 48], &[4], &[0x11; 48]],
+        offset: 46,
+        byte: Some(4),
+    },
+];
 
 #[test]
 fn each_way_of_damage_is_named(rt: HostRuntime) -> Result<(), Fail> {
-    let alloc = rt.alloc();
-    let header = header(alloc, &ROOT.0)?;
-    let block = joined(alloc, &[&[1], &KEY.0, &[7; 8], &[0]])?;
-    let state = joined(alloc, &[&[4], &KEY.0])?;
-    let cut = joined(alloc, &[&[4], &[0x11; 47]])?;
-    let table: [([&[u8]; 5], u64, Option<u8>); 15] = [
-        ([&[1], b"V", &[], &[], &[]], 2, None),
-        ([&[1], b"VX", &[], &[], &[]], 2, Some(b'X')),
-        ([&[1], b"VKHJRN02", &ROOT.0, &[0], &[]], 8, Some(b'2')),
-        ([&header, &[], &[], &[], &[]], 41, None),
-        ([&header, &[1], &[], &[], &[]], 42, None),
-        ([&header, &[1], &[49, 0, 0], &[], &[]], 45, None),
-        ([&header, &[1], &[0, 0, 0, 0], &[0], &[]], 42, Some(0)),
-        ([&header, &[1], &[0, 0, 0, 0], &[], &[]], 42, Some(0)),
-        ([&header, &[1], &[49, 0, 0, 0], &cut, &[]], 94, None),
-        ([&header, &[1], &[2, 0, 0, 0], &[9], &[]], 47, None),
-        ([&header, &[1], &[49, 0, 0, 0], &state, &[]], 95, None),
-        ([&header, &[1], &[49, 0, 0, 0], &state, &[1]], 96, None),
-        ([&header, &[1], &[1, 0, 0, 0], &[9], &[]], 46, Some(9)),
-        (
-            [&header, &[1], &[59, 0, 0, 0], &block, &[4, 0]],
-            104,
-            Some(4),
-        ),
-        ([&header, &[1], &[98, 0, 0, 0], &state, &state], 46, Some(4)),
-    ];
-    for (parts, offset, byte) in table {
-        is_damaged(&rt, alloc, parts, offset, byte)?;
-    }
-    Ok(())
+    open_each(&rt, rt.alloc(), DAMAGED)
 }
+
+/// The frame of generation 7, behind an open gate.
+const OLD: &[u8] = &[1, 9, 0, 0, 0, 6, 7, 0, 0, 0, 0, 0, 0, 0];
+
+/// Frames of a generation.
+const GENERATIONS: &[Damage] = &[
+    Damage {
+        front: HEADER,
+        rest: &[&[1, 9, 0, 0, 0], &[6], &[0; 7]],
+        offset: 54,
+        byte: None,
+    },
+    Damage {
+        front: HEADER,
+        rest: &[OLD],
+        offset: 55,
+        byte: None,
+    },
+    Damage {
+        front: HEADER,
+        rest: &[OLD, OLD, &[0]],
+        offset: 60,
+        byte: Some(6),
+    },
+    Damage {
+        front: HEADER,
+        rest: &[&[1, 49, 0, 0, 0, 4], &[0x11; 48], OLD, &[0]],
+        offset: 100,
+        byte: Some(6),
+    },
+    Damage {
+        front: HEADER,
+        rest: &[&[1, 10, 0, 0, 0], &[6], &[0; 9], &[0]],
+        offset: 46,
+        byte: Some(6),
+    },
+    Damage {
+        front: HEADER,
+        rest: &[&[1, 8, 0, 0, 0], &[6], &[0; 7], &[0]],
+        offset: 46,
+        byte: Some(6),
+    },
+];
 
 #[test]
 fn a_generation_stands_alone_and_first_or_is_damage(rt: HostRuntime) -> Result<(), Fail> {
-    let alloc = rt.alloc();
-    let header = header(alloc, &ROOT.0)?;
-    let old = generation(alloc, 7)?;
-    let state = joined(alloc, &[&[1, 49, 0, 0, 0, 4], &KEY.0])?;
-    let table: [([&[u8]; 5], u64, Option<u8>); 6] = [
-        ([&header, &[1, 9, 0, 0, 0], &[6], &[0; 7], &[]], 54, None),
-        ([&header, &old, &[], &[], &[]], 55, None),
-        ([&header, &old, &old, &[0], &[]], 60, Some(6)),
-        ([&header, &state, &old, &[0], &[]], 100, Some(6)),
-        (
-            [&header, &[1, 10, 0, 0, 0], &[6], &[0; 9], &[0]],
-            46,
-            Some(6),
-        ),
-        (
-            [&header, &[1, 8, 0, 0, 0], &[6], &[0; 7], &[0]],
-            46,
-            Some(6),
-        ),
-    ];
-    for (parts, offset, byte) in table {
-        is_damaged(&rt, alloc, parts, offset, byte)?;
-    }
-    Ok(())
+    open_each(&rt, rt.alloc(), GENERATIONS)
+}
+
+/// The parts of a file that another chain began.
+const FOREIGN: &[&[u8]] = &[&[1], b"VKHJRN01", &[0x33; 32], &[0]];
+
+/// The parts of two files, and the fault of opening them.
+#[derive(Clone, Copy)]
+struct Pair {
+    first: &'static [&'static [u8]],
+    second: &'static [&'static [u8]],
+    fault: OpenFault,
+}
+
+const DIFFERS: OpenFault = OpenFault::Genesis {
+    kept: OTHER,
+    given: ROOT,
+};
+
+const PAIRS: &[Pair] = &[
+    Pair {
+        first: FOREIGN,
+        second: BEGUN,
+        fault: DIFFERS,
+    },
+    Pair {
+        first: BEGUN,
+        second: FOREIGN,
+        fault: DIFFERS,
+    },
+    Pair {
+        first: &[],
+        second: FOREIGN,
+        fault: DIFFERS,
+    },
+    Pair {
+        first: FOREIGN,
+        second: &[b"\x01V"],
+        fault: DIFFERS,
+    },
+    Pair {
+        first: &[b"\x01V"],
+        second: FOREIGN,
+        fault: OpenFault::Damaged {
+            file: Place::First,
+            offset: 2,
+            byte: None,
+        },
+    },
+];
+
+/// The fault of opening these two files.
+fn fault_of_pair(alloc: Global, pair: &Pair) -> Result<OpenFault, Fail> {
+    let first = joined(alloc, pair.first)?;
+    let second = joined(alloc, pair.second)?;
+    fault_of(alloc, &first, &second)
 }
 
 #[test]
 fn the_fault_of_the_first_file_comes_first(rt: HostRuntime) -> Result<(), Fail> {
-    let alloc = rt.alloc();
-    let own = joined(alloc, &[&header(alloc, &ROOT.0)?, &[0]])?;
-    let other = joined(alloc, &[&header(alloc, &OTHER.0)?, &[0]])?;
-    let differs = OpenFault::Genesis {
-        kept: OTHER,
-        given: ROOT,
-    };
-    let damaged = OpenFault::Damaged {
-        file: Place::First,
-        offset: 2,
-        byte: None,
-    };
-    let table: [(&[u8], &[u8], OpenFault); 5] = [
-        (&other, &own, differs),
-        (&own, &other, differs),
-        (&[], &other, differs),
-        (&other, b"\x01V", differs),
-        (b"\x01V", &other, damaged),
-    ];
-    for (first, second, fault) in table {
-        assert_eq!(rt; fault_of(alloc, first, second)?, fault);
+    for pair in PAIRS {
+        let fault = fault_of_pair(rt.alloc(), pair)?;
+        assert_eq!(rt; fault, pair.fault);
     }
+    Ok(())
+}
+
+/// The parts of a first file, and the count of its payloads and its size.
+#[derive(Clone, Copy)]
+struct Whole {
+    front: &'static [&'static [u8]],
+    rest: &'static [&'static [u8]],
+    count: usize,
+    size: u64,
+}
+
+const SHUT: &[Whole] = &[
+    Whole {
+        front: &[],
+        rest: &[&[1]],
+        count: 0,
+        size: 42,
+    },
+    Whole {
+        front: &[],
+        rest: &[&[0], b"VX"],
+        count: 0,
+        size: 42,
+    },
+    Whole {
+        front: HEADER,
+        rest: &[&[0], &[49, 0, 0, 0], &[5], &[0x11; 48]],
+        count: 0,
+        size: 42,
+    },
+    Whole {
+        front: HEADER,
+        rest: &[&[7], &[1]],
+        count: 0,
+        size: 42,
+    },
+    Whole {
+        front: HEADER,
+        rest: &[&[1], &[49, 0, 0, 0], &[5], &[0x11; 48], &[0, 1, 2]],
+        count: 1,
+        size: 96,
+    },
+];
+
+/// The journal of that file.
+fn opened_whole(alloc: Global, whole: &Whole) -> Result<Journal<MemDisk>, Fail> {
+    let first = file_of(alloc, whole.front, whole.rest)?;
+    let disks = disks_of(alloc, &first, &[])?;
+    opened(alloc, disks)
+}
+
+/// Compares that journal with its count of payloads and its size.
+fn look_at_whole<T: Abort>(rt: &T, alloc: Global, whole: &Whole) -> Result<(), Fail> {
+    let journal = opened_whole(alloc, whole)?;
+    assert_eq!(rt; journal.payloads().len(), whole.count);
+    assert_eq!(rt; journal.size(), whole.size);
     Ok(())
 }
 
 #[test]
 fn what_stands_behind_a_closed_gate_is_ignored(rt: HostRuntime) -> Result<(), Fail> {
-    let alloc = rt.alloc();
-    let header = header(alloc, &ROOT.0)?;
-    let state = joined(alloc, &[&[5], &KEY.0])?;
-    let table: [([&[u8]; 5], usize, u64); 5] = [
-        ([&[1], &[], &[], &[], &[]], 0, 42),
-        ([&[0], b"VX", &[], &[], &[]], 0, 42),
-        ([&header, &[0], &[49, 0, 0, 0], &state, &[]], 0, 42),
-        ([&header, &[7], &[1], &[], &[]], 0, 42),
-        ([&header, &[1], &[49, 0, 0, 0], &state, &[0, 1, 2]], 1, 96),
-    ];
-    for (parts, count, size) in table {
-        let disks = disks_of(alloc, &joined(alloc, &parts)?, &[])?;
-        let Ok(journal) = Journal::open(alloc, disks, ROOT) else {
-            return Err(Fail::from("not opened"));
-        };
-        assert_eq!(rt; journal.payloads().len(), count);
-        assert_eq!(rt; journal.size(), size);
+    for whole in SHUT {
+        look_at_whole(&rt, rt.alloc(), whole)?;
     }
+    Ok(())
+}
+
+/// Generations of the first file and of the second, and the count of payloads of their journal.
+#[derive(Clone, Copy)]
+struct Tie {
+    one: u64,
+    other: u64,
+    count: usize,
+}
+
+const TIES: &[Tie] = &[
+    Tie {
+        one: 0,
+        other: 0,
+        count: 2,
+    },
+    Tie {
+        one: 1,
+        other: 0,
+        count: 2,
+    },
+    Tie {
+        one: 0,
+        other: 1,
+        count: 1,
+    },
+    Tie {
+        one: 5,
+        other: 5,
+        count: 2,
+    },
+    Tie {
+        one: 255,
+        other: 256,
+        count: 1,
+    },
+];
+
+/// What stands behind the generation of the first file: a payload.
+const STATE: &[&[u8]] = &[&[1, 49, 0, 0, 0, 5], &[0x11; 48], &[0]];
+
+/// Two disks of files of these generations.
+fn disks_of_tie(alloc: Global, tie: &Tie) -> Result<Disks<MemDisk>, AllocError> {
+    let first = file_of_generation(alloc, tie.one, STATE)?;
+    let second = file_of_generation(alloc, tie.other, &[&[0]])?;
+    disks_of(alloc, &first, &second)
+}
+
+/// Compares the journal of these with its count of payloads.
+fn look_at_tie<T: Abort>(rt: &T, alloc: Global, tie: &Tie) -> Result<(), Fail> {
+    let (one, other) = (tie.one, tie.other);
+    let disks = disks_of_tie(alloc, tie)?;
+    let journal = opened(alloc, disks)?;
+    assert_eq!(rt; journal.payloads().len(), tie.count, "{one}, {other}");
     Ok(())
 }
 
 // The first file has two payloads and the second one.
 #[test]
 fn the_greater_generation_is_current_and_the_first_at_a_tie(rt: HostRuntime) -> Result<(), Fail> {
-    let alloc = rt.alloc();
-    let header = header(alloc, &ROOT.0)?;
-    let state = joined(alloc, &[&[1, 49, 0, 0, 0, 5], &KEY.0, &[0]])?;
-    for (one, other, count) in [(0, 0, 2), (1, 0, 2), (0, 1, 1), (5, 5, 2), (255, 256, 1)] {
-        let first = joined(alloc, &[&header, &generation(alloc, one)?, &state])?;
-        let second = joined(alloc, &[&header, &generation(alloc, other)?, &[0]])?;
-        let Ok(journal) = Journal::open(alloc, disks_of(alloc, &first, &second)?, ROOT) else {
-            return Err(Fail::from("not opened"));
-        };
-        assert_eq!(rt; journal.payloads().len(), count, "{one}, {other}");
+    for tie in TIES {
+        look_at_tie(&rt, rt.alloc(), tie)?;
     }
     Ok(())
 }

@@ -1,13 +1,9 @@
-//! Tests of the records of keys: the worked rows of imported books, the order of entries, and the steps of a check.
+//! Tests of the records of keys: the worked rows of imported books, the order of entries, the steps of a check, and joins.
 #![tactic(auto)]
 
 #[cfg(test)]
-mod batches;
+mod compare;
 #[cfg(test)]
 mod joins;
 #[cfg(test)]
 mod records;
-#[cfg(test)]
-mod replays;
-#[cfg(test)]
-mod snapshots;

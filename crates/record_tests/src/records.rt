@@ -1,11 +1,13 @@
 //! The worked rows of imported books, the order in which entries come back, and the steps of a check.
 ghost use Rattle.std.specs.Prelude.{◌≡◌, ◌≢◌, ◌+◌, ◌<◌, ◌≤◌, All, length};
 
+use crate::compare::compare;
 use edge_kit::{Items, Root};
 use protect_record::{Floors, Record, Steps, Verdict};
 use slash_defs::{BlockEntry, Book, Entry, Message, VoteEntry};
 use std::alloc::{AllocError, Global};
 use std::marker::Brand;
+use std::process::Abort;
 use std::sync::ledger::{Blank, Ledger};
 use std::test::Fail;
 
@@ -34,6 +36,28 @@ fn book(alloc: Global, blocks: &[BlockEntry], votes: &[VoteEntry]) -> Result<Boo
     })
 }
 
+/// Merges a book of these blocks and votes.
+fn merge(
+    record: &mut Record,
+    alloc: Global,
+    blocks: &[BlockEntry],
+    votes: &[VoteEntry],
+) -> Result<(), AllocError> {
+    let book = book(alloc, blocks, votes)?;
+    record.merge_book(&book)
+}
+
+/// The record of a book of these blocks and votes.
+fn record_of(
+    alloc: Global,
+    blocks: &[BlockEntry],
+    votes: &[VoteEntry],
+) -> Result<Record, AllocError> {
+    let mut record = Record::new(alloc);
+    merge(&mut record, alloc, blocks, votes)?;
+    Ok(record)
+}
+
 /// Records a message if it passes, and gives the verdict.
 fn propose(record: &mut Record, message: Message) -> Result<Verdict, AllocError> {
     record.reserve(1, 1)?;
@@ -43,6 +67,73 @@ fn propose(record: &mut Record, message: Message) -> Result<Verdict, AllocError>
     }
     record.add(&message);
     Ok(verdict)
+}
+
+/// A block, and the verdict on it.
+#[derive(Clone, Copy)]
+struct BlockRow {
+    slot: u64,
+    root: Root,
+    want: Verdict,
+}
+
+/// A vote, and the verdict on it.
+#[derive(Clone, Copy)]
+struct VoteRow {
+    source: u64,
+    target: u64,
+    root: Root,
+    want: Verdict,
+}
+
+/// Compares a verdict on the block of a row.
+fn compare_block(rt: &impl Abort, found: Verdict, row: &BlockRow) {
+    let slot = row.slot;
+    assert_eq!(rt; found, row.want, "block of slot {slot}");
+}
+
+/// Proposes the block of a row, and compares the verdict.
+fn propose_block(rt: &impl Abort, record: &mut Record, row: &BlockRow) -> Result<(), AllocError> {
+    let (slot, root) = (row.slot, row.root);
+    let found = propose(record, Message::Block { slot, root })?;
+    compare_block(rt, found, row);
+    Ok(())
+}
+
+/// Proposes the blocks of these rows, and compares the verdicts.
+fn propose_blocks(
+    rt: &impl Abort,
+    record: &mut Record,
+    rows: &[BlockRow],
+) -> Result<(), AllocError> {
+    for row in rows {
+        propose_block(rt, record, row)?;
+    }
+    Ok(())
+}
+
+/// The vote of a row.
+fn vote_of(row: &VoteRow) -> Message {
+    Message::Vote {
+        source: row.source,
+        target: row.target,
+        root: row.root,
+    }
+}
+
+/// Compares a verdict on the vote of a row.
+fn compare_vote(rt: &impl Abort, found: Verdict, row: &VoteRow) {
+    let (source, target) = (row.source, row.target);
+    assert_eq!(rt; found, row.want, "vote from {source} to {target}");
+}
+
+/// Proposes the votes of these rows, and compares the verdicts.
+fn propose_votes(rt: &impl Abort, record: &mut Record, rows: &[VoteRow]) -> Result<(), AllocError> {
+    for row in rows {
+        let found = propose(record, vote_of(row))?;
+        compare_vote(rt, found, row);
+    }
+    Ok(())
 }
 
 /// Whether the record gives these entries, in this order.
@@ -63,122 +154,252 @@ fn gives(record: &Record, want: &[Entry]) -> bool {
     at == want.len()
 }
 
+const BLOCK_100: BlockEntry = BlockEntry {
+    slot: 100,
+    root: None,
+};
+
+const BLOCK_101: BlockEntry = BlockEntry {
+    slot: 101,
+    root: Some(RA),
+};
+
+const BLOCKS: &[BlockRow] = &[
+    BlockRow {
+        slot: 50,
+        root: RA,
+        want: Verdict::SlotBelow(100),
+    },
+    BlockRow {
+        slot: 100,
+        root: RA,
+        want: Verdict::DoubleBlock(BLOCK_100),
+    },
+    BlockRow {
+        slot: 101,
+        root: RA,
+        want: Verdict::Pass,
+    },
+    BlockRow {
+        slot: 101,
+        root: RA,
+        want: Verdict::Pass,
+    },
+    BlockRow {
+        slot: 101,
+        root: RB,
+        want: Verdict::DoubleBlock(BLOCK_101),
+    },
+];
+
+/// The record of a book of a block and a book of two earlier ones.
+fn two_books_of_blocks(alloc: Global) -> Result<Record, AllocError> {
+    let mut record = record_of(alloc, &[BLOCK_100], &[])?;
+    merge(&mut record, alloc, &[block(20, None), block(10, None)], &[])?;
+    Ok(record)
+}
+
 #[test]
 fn blocks_are_judged_over_the_greatest_of_the_least_slots(rt: HostRuntime) -> Result<(), Fail> {
-    let alloc = rt.alloc();
-    let mut record = Record::new(alloc);
-    record.merge_book(&book(alloc, &[block(100, None)], &[])?)?;
-    record.merge_book(&book(alloc, &[block(20, None), block(10, None)], &[])?)?;
-    let rows = [
-        (50, RA, Verdict::SlotBelow(100)),
-        (100, RA, Verdict::DoubleBlock(block(100, None))),
-        (101, RA, Verdict::Pass),
-        (101, RA, Verdict::Pass),
-        (101, RB, Verdict::DoubleBlock(block(101, Some(RA)))),
-    ];
-    for (slot, root, want) in rows {
-        let found = propose(&mut record, Message::Block { slot, root })?;
-        assert_eq!(rt; found, want, "block of slot {slot}");
-    }
-    let want = [
-        Entry::Block(block(100, None)),
-        Entry::Block(block(101, Some(RA))),
-    ];
+    let mut record = two_books_of_blocks(rt.alloc())?;
+    propose_blocks(&rt, &mut record, BLOCKS)?;
+    let want = [Entry::Block(BLOCK_100), Entry::Block(BLOCK_101)];
     assert!(rt; gives(&record, &want));
+    Ok(())
+}
+
+const VOTE_2_10: VoteEntry = VoteEntry {
+    target: 10,
+    source: 2,
+    root: Some(RA),
+};
+
+const VOTE_5_20: VoteEntry = VoteEntry {
+    target: 20,
+    source: 5,
+    root: Some(RA),
+};
+
+const VOTE_7_30: VoteEntry = VoteEntry {
+    target: 30,
+    source: 7,
+    root: Some(RA),
+};
+
+const VOTES: &[VoteRow] = &[
+    VoteRow {
+        source: 2,
+        target: 10,
+        root: RA,
+        want: Verdict::SourceBelow(5),
+    },
+    VoteRow {
+        source: 5,
+        target: 9,
+        root: RB,
+        want: Verdict::TargetBelow(10),
+    },
+    VoteRow {
+        source: 5,
+        target: 10,
+        root: RA,
+        want: Verdict::DoubleVote(VOTE_2_10),
+    },
+    VoteRow {
+        source: 5,
+        target: 20,
+        root: RA,
+        want: Verdict::Pass,
+    },
+    VoteRow {
+        source: 6,
+        target: 19,
+        root: RB,
+        want: Verdict::Surrounded(VOTE_5_20),
+    },
+    VoteRow {
+        source: 7,
+        target: 30,
+        root: RA,
+        want: Verdict::Pass,
+    },
+    VoteRow {
+        source: 6,
+        target: 31,
+        root: RA,
+        want: Verdict::Surrounds(VOTE_7_30),
+    },
+];
+
+/// The record of two books of one vote each.
+fn two_books_of_votes(alloc: Global, one: VoteEntry, two: VoteEntry) -> Result<Record, AllocError> {
+    let mut record = record_of(alloc, &[], &[one])?;
+    merge(&mut record, alloc, &[], &[two])?;
+    Ok(record)
+}
+
+/// The record exports one vote, this one.
+fn exports(
+    rt: &impl Abort,
+    alloc: Global,
+    record: &Record,
+    vote: VoteEntry,
+) -> Result<(), AllocError> {
+    let exported = record.export(alloc)?;
+    compare(rt, &exported.votes.as_slice(), &[vote].as_slice());
     Ok(())
 }
 
 #[test]
 fn votes_are_judged_in_the_order_of_the_table(rt: HostRuntime) -> Result<(), Fail> {
-    let alloc = rt.alloc();
-    let mut record = Record::new(alloc);
-    record.merge_book(&book(alloc, &[], &[vote(2, 10, Some(RA))])?)?;
-    record.merge_book(&book(alloc, &[], &[vote(5, 9, Some(RB))])?)?;
-    let rows = [
-        (2, 10, RA, Verdict::SourceBelow(5)),
-        (5, 9, RB, Verdict::TargetBelow(10)),
-        (5, 10, RA, Verdict::DoubleVote(vote(2, 10, Some(RA)))),
-        (5, 20, RA, Verdict::Pass),
-        (6, 19, RB, Verdict::Surrounded(vote(5, 20, Some(RA)))),
-        (7, 30, RA, Verdict::Pass),
-        (6, 31, RA, Verdict::Surrounds(vote(7, 30, Some(RA)))),
-    ];
-    for (source, target, root, want) in rows {
-        let found = propose(
-            &mut record,
-            Message::Vote {
-                source,
-                target,
-                root,
-            },
-        )?;
-        assert_eq!(rt; found, want, "vote from {source} to {target}");
-    }
-    let exported = record.export(alloc)?;
-    assert_eq!(rt; exported.votes.as_slice(), [vote(7, 30, None)].as_slice());
+    let mut record = two_books_of_votes(rt.alloc(), VOTE_2_10, vote(5, 9, Some(RB)))?;
+    propose_votes(&rt, &mut record, VOTES)?;
+    exports(&rt, rt.alloc(), &record, vote(7, 30, None))?;
     Ok(())
 }
 
 #[test]
 fn an_irregular_record_exports_one_vote(rt: HostRuntime) -> Result<(), Fail> {
-    let alloc = rt.alloc();
-    let mut record = Record::new(alloc);
-    record.merge_book(&book(alloc, &[], &[vote(5, 10, None)])?)?;
-    record.merge_book(&book(alloc, &[], &[vote(7, 9, None)])?)?;
-    let exported = record.export(alloc)?;
-    assert_eq!(rt; exported.votes.as_slice(), [vote(7, 10, None)].as_slice());
+    let record = two_books_of_votes(rt.alloc(), vote(5, 10, None), vote(7, 9, None))?;
+    exports(&rt, rt.alloc(), &record, vote(7, 10, None))?;
     Ok(())
+}
+
+/// A block that passes at first, and again.
+const FIRST: BlockRow = BlockRow {
+    slot: 100,
+    root: RA,
+    want: Verdict::Pass,
+};
+
+const EARLY: BlockRow = BlockRow {
+    slot: 50,
+    root: RA,
+    want: Verdict::SlotBelow(100),
+};
+
+/// A record of that block, pruned.
+fn pruned(rt: &impl Abort, alloc: Global) -> Result<Record, AllocError> {
+    let mut record = Record::new(alloc);
+    propose_block(rt, &mut record, &FIRST)?;
+    record.prune()?;
+    Ok(record)
 }
 
 #[test]
 fn a_pruned_record_keeps_its_floor(rt: HostRuntime) -> Result<(), Fail> {
-    let alloc = rt.alloc();
-    let mut record = Record::new(alloc);
-    let first = Message::Block {
-        slot: 100,
-        root: RA,
-    };
-    assert_eq!(rt; propose(&mut record, first)?, Verdict::Pass);
-    record.prune()?;
-    record.merge_book(&book(alloc, &[block(50, Some(RA))], &[])?)?;
-    let early = Message::Block { slot: 50, root: RA };
-    assert_eq!(rt; propose(&mut record, early)?, Verdict::SlotBelow(100));
-    assert_eq!(rt; propose(&mut record, first)?, Verdict::Pass);
+    let mut record = pruned(&rt, rt.alloc())?;
+    merge(&mut record, rt.alloc(), &[block(50, Some(RA))], &[])?;
+    propose_blocks(&rt, &mut record, &[EARLY, FIRST])?;
     let floors = Floors {
         block: Some(100),
         vote: None,
     };
-    assert_eq!(rt; record.floors(), floors);
+    compare(&rt, &record.floors(), &floors);
+    Ok(())
+}
+
+/// Forty votes, the latest target first.
+fn falling(alloc: Global) -> Result<Vec<VoteEntry>, AllocError> {
+    let mut votes = Vec::new(alloc);
+    for number in 0..40 {
+        votes.push(vote(1, 100 - number, None))?;
+    }
+    Ok(votes)
+}
+
+/// The entries of those votes, the earliest target first.
+fn rising(alloc: Global) -> Result<Vec<Entry>, AllocError> {
+    let mut entries = Vec::new(alloc);
+    for number in 0..40 {
+        entries.push(Entry::Vote(vote(1, 61 + number, None)))?;
+    }
+    Ok(entries)
+}
+
+/// The record of a book of those votes.
+fn long_record(alloc: Global) -> Result<Record, AllocError> {
+    let votes = falling(alloc)?;
+    record_of(alloc, &[], votes.as_slice())
+}
+
+/// An empty record that another is joined to twice.
+fn joined_twice(alloc: Global, record: &Record) -> Result<Record, AllocError> {
+    let mut joined = Record::new(alloc);
+    joined.join(record)?;
+    joined.join(record)?;
+    Ok(joined)
+}
+
+/// The record gives these entries, and so does one that it is joined to.
+fn gives_joined(
+    rt: &impl Abort,
+    alloc: Global,
+    record: &Record,
+    want: &[Entry],
+) -> Result<(), AllocError> {
+    assert!(rt; gives(record, want));
+    let joined = joined_twice(alloc, record)?;
+    assert!(rt; gives(&joined, want));
+    compare(rt, &joined.floors(), &record.floors());
     Ok(())
 }
 
 #[test]
 fn a_long_book_comes_back_in_order(rt: HostRuntime) -> Result<(), Fail> {
-    let alloc = rt.alloc();
-    let mut falling = Vec::new(alloc);
-    let mut rising = Vec::new(alloc);
-    for number in 0..40 {
-        falling.push(vote(1, 100 - number, None))?;
-        rising.push(Entry::Vote(vote(1, 61 + number, None)))?;
-    }
-    let mut record = Record::new(alloc);
-    record.merge_book(&book(alloc, &[], falling.as_slice())?)?;
-    assert!(rt; gives(&record, rising.as_slice()));
-    let mut joined = Record::new(alloc);
-    joined.join(&record)?;
-    joined.join(&record)?;
-    assert!(rt; gives(&joined, rising.as_slice()));
-    assert_eq!(rt; joined.floors(), record.floors());
+    let record = long_record(rt.alloc())?;
+    let want = rising(rt.alloc())?;
+    gives_joined(&rt, rt.alloc(), &record, want.as_slice())?;
     Ok(())
 }
 
-#[test]
-fn a_record_of_parts_keeps_what_counts_once(rt: HostRuntime) -> Result<(), Fail> {
-    let alloc = rt.alloc();
-    let floors = Floors {
-        block: Some(10),
-        vote: Some((2, 9)),
-    };
+const FLOORS: Floors = Floors {
+    block: Some(10),
+    vote: Some((2, 9)),
+};
+
+/// A record of parts, some of them twice and some below the floors.
+fn record_of_parts(alloc: Global) -> Result<Record, AllocError> {
     let blocks = [
         block(12, Some(RA)),
         block(9, None),
@@ -191,11 +412,14 @@ fn a_record_of_parts_keeps_what_counts_once(rt: HostRuntime) -> Result<(), Fail>
         vote(3, 8, Some(RB)),
         vote(4, 11, None),
     ];
-    let record = Record::of_parts(
-        floors,
-        Vec::from_slice(alloc, &blocks)?,
-        Vec::from_slice(alloc, &votes)?,
-    )?;
+    let blocks = Vec::from_slice(alloc, &blocks)?;
+    let votes = Vec::from_slice(alloc, &votes)?;
+    Record::of_parts(FLOORS, blocks, votes)
+}
+
+#[test]
+fn a_record_of_parts_keeps_what_counts_once(rt: HostRuntime) -> Result<(), Fail> {
+    let record = record_of_parts(rt.alloc())?;
     let want = [
         Entry::Block(block(10, None)),
         Entry::Block(block(12, Some(RA))),
@@ -203,7 +427,7 @@ fn a_record_of_parts_keeps_what_counts_once(rt: HostRuntime) -> Result<(), Fail>
         Entry::Vote(vote(4, 11, None)),
     ];
     assert!(rt; gives(&record, &want));
-    assert_eq!(rt; record.floors(), floors);
+    compare(&rt, &record.floors(), &FLOORS);
     Ok(())
 }
 
@@ -223,67 +447,153 @@ fn check_in<L: Ledger>(record: &Record, slot: u64, blank: Blank) -> Verdict
     counted_check(record, slot, &mut steps)
 }
 
-#[test]
-fn a_block_among_a_thousand_passes(rt: HostRuntime) -> Result<(), Fail> {
-    let alloc = rt.alloc();
+/// A thousand blocks, of the even slots.
+fn thousand(alloc: Global) -> Result<Vec<BlockEntry>, AllocError> {
     let mut blocks = Vec::new(alloc);
     for half in 1..1001 {
         blocks.push(block(half * 2, None))?;
     }
-    let mut record = Record::new(alloc);
-    record.merge_book(&book(alloc, blocks.as_slice(), &[])?)?;
-    assert_eq!(rt; record.blocks().count(), 1000);
-    for (slot, want) in [
-        (1001, Verdict::Pass),
-        (1000, Verdict::DoubleBlock(block(1000, None))),
-        (2001, Verdict::Pass),
-        (1, Verdict::SlotBelow(2)),
-    ] {
-        let found = check_in::<Brand>(&record, slot, Blank::new(1));
-        assert_eq!(rt; found, want, "block of slot {slot}");
+    Ok(blocks)
+}
+
+/// The record of a book of those blocks.
+fn thousand_record(alloc: Global) -> Result<Record, AllocError> {
+    let blocks = thousand(alloc)?;
+    record_of(alloc, blocks.as_slice(), &[])
+}
+
+const BLOCK_1000: BlockEntry = BlockEntry {
+    slot: 1000,
+    root: None,
+};
+
+const COUNTED: &[BlockRow] = &[
+    BlockRow {
+        slot: 1001,
+        root: RA,
+        want: Verdict::Pass,
+    },
+    BlockRow {
+        slot: 1000,
+        root: RA,
+        want: Verdict::DoubleBlock(BLOCK_1000),
+    },
+    BlockRow {
+        slot: 2001,
+        root: RA,
+        want: Verdict::Pass,
+    },
+    BlockRow {
+        slot: 1,
+        root: RA,
+        want: Verdict::SlotBelow(2),
+    },
+];
+
+#[test]
+fn a_block_among_a_thousand_passes(rt: HostRuntime) -> Result<(), Fail> {
+    let record = thousand_record(rt.alloc())?;
+    compare(&rt, &record.blocks().count(), &1000);
+    for row in COUNTED {
+        let found = check_in::<Brand>(&record, row.slot, Blank::new(1));
+        compare_block(&rt, found, row);
     }
     Ok(())
 }
 
-#[test]
-fn the_first_in_file_order_is_named(rt: HostRuntime) -> Result<(), Fail> {
-    let alloc = rt.alloc();
-    let mut record = Record::new(alloc);
+const VOTE_5_12: VoteEntry = VoteEntry {
+    target: 12,
+    source: 5,
+    root: None,
+};
+
+const VOTE_8_14: VoteEntry = VoteEntry {
+    target: 14,
+    source: 8,
+    root: None,
+};
+
+const VOTE_7_16: VoteEntry = VoteEntry {
+    target: 16,
+    source: 7,
+    root: Some(RA),
+};
+
+const VOTE_4_20: VoteEntry = VoteEntry {
+    target: 20,
+    source: 4,
+    root: None,
+};
+
+/// The record of a book of these and more.
+fn mixed_record(alloc: Global) -> Result<Record, AllocError> {
     let blocks = [block(7, Some(RB)), block(7, Some(RA)), block(9, None)];
     let votes = [
         vote(6, 12, Some(RA)),
-        vote(5, 12, None),
+        VOTE_5_12,
         vote(5, 12, Some(RB)),
-        vote(8, 14, None),
-        vote(7, 16, Some(RA)),
-        vote(4, 20, None),
+        VOTE_8_14,
+        VOTE_7_16,
+        VOTE_4_20,
         vote(4, 21, None),
     ];
-    record.merge_book(&book(alloc, &blocks, &votes)?)?;
-    let rows = [
-        (4, 12, Verdict::DoubleVote(vote(5, 12, None))),
-        (4, 15, Verdict::Surrounds(vote(5, 12, None))),
-        (6, 17, Verdict::Surrounds(vote(8, 14, None))),
-        (9, 17, Verdict::Surrounded(vote(4, 20, None))),
-        (8, 15, Verdict::Surrounded(vote(7, 16, Some(RA)))),
-        (8, 22, Verdict::Pass),
-    ];
-    for (source, target, want) in rows {
-        let message = Message::Vote {
-            source,
-            target,
-            root: RA,
-        };
-        assert_eq!(rt;
-            record.check(&message),
-            want,
-            "vote from {source} to {target}"
-        );
-    }
+    record_of(alloc, &blocks, &votes)
+}
+
+const FIRST_NAMED: &[VoteRow] = &[
+    VoteRow {
+        source: 4,
+        target: 12,
+        root: RA,
+        want: Verdict::DoubleVote(VOTE_5_12),
+    },
+    VoteRow {
+        source: 4,
+        target: 15,
+        root: RA,
+        want: Verdict::Surrounds(VOTE_5_12),
+    },
+    VoteRow {
+        source: 6,
+        target: 17,
+        root: RA,
+        want: Verdict::Surrounds(VOTE_8_14),
+    },
+    VoteRow {
+        source: 9,
+        target: 17,
+        root: RA,
+        want: Verdict::Surrounded(VOTE_4_20),
+    },
+    VoteRow {
+        source: 8,
+        target: 15,
+        root: RA,
+        want: Verdict::Surrounded(VOTE_7_16),
+    },
+    VoteRow {
+        source: 8,
+        target: 22,
+        root: RA,
+        want: Verdict::Pass,
+    },
+];
+
+/// Of two blocks of a slot the first in file order is named, and the record keeps each.
+fn names_first_block(rt: &impl Abort, record: &Record) {
     let double = Message::Block { slot: 7, root: RB };
     let first = Verdict::DoubleBlock(block(7, Some(RA)));
-    assert_eq!(rt; record.check(&double), first);
+    compare(rt, &record.check(&double), &first);
     assert!(rt; record.keeps(&double));
     assert!(rt; !record.keeps(&Message::Block { slot: 9, root: RA }));
+}
+
+#[test]
+fn the_first_in_file_order_is_named(rt: HostRuntime) -> Result<(), Fail> {
+    let record = mixed_record(rt.alloc())?;
+    for row in FIRST_NAMED {
+        compare_vote(&rt, record.check(&vote_of(row)), row);
+    }
+    names_first_block(&rt, &record);
     Ok(())
 }

@@ -76,6 +76,21 @@ const ETH1_DATA: Eth1Data = Eth1Data {
     block_hash: Root([0x99; 32]),
 };
 
+const BODY_ROOT: &str = "0x5620d53731d27f45bd531285803514f2956a554e3f6cd11d6a211bea467f49af";
+
+const BLOCK_ROOT: &str = "0xa4ec3fa2312bf27dc71f9b3656ab512a5eaf6b5a3a01236b9473ed3bcb673870";
+
+const SIGNED_ROOT: &str = "0xa6c1cb65af80462aae66acb64dd857a7e35a6dcf2d89218f727a2ee8f235f3f8";
+
+/// The list of these values, which are no more than the limit, as this says.
+fn bounded<T: Drop, const LIMIT: usize>(
+    rt: &impl Abort,
+    items: Vec<T>,
+    what: &str,
+) -> BoundedList<T, LIMIT> {
+    BoundedList::try_new(items).ok().expect(rt, what)
+}
+
 /// A list of one value.
 fn one<T: Drop, const LIMIT: usize>(
     rt: &impl Abort,
@@ -84,15 +99,13 @@ fn one<T: Drop, const LIMIT: usize>(
 ) -> BoundedList<T, LIMIT> {
     let mut items = Vec::new(alloc);
     let _ = items.push(item);
-    BoundedList::try_new(items)
-        .ok()
-        .expect(rt, "within the limit")
+    bounded(rt, items, "within the limit")
 }
 
 fn attestation(rt: &impl Abort, alloc: Global) -> Result<Attestation, AllocError> {
     let bits = Vec::from_slice(alloc, &[true, false, true])?;
     Ok(Attestation {
-        aggregation_bits: BoundedList::try_new(bits).ok().expect(rt, "three bits"),
+        aggregation_bits: bounded(rt, bits, "three bits"),
         details: VOTE,
         signature: SIGNATURE,
     })
@@ -101,34 +114,58 @@ fn attestation(rt: &impl Abort, alloc: Global) -> Result<Attestation, AllocError
 fn indexed(rt: &impl Abort, alloc: Global) -> Result<IndexedAttestation, AllocError> {
     let indices = Vec::from_slice(alloc, &[5, 258, 3, 4, 9])?;
     Ok(IndexedAttestation {
-        attesting_indices: BoundedList::try_new(indices)
-            .ok()
-            .expect(rt, "five indices"),
+        attesting_indices: bounded(rt, indices, "five indices"),
         details: VOTE,
         signature: SIGNATURE,
     })
 }
 
-fn body(rt: &impl Abort, alloc: Global) -> Result<BeaconBlockBody, AllocError> {
-    let attester_slashing = AttesterSlashing {
+fn attester_slashing(rt: &impl Abort, alloc: Global) -> Result<AttesterSlashing, AllocError> {
+    Ok(AttesterSlashing {
         attestation_1: indexed(rt, alloc)?,
         attestation_2: indexed(rt, alloc)?,
-    };
+    })
+}
+
+fn push_attestation(
+    rt: &impl Abort,
+    alloc: Global,
+    attestations: &mut Vec<Attestation>,
+) -> Result<(), AllocError> {
+    attestations.push(attestation(rt, alloc)?)?;
+    Ok(())
+}
+
+fn attestations(rt: &impl Abort, alloc: Global) -> Result<Vec<Attestation>, AllocError> {
     let mut attestations = Vec::new(alloc);
-    attestations.push(attestation(rt, alloc)?)?;
-    attestations.push(attestation(rt, alloc)?)?;
-    Ok(BeaconBlockBody {
+    push_attestation(rt, alloc, &mut attestations)?;
+    push_attestation(rt, alloc, &mut attestations)?;
+    Ok(attestations)
+}
+
+/// A body that carries these.
+fn body_of(
+    rt: &impl Abort,
+    alloc: Global,
+    slashing: AttesterSlashing,
+    attestations: Vec<Attestation>,
+) -> BeaconBlockBody {
+    BeaconBlockBody {
         randao_reveal: Sig([0xaa; 96]),
         eth1_data: ETH1_DATA,
         graffiti: [0xbb; 32],
         proposer_slashings: one(rt, alloc, PROPOSER_SLASHING),
-        attester_slashings: one(rt, alloc, attester_slashing),
-        attestations: BoundedList::try_new(attestations)
-            .ok()
-            .expect(rt, "two attestations"),
+        attester_slashings: one(rt, alloc, slashing),
+        attestations: bounded(rt, attestations, "two attestations"),
         deposits: one(rt, alloc, DEPOSIT),
         voluntary_exits: one(rt, alloc, EXIT),
-    })
+    }
+}
+
+fn body(rt: &impl Abort, alloc: Global) -> Result<BeaconBlockBody, AllocError> {
+    let slashing = attester_slashing(rt, alloc)?;
+    let attestations = attestations(rt, alloc)?;
+    Ok(body_of(rt, alloc, slashing, attestations))
 }
 
 fn block(rt: &impl Abort, alloc: Global) -> Result<BeaconBlock, AllocError> {
@@ -141,65 +178,155 @@ fn block(rt: &impl Abort, alloc: Global) -> Result<BeaconBlock, AllocError> {
     })
 }
 
+fn signed_block(rt: &impl Abort, alloc: Global) -> Result<SignedBeaconBlock, AllocError> {
+    let message = block(rt, alloc)?;
+    Ok(Signed {
+        message,
+        signature: SIGNATURE,
+    })
+}
+
+/// Compares a root with the one that a text writes.
+fn compare_root(rt: &impl Abort, root: Root, text: &str) {
+    assert_eq!(rt; root, root_of(rt, text));
+}
+
+/// The roots of a block, of its header and of its body.
+fn compare_block(rt: &impl Abort, block: &BeaconBlock) {
+    compare_root(rt, block.body.root(), BODY_ROOT);
+    compare_root(rt, block.root(), BLOCK_ROOT);
+    compare_root(rt, block.header().root(), BLOCK_ROOT);
+}
+
+/// The root of the signed block that is read of a value.
+fn root_in(alloc: Global, json: &Value) -> Result<Result<Root, ReadFault>, AllocError> {
+    let read = SignedBeaconBlock::read_value(alloc, json)?;
+    Ok(read.map(|again| again.root()))
+}
+
+/// Compares it.
+fn compare_read(rt: &impl Abort, alloc: Global, json: &Value) -> Result<(), AllocError> {
+    let read = root_in(alloc, json)?;
+    assert_eq!(rt; read, Ok(root_of(rt, SIGNED_ROOT)));
+    Ok(())
+}
+
+/// The root of a signed block, and of what is read of its value.
+fn compare_signed(
+    rt: &impl Abort,
+    alloc: Global,
+    signed: &SignedBeaconBlock,
+) -> Result<(), AllocError> {
+    compare_root(rt, signed.root(), SIGNED_ROOT);
+    let json = signed.to_value(alloc)?;
+    compare_read(rt, alloc, &json)
+}
+
+/// The roots of a signed block and of what it carries.
+fn compare_whole(rt: &impl Abort, alloc: Global) -> Result<(), AllocError> {
+    let signed = signed_block(rt, alloc)?;
+    compare_block(rt, &signed.message);
+    compare_signed(rt, alloc, &signed)
+}
+
 #[test]
 fn a_block_and_what_it_carries(rt: HostRuntime) -> Result<(), Fail> {
-    let alloc = rt.alloc();
-    let block = block(&rt, alloc)?;
-    let body = root_of(
-        &rt,
-        "0x5620d53731d27f45bd531285803514f2956a554e3f6cd11d6a211bea467f49af",
-    );
-    assert_eq!(rt; block.body.root(), body);
-    let whole = root_of(
-        &rt,
-        "0xa4ec3fa2312bf27dc71f9b3656ab512a5eaf6b5a3a01236b9473ed3bcb673870",
-    );
-    assert_eq!(rt; block.root(), whole);
-    assert_eq!(rt; block.header().root(), whole);
-    let signed = Signed {
-        message: block,
-        signature: SIGNATURE,
+    compare_whole(&rt, rt.alloc())?;
+    Ok(())
+}
+
+/// A text of a bit list, and how many bits are read of it.
+#[derive(Clone, Copy)]
+struct BitsRow {
+    text: &'static str,
+    want: Result<usize, ReadFault>,
+}
+
+const BAD: Result<usize, ReadFault> = Err(ReadFault::BadHex(Member::AggregationBits));
+
+const BITS: &[BitsRow] = &[
+    BitsRow {
+        text: "",
+        want: BAD,
+    },
+    BitsRow {
+        text: "0x",
+        want: BAD,
+    },
+    BitsRow {
+        text: "0x00",
+        want: BAD,
+    },
+    BitsRow {
+        text: "0x0100",
+        want: BAD,
+    },
+    BitsRow {
+        text: "0xg1",
+        want: BAD,
+    },
+    BitsRow {
+        text: "0x01",
+        want: Ok(0),
+    },
+    BitsRow {
+        text: "0x0d",
+        want: Ok(3),
+    },
+    BitsRow {
+        text: "0x0001",
+        want: Ok(8),
+    },
+    BitsRow {
+        text: "0x0080",
+        want: Ok(15),
+    },
+];
+
+/// The value of an attestation.
+fn attestation_value(rt: &impl Abort, alloc: Global) -> Result<Value, AllocError> {
+    let attestation = attestation(rt, alloc)?;
+    attestation.to_value(alloc)
+}
+
+/// Sets the bit list of an attestation's value.
+fn set_bits(alloc: Global, json: &mut Value, text: &str) -> Result<(), AllocError> {
+    let Some(members) = json.as_object_mut() else {
+        return Ok(());
     };
-    let root = root_of(
-        &rt,
-        "0xa6c1cb65af80462aae66acb64dd857a7e35a6dcf2d89218f727a2ee8f235f3f8",
-    );
-    assert_eq!(rt; signed.root(), root);
-    let json = signed.to_value(alloc)?;
-    match SignedBeaconBlock::read_value(alloc, &json)? {
-        Ok(again) => assert_eq!(rt; again.root(), root),
-        Err(fault) => assert_eq!(rt; Some(fault), None),
-    }
+    let bits = Value::String(String::from_str(alloc, text)?);
+    members.insert(String::from_str(alloc, "aggregation_bits")?, bits)?;
+    Ok(())
+}
+
+/// How many bits are read of an attestation's value.
+fn bits_in(alloc: Global, json: &Value) -> Result<Result<usize, ReadFault>, AllocError> {
+    let read = Attestation::read_value(alloc, json)?;
+    Ok(read.map(|it| it.aggregation_bits.as_slice().len()))
+}
+
+/// How many bits are read of a text.
+fn bits_of(
+    rt: &impl Abort,
+    alloc: Global,
+    text: &str,
+) -> Result<Result<usize, ReadFault>, AllocError> {
+    let mut json = attestation_value(rt, alloc)?;
+    set_bits(alloc, &mut json, text)?;
+    bits_in(alloc, &json)
+}
+
+/// Compares what is read of a text.
+fn compare_bits(rt: &impl Abort, alloc: Global, row: &BitsRow) -> Result<(), AllocError> {
+    let read = bits_of(rt, alloc, row.text)?;
+    assert_eq!(rt; read, row.want, "{}", row.text);
     Ok(())
 }
 
 #[test]
 fn bit_list_texts(rt: HostRuntime) -> Result<(), Fail> {
-    let alloc = rt.alloc();
-    let bad = Err(ReadFault::BadHex(Member::AggregationBits));
-    let table = [
-        ("", bad),
-        ("0x", bad),
-        ("0x00", bad),
-        ("0x0100", bad),
-        ("0xg1", bad),
-        ("0x01", Ok(0)),
-        ("0x0d", Ok(3)),
-        ("0x0001", Ok(8)),
-        ("0x0080", Ok(15)),
-    ];
-    for (text, want) in table {
-        let mut json = attestation(&rt, alloc)?.to_value(alloc)?;
-        let bits = Value::String(String::from_str(alloc, text)?);
-        if let Some(members) = json.as_object_mut() {
-            members.insert(String::from_str(alloc, "aggregation_bits")?, bits)?;
-        }
-        let read = Attestation::read_value(alloc, &json)?;
-        assert_eq!(rt;
-            read.map(|it| it.aggregation_bits.as_slice().len()),
-            want,
-            "{text}"
-        );
+    for row in BITS {
+        compare_bits(&rt, rt.alloc(), row)?;
     }
     Ok(())
 }

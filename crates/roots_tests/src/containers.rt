@@ -4,6 +4,7 @@ use phase0_types::{
     BeaconBlockHeader, Checkpoint, Eth1Data, Fork, ForkData, Member, ReadFault, Shaped, SigningData,
 };
 use serde_json::Value;
+use std::alloc::Global;
 use std::process::Abort;
 use std::test::Fail;
 
@@ -49,73 +50,115 @@ const SIGNING_DATA: SigningData = SigningData {
     domain: [0xee; 32],
 };
 
+/// Compares a root with the one that a text writes.
+fn compare(rt: &impl Abort, root: Root, text: &str) {
+    assert_eq!(rt; root, root_of(rt, text));
+}
+
+/// Roots of what a vote and a block hold.
+fn compare_small(rt: &impl Abort) {
+    compare(
+        rt,
+        CHECKPOINT.root(),
+        "0xf5a5fd42d16a20302798ef6ed309979b43003d2320d9f0e8ea9831a92759fb4b",
+    );
+    compare(
+        rt,
+        ETH1_DATA.root(),
+        "0xdb56114e00fdd4c1f85c892bf35ac9a89289aaecb1ebd0a96cde606a748b5d71",
+    );
+    compare(
+        rt,
+        HEADER.root(),
+        "0xc78009fdf07fc56a11f122370658a353aaa542ed63e44c4bc15ff4cd105ab33c",
+    );
+}
+
+/// Roots of what signing roots are made of.
+fn compare_signing(rt: &impl Abort) {
+    compare(
+        rt,
+        FORK.root(),
+        "0x48bf63b1741e8c9b1902d2f16e60f4f7398c2b10ee7c0de3569ee7808b810029",
+    );
+    compare(
+        rt,
+        FORK_DATA.root(),
+        "0x3ac87e2bf74e75512d0cafeef9434d72483b7b7a3483b6a2a808e382c5dda4ff",
+    );
+    compare(
+        rt,
+        SIGNING_DATA.root(),
+        "0x76d3d65e76606ae16124bd6ab8361570c994ebbaaf8a862d02a2b7c05b53813b",
+    );
+}
+
 #[test]
 fn roots_of_small_containers(rt: HostRuntime) {
-    let table = [
-        (
-            CHECKPOINT.root(),
-            "0xf5a5fd42d16a20302798ef6ed309979b43003d2320d9f0e8ea9831a92759fb4b",
-        ),
-        (
-            ETH1_DATA.root(),
-            "0xdb56114e00fdd4c1f85c892bf35ac9a89289aaecb1ebd0a96cde606a748b5d71",
-        ),
-        (
-            HEADER.root(),
-            "0xc78009fdf07fc56a11f122370658a353aaa542ed63e44c4bc15ff4cd105ab33c",
-        ),
-        (
-            FORK.root(),
-            "0x48bf63b1741e8c9b1902d2f16e60f4f7398c2b10ee7c0de3569ee7808b810029",
-        ),
-        (
-            FORK_DATA.root(),
-            "0x3ac87e2bf74e75512d0cafeef9434d72483b7b7a3483b6a2a808e382c5dda4ff",
-        ),
-        (
-            SIGNING_DATA.root(),
-            "0x76d3d65e76606ae16124bd6ab8361570c994ebbaaf8a862d02a2b7c05b53813b",
-        ),
-    ];
-    for (root, text) in table {
-        assert_eq!(rt; root, root_of(&rt, text));
-    }
+    compare_small(&rt);
+    compare_signing(&rt);
+}
+
+/// A text of a checkpoint, and the fault that is found in it.
+#[derive(Clone, Copy)]
+struct FaultRow {
+    text: &'static str,
+    fault: ReadFault,
+}
+
+const FAULTS: &[FaultRow] = &[
+    FaultRow {
+        text: "[]",
+        fault: ReadFault::Json,
+    },
+    FaultRow {
+        text: "{}",
+        fault: ReadFault::Missing(Member::Epoch),
+    },
+    FaultRow {
+        text: r#"{"epoch":1,"root":"0x"}"#,
+        fault: ReadFault::Missing(Member::Epoch),
+    },
+    FaultRow {
+        text: r#"{"epoch":null,"root":"0x"}"#,
+        fault: ReadFault::Missing(Member::Epoch),
+    },
+    FaultRow {
+        text: r#"{"epoch":"-1","root":"0x"}"#,
+        fault: ReadFault::BadNumber(Member::Epoch),
+    },
+    FaultRow {
+        text: r#"{"epoch":"18446744073709551616"}"#,
+        fault: ReadFault::BadNumber(Member::Epoch),
+    },
+    FaultRow {
+        text: r#"{"epoch":"18446744073709551615"}"#,
+        fault: ReadFault::Missing(Member::Root),
+    },
+    FaultRow {
+        text: r#"{"epoch":"1","root":"0x11"}"#,
+        fault: ReadFault::BadHex(Member::Root),
+    },
+];
+
+/// What is read of a text.
+fn read(alloc: Global, text: &str) -> Result<Result<Checkpoint, ReadFault>, Fail> {
+    let json = Value::from_str(alloc, text)?;
+    Ok(Checkpoint::read_value(alloc, &json)?)
+}
+
+/// Compares the fault in what is read of a text.
+fn compare_fault(rt: &impl Abort, alloc: Global, row: &FaultRow) -> Result<(), Fail> {
+    let (text, fault) = (row.text, row.fault);
+    let found = read(alloc, text)?;
+    assert_eq!(rt; found, Err(fault), "{text}");
+    Ok(())
 }
 
 #[test]
 fn checkpoints_with_faults(rt: HostRuntime) -> Result<(), Fail> {
-    let alloc = rt.alloc();
-    let table = [
-        ("[]", ReadFault::Json),
-        ("{}", ReadFault::Missing(Member::Epoch)),
-        (
-            r#"{"epoch":1,"root":"0x"}"#,
-            ReadFault::Missing(Member::Epoch),
-        ),
-        (
-            r#"{"epoch":null,"root":"0x"}"#,
-            ReadFault::Missing(Member::Epoch),
-        ),
-        (
-            r#"{"epoch":"-1","root":"0x"}"#,
-            ReadFault::BadNumber(Member::Epoch),
-        ),
-        (
-            r#"{"epoch":"18446744073709551616"}"#,
-            ReadFault::BadNumber(Member::Epoch),
-        ),
-        (
-            r#"{"epoch":"18446744073709551615"}"#,
-            ReadFault::Missing(Member::Root),
-        ),
-        (
-            r#"{"epoch":"1","root":"0x11"}"#,
-            ReadFault::BadHex(Member::Root),
-        ),
-    ];
-    for (text, fault) in table {
-        let json = Value::from_str(alloc, text)?;
-        assert_eq!(rt; Checkpoint::read_value(alloc, &json)?, Err(fault), "{text}");
+    for row in FAULTS {
+        compare_fault(&rt, rt.alloc(), row)?;
     }
     Ok(())
 }

@@ -1,6 +1,7 @@
 //! Roots against those that another program computed.
 use edge_kit::{Root, read_hex};
 use ssz_roots::{TooLong, bits_root, merkleize, mix_length, pack};
+use std::alloc::{AllocError, Global};
 use std::process::Abort;
 use std::test::Fail;
 
@@ -76,35 +77,49 @@ const ROOTS: [(usize, u64, &str); 10] = [
     ),
 ];
 
+/// Compares the root of so many chunks with the one that a text writes.
+fn compare_chunks(rt: &impl Abort, count: usize, limit: u64, text: &str) {
+    assert!(rt; count <= CHUNKS.len());
+    let root = merkleize(&CHUNKS[..count], limit);
+    assert_eq!(rt; root, Ok(root_of(rt, text)), "{count} of {limit}");
+}
+
 #[test]
-fn roots_of_chunks(rt: HostRuntime) -> Result<(), Fail> {
+fn roots_of_chunks(rt: HostRuntime) {
     for (count, limit, text) in ROOTS {
-        assert!(rt; count <= CHUNKS.len());
-        let root = merkleize(&CHUNKS[..count], limit);
-        assert_eq!(rt; root, Ok(root_of(&rt, text)), "{count} of {limit}");
+        compare_chunks(&rt, count, limit, text);
     }
     assert_eq!(rt;
         merkleize(&CHUNKS[..3], 2),
         Err(TooLong { len: 3, limit: 2 })
     );
-    Ok(())
 }
 
-#[test]
-fn bits_lengths_and_bytes(rt: HostRuntime) -> Result<(), Fail> {
+/// The root of three bits.
+fn compare_three(rt: &impl Abort) {
     let three = root_of(
-        &rt,
+        rt,
         "0x3e12247922e9a35940d918b4c8525585cf6b6f712ad447e64e56e1e8a6859a8f",
     );
     assert_eq!(rt; bits_root(&[true; 3], 2048), Ok(three));
-    let thirds = root_of(
-        &rt,
-        "0x3e16b13cb02ba442c98ae24df4da64fdf0ce54723d5ee00ff3aec5e38d32737a",
-    );
+}
+
+/// 300 bits, of which each third is set.
+fn third_bits() -> [bool; 300] {
     let mut bits = [false; 300];
     for place in 0..100 {
         bits[3 * place] = true;
     }
+    bits
+}
+
+/// The root of those bits, under a limit that they keep and under one that they don't.
+fn compare_thirds(rt: &impl Abort) {
+    let bits = third_bits();
+    let thirds = root_of(
+        rt,
+        "0x3e16b13cb02ba442c98ae24df4da64fdf0ce54723d5ee00ff3aec5e38d32737a",
+    );
     assert_eq!(rt; bits_root(&bits, 2048), Ok(thirds));
     assert_eq!(rt;
         bits_root(&bits, 299),
@@ -113,14 +128,31 @@ fn bits_lengths_and_bytes(rt: HostRuntime) -> Result<(), Fail> {
             limit: 299
         })
     );
+}
+
+/// A root with a length.
+fn compare_mixed(rt: &impl Abort) {
     let mixed = root_of(
-        &rt,
+        rt,
         "0x8f2ce6d6db58e75453782ddf04486fe26bd1f1e1ebef0198375cc2b5045272f2",
     );
     assert_eq!(rt; mix_length(Root([1; 32]), 258), mixed);
-    let chunks = pack(rt.alloc(), &[7; 33])?;
+}
+
+/// The chunks of 33 bytes.
+fn compare_packed(rt: &impl Abort, alloc: Global) -> Result<(), AllocError> {
+    let chunks = pack(alloc, &[7; 33])?;
     let mut last = [0; 32];
     last[0] = 7;
     assert_eq!(rt; chunks.as_slice(), [Root([7; 32]), Root(last)].as_slice());
+    Ok(())
+}
+
+#[test]
+fn bits_lengths_and_bytes(rt: HostRuntime) -> Result<(), Fail> {
+    compare_three(&rt);
+    compare_thirds(&rt);
+    compare_mixed(&rt);
+    compare_packed(&rt, rt.alloc())?;
     Ok(())
 }

@@ -98,41 +98,57 @@ const DOMAINS: [(DomainKind, u64, &str); 7] = [
     ),
 ];
 
+/// Compares the domain of a kind at an epoch with the bytes that a text writes.
+fn compare_domain(rt: &impl Abort, kind: DomainKind, epoch: u64, text: &str) {
+    let domain = forked_chain().domain(kind, epoch);
+    assert_eq!(rt; domain, bytes_of(rt, text), "{kind:?} {epoch}");
+}
+
 #[test]
 fn domains_by_kind_and_epoch(rt: HostRuntime) {
     let zero = zero_chain().domain(DomainKind::BeaconAttester, 0);
     assert_eq!(rt; zero, bytes_of(&rt, ZERO_DOMAIN));
     for (kind, epoch, text) in DOMAINS {
-        assert_eq!(rt;
-            forked_chain().domain(kind, epoch),
-            bytes_of(&rt, text),
-            "{kind:?} {epoch}"
-        );
+        compare_domain(&rt, kind, epoch, text);
     }
+}
+
+/// Compares a signing root with the one that a text writes.
+fn compare_root(rt: &impl Abort, root: Root, text: &str) {
+    assert_eq!(rt; root, Root(bytes_of(rt, text)), "{text}");
+}
+
+/// Signing roots of blocks before and behind the fork.
+fn compare_blocks(rt: &impl Abort, domains: &Domains) {
+    compare_root(
+        rt,
+        domains.block_root(&header(319)),
+        "0x0baf17fb328256a114589eb85a74e86088e734ae1d7ff47e3c898706263ab199",
+    );
+    compare_root(
+        rt,
+        domains.block_root(&header(320)),
+        "0x168cefd67beb23a62d95aad80518747d6993a5554eccacd3afa0ea885e847180",
+    );
+}
+
+/// Signing roots of votes before and behind the fork.
+fn compare_votes(rt: &impl Abort, domains: &Domains) {
+    compare_root(
+        rt,
+        domains.attestation_root(&vote(8, 9)),
+        "0xfacd83ef64a9c7d7c04f3db069bafbb9a3589b7c33fc888e7c68f0b34ad587f0",
+    );
+    compare_root(
+        rt,
+        domains.attestation_root(&vote(9, 10)),
+        "0xbe43ab42c529c4b6c4bb3c7ef68b22b6a8553b7e2d67d942ffde712363a8bf3a",
+    );
 }
 
 #[test]
 fn signing_roots_of_blocks_and_votes(rt: HostRuntime) {
     let domains = forked_chain();
-    let table = [
-        (
-            domains.block_root(&header(319)),
-            "0x0baf17fb328256a114589eb85a74e86088e734ae1d7ff47e3c898706263ab199",
-        ),
-        (
-            domains.block_root(&header(320)),
-            "0x168cefd67beb23a62d95aad80518747d6993a5554eccacd3afa0ea885e847180",
-        ),
-        (
-            domains.attestation_root(&vote(8, 9)),
-            "0xfacd83ef64a9c7d7c04f3db069bafbb9a3589b7c33fc888e7c68f0b34ad587f0",
-        ),
-        (
-            domains.attestation_root(&vote(9, 10)),
-            "0xbe43ab42c529c4b6c4bb3c7ef68b22b6a8553b7e2d67d942ffde712363a8bf3a",
-        ),
-    ];
-    for (root, text) in table {
-        assert_eq!(rt; root, Root(bytes_of(&rt, text)), "{text}");
-    }
+    compare_blocks(&rt, &domains);
+    compare_votes(&rt, &domains);
 }

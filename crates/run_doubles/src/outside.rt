@@ -135,6 +135,31 @@ impl<S> Ended<S> {
     }
 }
 
+/// The words of one text, with marks and with spaces between them.
+fn split_words(alloc: Global, marked: &str) -> Result<Vec<String>, AllocError> {
+    let text = filled(alloc, marked)?;
+    let mut words = Vec::new(alloc);
+    for word in text.split_whitespace() {
+        words.push(String::from_str(alloc, word)?)?;
+    }
+    Ok(words)
+}
+
+/// What a run reads from and what it writes to.
+#[derive(Drop)]
+struct Streams {
+    source: MemSource,
+    sink: MemSink,
+}
+
+/// An input of these bytes and an empty output, with their faults.
+fn streams_of(alloc: Global, input: &[u8], faults: Faults) -> Result<Streams, AllocError> {
+    let input = Vec::from_slice(alloc, input)?;
+    let source = MemSource::new(input, faults.reads);
+    let sink = MemSink::new(alloc, faults.room, faults.writes)?;
+    Ok(Streams { source, sink })
+}
+
 /// Runs the program over disks and an input. Its words are one text, with marks and with spaces between them.
 pub fn run<T: Threads + Wait + Sync, S: Signer + Send + Drop>(
     rt: &T,
@@ -145,39 +170,33 @@ pub fn run<T: Threads + Wait + Sync, S: Signer + Send + Drop>(
     signer: S,
     faults: Faults,
 ) -> Result<Ended<S>, AllocError> {
-    let words = filled(alloc, words)?;
-    let mut texts: Vec<String> = Vec::new(alloc);
-    for word in words.split_whitespace() {
-        texts.push(String::from_str(alloc, word)?)?;
-    }
-    let Faults {
-        reads,
-        writes,
-        room,
-    } = faults;
-    let mut source = MemSource::new(Vec::from_slice(alloc, input)?, reads);
-    let mut sink = MemSink::new(alloc, room, writes)?;
-    let nodes: Vec<MemNode> = Vec::new(alloc);
+    let words = split_words(alloc, words)?;
+    let mut streams = streams_of(alloc, input, faults)?;
     let door = MemDoor::new(alloc, Vec::new(alloc), Vec::new(alloc))?;
     let ending = run_validator(
         rt,
         alloc,
-        texts.as_slice(),
+        words.as_slice(),
         disks,
         signer,
-        nodes,
+        no_nodes(alloc),
         MemClock::new(0, Vec::new(alloc)),
         door,
-        &mut source,
-        &mut sink,
+        &mut streams.source,
+        &mut streams.sink,
     );
     Ok(Ended {
         status: ending.status,
-        output: sink.into_bytes(),
+        output: streams.sink.into_bytes(),
         disks: ending.disks,
         signer: ending.signer,
         events: ending.events,
     })
+}
+
+/// No beacon node.
+fn no_nodes(alloc: Global) -> Vec<MemNode> {
+    Vec::new(alloc)
 }
 
 /// Runs words over disks and an input with marks, where nothing fails and the signer holds every key.

@@ -10,7 +10,9 @@ use std::alloc::{AllocError, Global};
 /// The signing service and the beacon nodes of a lane.
 #[derive(Drop)]
 pub struct LaneEnd<S, N> {
+    /// Another access to the signing service.
     pub signer: S,
+    /// Other accesses to the beacon nodes, in their order.
     pub nodes: Nodes<N>,
 }
 

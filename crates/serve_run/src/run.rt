@@ -27,10 +27,12 @@ use std::alloc::{AllocError, Global};
 use std::sync::Wait;
 use std::thread::Threads;
 
-/// What a client leaves that served, beside what it was lent.
+/// What a run of a client leaves, beside what it was lent.
 #[derive(Drop)]
 pub struct ServeEnd<D, S, N> {
+    /// The least status of both loops, or why they did not begin.
     pub status: Status,
+    /// The disks that were handed in.
     pub disks: Disks<D>,
     /// What the desk did, in order; nothing where none was opened.
     pub events: Events,

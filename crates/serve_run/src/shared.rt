@@ -133,11 +133,10 @@ pub(crate) fn serve_desk<
         mut ends,
     } = room;
     let work = work_of(alloc, options, start, clock);
-    let shared = &owner.shared;
     let loops = serve_seated(
         rt,
         &work,
-        shared,
+        &owner.shared,
         own,
         other,
         given,

@@ -1,5 +1,5 @@
 //! Sessions over an input, an output and a signer that fail.
-use crate::sessions::{look_at, run_fresh};
+use crate::sessions::{look_at, run_fresh, signer_of};
 use edge_kit::PubKey;
 use run_doubles::{Ended, Faults, SESSION, filled, no_faults, ready_signer};
 use signer_link::MemSigner;
@@ -123,20 +123,13 @@ const UNSIGNED: &[Unsigned] = &[
     },
 ];
 
-/// The signer of a row.
-fn signer_of(alloc: Global, row: &Unsigned) -> Result<MemSigner, AllocError> {
-    let lacking = Vec::from_slice(alloc, row.lacking)?;
-    let failing = Vec::from_slice(alloc, row.failing)?;
-    Ok(MemSigner::new(alloc, lacking, failing))
-}
-
 /// Runs a session with the signer of a row, and compares what it came to.
 fn sign_none<T: Threads + Wait + Sync + Abort>(
     rt: &T,
     alloc: Global,
     row: &Unsigned,
 ) -> Result<(), AllocError> {
-    let signer = signer_of(alloc, row)?;
+    let signer = signer_of(alloc, row.lacking, row.failing)?;
     let ended = run_input(rt, alloc, signer, no_faults(alloc))?;
     let events = "0 activated <K1>\n0 granted 0 <K1> block 1 <Ra>\n0 dropped 0\n";
     look_at(rt, alloc, &ended, Status::Done, row.output, events)

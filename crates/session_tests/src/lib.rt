@@ -2,6 +2,10 @@
 #![tactic(auto)]
 
 #[cfg(test)]
+mod compactions;
+#[cfg(test)]
+mod custody;
+#[cfg(test)]
 mod faults;
 #[cfg(test)]
 mod objects;

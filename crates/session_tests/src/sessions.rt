@@ -1,5 +1,5 @@
 //! Sessions without faults: what is read, what is written, and what the desk did.
-use edge_kit::{Disks, MemDisk};
+use edge_kit::{Disks, MemDisk, PubKey};
 use run_doubles::{
     Ended, Faults, SESSION, Session, came_to, disks_after, filled, fresh_disks, in_two, no_faults,
     play, ready_signer, run, titled,
@@ -42,6 +42,17 @@ pub fn run_fresh<T: Threads + Wait + Sync, S: Signer + Drop + Send>(
     run(rt, alloc, words, disks, input.as_bytes(), signer, faults)
 }
 
+/// A signer that lacks these keys, and fails at these calls.
+pub fn signer_of(
+    alloc: Global,
+    lacking: &[PubKey],
+    failing: &[u64],
+) -> Result<MemSigner, AllocError> {
+    let lacking = Vec::from_slice(alloc, lacking)?;
+    let failing = Vec::from_slice(alloc, failing)?;
+    Ok(MemSigner::new(alloc, lacking, failing))
+}
+
 /// Compares what a run came to with a status, an output and events.
 pub fn look_at<T: Abort, S>(
     rt: &T,
@@ -72,34 +83,43 @@ pub fn play_over<T: Threads + Wait + Sync + Abort>(
     compare(rt, alloc, shows, &ended, session)
 }
 
-/// Runs a session over empty disks, compares what it came to with what it has to come to, and gives the disks that it
-/// leaves.
+/// Runs a session over disks, compares what it came to with what it has to come to, and gives the disks that it leaves.
+pub fn play_on<T: Threads + Wait + Sync + Abort>(
+    rt: &T,
+    alloc: Global,
+    shows: &str,
+    disks: Disks<MemDisk>,
+    session: &Session,
+) -> Result<Disks<MemDisk>, AllocError> {
+    let ended = play(rt, alloc, SESSION, disks, session.input.as_str())?;
+    compare(rt, alloc, shows, &ended, session)?;
+    disks_after(alloc, &ended)
+}
+
+/// Runs a session over empty disks so.
 pub fn play_first<T: Threads + Wait + Sync + Abort>(
     rt: &T,
     alloc: Global,
     shows: &str,
     session: &Session,
 ) -> Result<Disks<MemDisk>, AllocError> {
-    let disks = fresh_disks(alloc)?;
-    let ended = play(rt, alloc, SESSION, disks, session.input.as_str())?;
-    compare(rt, alloc, shows, &ended, session)?;
-    disks_after(alloc, &ended)
+    play_on(rt, alloc, shows, fresh_disks(alloc)?, session)
 }
 
-/// Runs the session of a script, and compares what it came to with what it has to come to.
-fn play_script<T: Threads + Wait + Sync + Abort>(
+/// Runs the session of a script over disks, and compares what it came to with what it has to come to.
+pub fn play_script<T: Threads + Wait + Sync + Abort>(
     rt: &T,
     alloc: Global,
     words: &str,
     script: &str,
+    disks: Disks<MemDisk>,
 ) -> Result<(), AllocError> {
     let (shows, lines) = titled(script);
     let session = Session::read(alloc, lines)?;
-    let disks = fresh_disks(alloc)?;
     play_over(rt, alloc, shows, words, disks, &session)
 }
 
-/// Runs each session of these words, and compares what it came to with what it has to come to.
+/// Runs each session of these words over empty disks, and compares what it came to with what it has to come to.
 pub fn play_each<T: Threads + Wait + Sync + Abort>(
     rt: &T,
     alloc: Global,
@@ -107,7 +127,7 @@ pub fn play_each<T: Threads + Wait + Sync + Abort>(
     scripts: &[&str],
 ) -> Result<(), AllocError> {
     for script in scripts {
-        play_script(rt, alloc, words, script)?;
+        play_script(rt, alloc, words, script, fresh_disks(alloc)?)?;
     }
     Ok(())
 }
@@ -126,13 +146,13 @@ fn sessions_with_files_answer_line_by_line(rt: HostRuntime) -> Result<(), Fail> 
 
 /// A session without its last request, and its last request.
 #[derive(Drop)]
-struct Halves {
-    before: Session,
-    last: Session,
+pub struct Halves {
+    pub before: Session,
+    pub last: Session,
 }
 
 /// The halves of the session that these lines are.
-fn halves_of(alloc: Global, lines: &str) -> Result<Halves, AllocError> {
+pub fn halves_of(alloc: Global, lines: &str) -> Result<Halves, AllocError> {
     let (front, end) = in_two(alloc, lines)?;
     let before = Session::read(alloc, front.as_str())?;
     let last = Session::read(alloc, end.as_str())?;
@@ -156,7 +176,7 @@ fn compare_last<T: Abort>(
 }
 
 /// Runs the last request of a session over the disks that the requests before it left, and compares what it came to.
-fn play_last<T: Threads + Wait + Sync + Abort>(
+pub fn play_last<T: Threads + Wait + Sync + Abort>(
     rt: &T,
     alloc: Global,
     shows: &str,

@@ -7,7 +7,7 @@ use signer_link::{
     DeleteReply, ImportReply, PlainObject, PlainRequest, SignObject, SignReply, SignRequest, Signer,
 };
 use slash_defs::{Granted, Message};
-use std::alloc::Global;
+use std::alloc::{AllocError, Global};
 use std::process::Abort;
 use std::test::Fail;
 use web3_signer::Web3Signer;
@@ -46,33 +46,54 @@ const PERMIT: Permit = Permit {
 };
 
 /// The bytes of a response.
-fn response(alloc: Global, status: u16, body: &str) -> Result<Vec<u8>, Fail> {
+fn response(alloc: Global, status: u16, body: &str) -> Result<Vec<u8>, AllocError> {
     let len = body.len();
     let text = format!(in alloc; "HTTP/1.1 {status} X\r\nContent-Length: {len}\r\n\r\n{body}")?;
     Ok(text.into_bytes())
 }
 
-/// A Web3Signer that says these bytes, and whose link fails at these calls.
-fn signer(alloc: Global, said: Vec<u8>, failing: Vec<u64>) -> Result<Web3Signer<MemLink>, Fail> {
-    let link = MemLink::new(alloc, vec![in alloc; said]?, 2000, failing)?;
-    match ServiceUrl::read(alloc, "http://signer:9000/base/")? {
-        Some(url) => Ok(Web3Signer::new(link, url)),
-        None => Err(Fail::new("no address")),
-    }
+/// A link whose peer says these bytes, and which fails at these calls.
+fn link(alloc: Global, said: Vec<u8>, failing: &[u64]) -> Result<MemLink, AllocError> {
+    let conversations = vec![in alloc; said]?;
+    let failing = Vec::from_slice(alloc, failing)?;
+    MemLink::new(alloc, conversations, 2000, failing)
 }
 
-/// To sign a block that was made of this.
-fn request_of(object: SignObject) -> SignRequest {
-    SignRequest {
-        fork: Fork {
-            previous_version: [0, 0, 0, 1],
-            current_version: [0, 0, 0, 2],
-            epoch: 7,
-        },
-        genesis: Root([3; 32]),
-        object: Some(object),
-    }
+fn address(rt: &impl Abort, alloc: Global) -> Result<ServiceUrl, AllocError> {
+    let url = ServiceUrl::read(alloc, "http://signer:9000/base/")?;
+    Ok(url.expect(rt, "no address"))
 }
+
+/// A Web3Signer that says these bytes, and whose link fails at these calls.
+fn signer(
+    rt: &impl Abort,
+    alloc: Global,
+    said: Vec<u8>,
+    failing: &[u64],
+) -> Result<Web3Signer<MemLink>, AllocError> {
+    let link = link(alloc, said, failing)?;
+    let url = address(rt, alloc)?;
+    Ok(Web3Signer::new(link, url))
+}
+
+/// A Web3Signer that answers with a status and a body.
+fn signer_at(
+    rt: &impl Abort,
+    alloc: Global,
+    status: u16,
+    body: &str,
+) -> Result<Web3Signer<MemLink>, AllocError> {
+    let said = response(alloc, status, body)?;
+    signer(rt, alloc, said, &[])
+}
+
+const FORK: Fork = Fork {
+    previous_version: [0, 0, 0, 1],
+    current_version: [0, 0, 0, 2],
+    epoch: 7,
+};
+
+const GENESIS: Root = Root([3; 32]);
 
 fn header() -> SignObject {
     SignObject::Header(BeaconBlockHeader {
@@ -84,16 +105,14 @@ fn header() -> SignObject {
     })
 }
 
-fn none<T: Drop, const LIMIT: usize>(alloc: Global) -> Result<BoundedList<T, LIMIT>, Fail> {
-    match BoundedList::try_new(Vec::new(alloc)) {
-        Ok(list) => Ok(list),
-        Err(_) => Err(Fail::new("no list")),
-    }
+fn none<T: Drop, const LIMIT: usize>(rt: &impl Abort, alloc: Global) -> BoundedList<T, LIMIT> {
+    let list = BoundedList::try_new(Vec::new(alloc));
+    list.ok().expect(rt, "no list")
 }
 
-/// A whole block whose lists are empty.
-fn whole_block(alloc: Global) -> Result<SignObject, Fail> {
-    let body = BeaconBlockBody {
+/// The body of a block, with empty lists.
+fn whole_body(rt: &impl Abort, alloc: Global) -> BeaconBlockBody {
+    BeaconBlockBody {
         randao_reveal: Sig([7; 96]),
         eth1_data: Eth1Data {
             deposit_root: Root([8; 32]),
@@ -101,153 +120,377 @@ fn whole_block(alloc: Global) -> Result<SignObject, Fail> {
             block_hash: Root([10; 32]),
         },
         graffiti: [11; 32],
-        proposer_slashings: none(alloc)?,
-        attester_slashings: none(alloc)?,
-        attestations: none(alloc)?,
-        deposits: none(alloc)?,
-        voluntary_exits: none(alloc)?,
-    };
-    Ok(SignObject::Block(BeaconBlock {
+        proposer_slashings: none(rt, alloc),
+        attester_slashings: none(rt, alloc),
+        attestations: none(rt, alloc),
+        deposits: none(rt, alloc),
+        voluntary_exits: none(rt, alloc),
+    }
+}
+
+/// A whole block whose lists are empty.
+fn whole_block(rt: &impl Abort, alloc: Global) -> SignObject {
+    SignObject::Block(BeaconBlock {
         slot: 9,
         proposer_index: 5,
         parent_root: Root([4; 32]),
         state_root: Root([5; 32]),
-        body,
-    }))
+        body: whole_body(rt, alloc),
+    })
 }
 
-fn with_body(alloc: Global, name: &str, body: &Items<u8>) -> Result<String, Fail> {
+fn with_body(alloc: Global, name: &str, body: &Items<u8>) -> Result<String, AllocError> {
     let text = String::from_utf8_lossy(alloc, body.as_slice())?;
-    Ok(format!(in alloc; "{name} {}", text.as_str())?)
+    format!(in alloc; "{name} {}", text.as_str())
 }
 
-fn sign_words(alloc: Global, reply: &SignReply) -> Result<String, Fail> {
+fn sign_words(alloc: Global, reply: &SignReply) -> Result<String, AllocError> {
     match reply {
-        SignReply::Signed(signature) => Ok(format!(in alloc; "signed {}", signature.0[95])?),
-        SignReply::NoKey(status) => Ok(format!(in alloc; "no key {status:?}")?),
-        SignReply::Denied(status) => Ok(format!(in alloc; "denied {status}")?),
-        SignReply::Fault => Ok(String::from_str(alloc, "fault")?),
+        SignReply::Signed(signature) => format!(in alloc; "signed {}", signature.0[95]),
+        SignReply::NoKey(status) => format!(in alloc; "no key {status:?}"),
+        SignReply::Denied(status) => format!(in alloc; "denied {status}"),
+        SignReply::Fault => String::from_str(alloc, "fault"),
         SignReply::BadAnswer(body) => with_body(alloc, "bad", body),
-        SignReply::OutOfMemory => Ok(String::from_str(alloc, "none")?),
+        SignReply::OutOfMemory => String::from_str(alloc, "none"),
     }
 }
 
-/// What `sign` answers where the peer says these bytes and the link fails at these calls.
-fn signed(alloc: Global, said: Vec<u8>, failing: Vec<u64>) -> Result<String, Fail> {
-    let mut signer = signer(alloc, said, failing)?;
-    sign_words(alloc, &signer.sign(&request_of(header()), &PERMIT))
+/// Asks for a block that was made of this to be signed.
+fn sign(signer: &mut Web3Signer<MemLink>, object: SignObject) -> SignReply {
+    let request = SignRequest {
+        fork: FORK,
+        genesis: GENESIS,
+        object: Some(object),
+    };
+    signer.sign(&request, &PERMIT)
 }
 
-/// What `sign` answers to a status and a body.
-fn signed_at(alloc: Global, status: u16, body: &str) -> Result<String, Fail> {
-    signed(alloc, response(alloc, status, body)?, Vec::new(alloc))
+/// What `sign` answers for a block.
+fn signed(alloc: Global, signer: &mut Web3Signer<MemLink>) -> Result<String, AllocError> {
+    let reply = sign(signer, header());
+    sign_words(alloc, &reply)
+}
+
+/// Compares a text with the one that is wanted.
+fn compare(rt: &impl Abort, found: &str, wanted: &str) {
+    assert_eq!(rt; found, wanted);
+}
+
+/// Compares what `sign` answers for a block.
+fn compare_signed(
+    rt: &impl Abort,
+    alloc: Global,
+    signer: &mut Web3Signer<MemLink>,
+    words: &str,
+) -> Result<(), AllocError> {
+    let found = signed(alloc, signer)?;
+    compare(rt, found.as_str(), words);
+    Ok(())
+}
+
+/// Compares what `sign` answers to a status and a body.
+fn compare_at(
+    rt: &impl Abort,
+    alloc: Global,
+    status: u16,
+    body: &str,
+    words: &str,
+) -> Result<(), AllocError> {
+    let mut signer = signer_at(rt, alloc, status, body)?;
+    compare_signed(rt, alloc, &mut signer, words)
+}
+
+/// Bytes in hex between two texts.
+#[derive(Clone, Copy)]
+struct Wrapped {
+    before: &'static str,
+    bytes: &'static [u8],
+    behind: &'static str,
+}
+
+/// A status and a body, and what `sign` answers to them.
+#[derive(Clone, Copy)]
+struct AnswerRow {
+    status: u16,
+    body: Wrapped,
+    words: &'static str,
+}
+
+const BARE: Wrapped = Wrapped {
+    before: "",
+    bytes: &[171; 96],
+    behind: "",
+};
+
+const ANSWERS: &[AnswerRow] = &[
+    AnswerRow {
+        status: 200,
+        body: BARE,
+        words: "signed 171",
+    },
+    AnswerRow {
+        status: 200,
+        body: Wrapped {
+            before: " \r\n",
+            bytes: &[171; 96],
+            behind: "\n ",
+        },
+        words: "signed 171",
+    },
+    AnswerRow {
+        status: 200,
+        body: Wrapped {
+            before: "{\"a\":1,\"signature\":\"",
+            bytes: &[171; 96],
+            behind: "\"}",
+        },
+        words: "signed 171",
+    },
+    AnswerRow {
+        status: 404,
+        body: BARE,
+        words: "no key Some(404)",
+    },
+    AnswerRow {
+        status: 412,
+        body: BARE,
+        words: "denied 412",
+    },
+];
+
+/// The bodies that are bad answers.
+const BAD: &[Wrapped] = &[
+    Wrapped {
+        before: "\"",
+        bytes: &[171; 96],
+        behind: "\"",
+    },
+    Wrapped {
+        before: "",
+        bytes: &[171; 95],
+        behind: "",
+    },
+];
+
+fn text_of(alloc: Global, wrapped: &Wrapped) -> Result<String, AllocError> {
+    let hex = hex_text(alloc, wrapped.bytes)?;
+    let (before, behind) = (wrapped.before, wrapped.behind);
+    format!(in alloc; "{before}{}{behind}", hex.as_str())
+}
+
+/// Compares the answer of a row.
+fn compare_row(rt: &impl Abort, alloc: Global, row: &AnswerRow) -> Result<(), AllocError> {
+    let body = text_of(alloc, &row.body)?;
+    compare_at(rt, alloc, row.status, body.as_str(), row.words)
+}
+
+/// A body is a bad answer.
+fn compare_bad(rt: &impl Abort, alloc: Global, body: &str) -> Result<(), AllocError> {
+    let words = format!(in alloc; "bad {body}")?;
+    compare_at(rt, alloc, 200, body, words.as_str())
+}
+
+/// So is one with bytes in hex.
+fn compare_wrapped(rt: &impl Abort, alloc: Global, wrapped: &Wrapped) -> Result<(), AllocError> {
+    let body = text_of(alloc, wrapped)?;
+    compare_bad(rt, alloc, body.as_str())
 }
 
 #[test]
 fn a_signature_is_read_as_a_text_or_as_a_member(rt: HostRuntime) -> Result<(), Fail> {
-    let alloc = rt.alloc();
-    let hex = hex_text(alloc, &[171; 96])?;
-    let short = hex_text(alloc, &[171; 95])?;
-    let hex = hex.as_str();
-    let blanks = format!(in alloc; " \r\n{hex}\n ")?;
-    let member = format!(in alloc; "{{\"a\":1,\"signature\":\"{hex}\"}}")?;
-    let quoted = format!(in alloc; "\"{hex}\"")?;
-    let bad_quoted = format!(in alloc; "bad {}", quoted.as_str())?;
-    let bad_short = format!(in alloc; "bad {}", short.as_str())?;
-    for (status, body, words) in [
-        (200, hex, "signed 171"),
-        (200, blanks.as_str(), "signed 171"),
-        (200, member.as_str(), "signed 171"),
-        (200, quoted.as_str(), bad_quoted.as_str()),
-        (200, short.as_str(), bad_short.as_str()),
-        (200, "{\"signature\":1}", "bad {\"signature\":1}"),
-        (404, hex, "no key Some(404)"),
-        (412, hex, "denied 412"),
-        (500, "", "denied 500"),
-    ] {
-        assert_eq!(rt; signed_at(alloc, status, body)?.as_str(), words);
+    for row in ANSWERS {
+        compare_row(&rt, rt.alloc(), row)?;
     }
+    for wrapped in BAD {
+        compare_wrapped(&rt, rt.alloc(), wrapped)?;
+    }
+    compare_bad(&rt, rt.alloc(), "{\"signature\":1}")?;
+    compare_at(&rt, rt.alloc(), 500, "", "denied 500")?;
     Ok(())
+}
+
+/// Compares what `sign` answers to an answer that is cut off.
+fn compare_short(rt: &impl Abort, alloc: Global) -> Result<(), AllocError> {
+    let said = Vec::from_slice(alloc, b"HTTP/1.1 200 X\r\nContent-Length: 9\r\n\r\nshort")?;
+    let mut signer = signer(rt, alloc, said, &[])?;
+    compare_signed(rt, alloc, &mut signer, "bad ")
+}
+
+/// Compares what `sign` answers where the link fails at this call.
+fn compare_failing(rt: &impl Abort, alloc: Global, number: u64) -> Result<(), AllocError> {
+    let said = response(alloc, 200, "x")?;
+    let mut signer = signer(rt, alloc, said, &[number])?;
+    let wanted = if number == 42 { "bad x" } else { "fault" };
+    compare_signed(rt, alloc, &mut signer, wanted)
 }
 
 #[test]
 fn a_link_that_fails_is_a_fault_and_what_is_no_response_a_bad_answer(
     rt: HostRuntime,
 ) -> Result<(), Fail> {
-    let alloc = rt.alloc();
-    let said = Vec::from_slice(alloc, b"HTTP/1.1 200 X\r\nContent-Length: 9\r\n\r\nshort")?;
-    assert_eq!(rt; signed(alloc, said, Vec::new(alloc))?.as_str(), "bad ");
+    compare_short(&rt, rt.alloc())?;
     for number in [0, 1, 2, 3, 41, 42] {
-        let failing = vec![in alloc; number]?;
-        let words = signed(alloc, response(alloc, 200, "x")?, failing)?;
-        let wanted = if number == 42 { "bad x" } else { "fault" };
-        assert_eq!(rt; words.as_str(), wanted);
+        compare_failing(&rt, rt.alloc(), number)?;
     }
     Ok(())
 }
 
-/// What `import` answers to a status and a body.
-fn import_words(alloc: Global, status: u16, body: &str) -> Result<String, Fail> {
-    let mut signer = signer(alloc, response(alloc, status, body)?, Vec::new(alloc))?;
-    match signer.import(&KEY, "{}", "word") {
-        ImportReply::Imported => Ok(String::from_str(alloc, "imported")?),
-        ImportReply::Duplicate => Ok(String::from_str(alloc, "duplicate")?),
-        ImportReply::Refused(text) => with_body(alloc, "refused", &text),
-        ImportReply::BadAnswer(_) => Ok(String::from_str(alloc, "bad")?),
-        _ => Ok(String::from_str(alloc, "none")?),
+fn import_words(alloc: Global, reply: &ImportReply) -> Result<String, AllocError> {
+    match reply {
+        ImportReply::Imported => String::from_str(alloc, "imported"),
+        ImportReply::Duplicate => String::from_str(alloc, "duplicate"),
+        ImportReply::Refused(text) => with_body(alloc, "refused", text),
+        ImportReply::BadAnswer(_) => String::from_str(alloc, "bad"),
+        _ => String::from_str(alloc, "none"),
     }
 }
 
-/// What `delete` answers, likewise.
-fn delete_words(alloc: Global, status: u16, body: &str) -> Result<String, Fail> {
-    let mut signer = signer(alloc, response(alloc, status, body)?, Vec::new(alloc))?;
-    match signer.delete(&KEY) {
-        DeleteReply::Deleted => Ok(String::from_str(alloc, "deleted")?),
-        DeleteReply::NotActive => Ok(String::from_str(alloc, "not active")?),
-        DeleteReply::NotFound => Ok(String::from_str(alloc, "not found")?),
-        DeleteReply::Refused(text) => with_body(alloc, "refused", &text),
-        DeleteReply::BadAnswer(_) => Ok(String::from_str(alloc, "bad")?),
-        _ => Ok(String::from_str(alloc, "none")?),
+fn delete_words(alloc: Global, reply: &DeleteReply) -> Result<String, AllocError> {
+    match reply {
+        DeleteReply::Deleted => String::from_str(alloc, "deleted"),
+        DeleteReply::NotActive => String::from_str(alloc, "not active"),
+        DeleteReply::NotFound => String::from_str(alloc, "not found"),
+        DeleteReply::Refused(text) => with_body(alloc, "refused", text),
+        DeleteReply::BadAnswer(_) => String::from_str(alloc, "bad"),
+        _ => String::from_str(alloc, "none"),
     }
+}
+
+/// What `import` answers.
+fn imported(alloc: Global, signer: &mut Web3Signer<MemLink>) -> Result<String, AllocError> {
+    let reply = signer.import(&KEY, "{}", "word");
+    import_words(alloc, &reply)
+}
+
+/// What `delete` answers.
+fn deleted(alloc: Global, signer: &mut Web3Signer<MemLink>) -> Result<String, AllocError> {
+    let reply = signer.delete(&KEY);
+    delete_words(alloc, &reply)
+}
+
+/// A status and what is said of the one key, and what `import` and `delete` answer to them.
+#[derive(Clone, Copy)]
+struct KeyRow {
+    status: u16,
+    listed: &'static str,
+    imported: &'static str,
+    deleted: &'static str,
+}
+
+const KEYS: &[KeyRow] = &[
+    KeyRow {
+        status: 200,
+        listed: "{\"status\":\"imported\"}",
+        imported: "imported",
+        deleted: "bad",
+    },
+    KeyRow {
+        status: 200,
+        listed: "{\"status\":\"duplicate\"}",
+        imported: "duplicate",
+        deleted: "bad",
+    },
+    KeyRow {
+        status: 200,
+        listed: "{\"status\":\"deleted\"}",
+        imported: "bad",
+        deleted: "deleted",
+    },
+    KeyRow {
+        status: 200,
+        listed: "{\"status\":\"not_active\"}",
+        imported: "bad",
+        deleted: "not active",
+    },
+    KeyRow {
+        status: 200,
+        listed: "{\"status\":\"not_found\"}",
+        imported: "bad",
+        deleted: "not found",
+    },
+    KeyRow {
+        status: 200,
+        listed: "{\"message\":\"m\",\"status\":\"error\"}",
+        imported: "refused m",
+        deleted: "refused m",
+    },
+    KeyRow {
+        status: 200,
+        listed: "{\"status\":\"error\"}",
+        imported: "refused ",
+        deleted: "refused ",
+    },
+    KeyRow {
+        status: 200,
+        listed: "{\"status\":1}",
+        imported: "bad",
+        deleted: "bad",
+    },
+    KeyRow {
+        status: 200,
+        listed: "",
+        imported: "bad",
+        deleted: "bad",
+    },
+    KeyRow {
+        status: 401,
+        listed: "",
+        imported: "refused status 401",
+        deleted: "refused status 401",
+    },
+];
+
+/// Compares what `import` answers to a body.
+fn compare_imported(
+    rt: &impl Abort,
+    alloc: Global,
+    row: &KeyRow,
+    body: &str,
+) -> Result<(), AllocError> {
+    let mut signer = signer_at(rt, alloc, row.status, body)?;
+    let found = imported(alloc, &mut signer)?;
+    compare(rt, found.as_str(), row.imported);
+    Ok(())
+}
+
+/// Compares what `delete` answers, likewise.
+fn compare_deleted(
+    rt: &impl Abort,
+    alloc: Global,
+    row: &KeyRow,
+    body: &str,
+) -> Result<(), AllocError> {
+    let mut signer = signer_at(rt, alloc, row.status, body)?;
+    let found = deleted(alloc, &mut signer)?;
+    compare(rt, found.as_str(), row.deleted);
+    Ok(())
+}
+
+/// Compares what `import` and `delete` answer to what is said of the one key.
+fn compare_key(rt: &impl Abort, alloc: Global, row: &KeyRow) -> Result<(), AllocError> {
+    let listed = row.listed;
+    let body = format!(in alloc; "{{\"data\":[{listed}]}}")?;
+    compare_imported(rt, alloc, row, body.as_str())?;
+    compare_deleted(rt, alloc, row, body.as_str())
 }
 
 #[test]
 fn a_key_goes_in_and_out_by_the_status_of_one(rt: HostRuntime) -> Result<(), Fail> {
-    let alloc = rt.alloc();
-    for (status, listed, imported, deleted) in [
-        (200, "{\"status\":\"imported\"}", "imported", "bad"),
-        (200, "{\"status\":\"duplicate\"}", "duplicate", "bad"),
-        (200, "{\"status\":\"deleted\"}", "bad", "deleted"),
-        (200, "{\"status\":\"not_active\"}", "bad", "not active"),
-        (200, "{\"status\":\"not_found\"}", "bad", "not found"),
-        (
-            200,
-            "{\"message\":\"m\",\"status\":\"error\"}",
-            "refused m",
-            "refused m",
-        ),
-        (200, "{\"status\":\"error\"}", "refused ", "refused "),
-        (200, "{\"status\":1}", "bad", "bad"),
-        (200, "", "bad", "bad"),
-        (401, "", "refused status 401", "refused status 401"),
-    ] {
-        let body = format!(in alloc; "{{\"data\":[{listed}]}}")?;
-        assert_eq!(rt;
-            import_words(alloc, status, body.as_str())?.as_str(),
-            imported
-        );
-        assert_eq!(rt;
-            delete_words(alloc, status, body.as_str())?.as_str(),
-            deleted
-        );
+    for row in KEYS {
+        compare_key(&rt, rt.alloc(), row)?;
     }
     Ok(())
 }
 
+/// A Web3Signer that says nothing.
+fn silent(rt: &impl Abort, alloc: Global) -> Result<Web3Signer<MemLink>, AllocError> {
+    signer(rt, alloc, Vec::new(alloc), &[])
+}
+
 /// What a signer sent.
-fn sent(alloc: Global, signer: Web3Signer<MemLink>) -> Result<String, Fail> {
+fn sent(alloc: Global, signer: Web3Signer<MemLink>) -> Result<String, AllocError> {
     let sent = signer.into_link().into_sent();
-    Ok(String::from_utf8_lossy(alloc, sent.as_slice())?)
+    String::from_utf8_lossy(alloc, sent.as_slice())
 }
 
 /// The path of the call for a signature by the key, and what stands behind the path.
@@ -271,68 +514,106 @@ const WHOLE: &str =
 const BLOCK: &str =
     r#","signingRoot":"0x0202020202020202020202020202020202020202020202020202020202020202","type":"BLOCK_V2"}"#;
 
-/// Asks for a block that was made of this, and looks at what is sent: the length of the body, and what stands in
-/// it before `INFO`.
+/// What is sent to ask for a block that was made of this.
+fn asked(rt: &impl Abort, alloc: Global, object: SignObject) -> Result<String, AllocError> {
+    let mut signer = silent(rt, alloc)?;
+    let _ = sign(&mut signer, object);
+    sent(alloc, signer)
+}
+
+/// What has to be sent for it: the length of the body, and what stands in it before `INFO`.
+fn block_wanted(alloc: Global, len: u16, front: &str) -> Result<String, AllocError> {
+    format!(in alloc; "POST {PATH} {FIELDS} {len}\r\n\r\n{front}{INFO}{BLOCK}")
+}
+
+/// Compares both.
 fn compare_asked(
     rt: &impl Abort,
     alloc: Global,
     object: SignObject,
     len: u16,
     front: &str,
-) -> Result<(), Fail> {
-    let mut signer = signer(alloc, Vec::new(alloc), Vec::new(alloc))?;
-    let _ = signer.sign(&request_of(object), &PERMIT);
-    let wanted = format!(in alloc; "POST {PATH} {FIELDS} {len}\r\n\r\n{front}{INFO}{BLOCK}")?;
-    assert_eq!(rt; sent(alloc, signer)?.as_str(), wanted.as_str());
+) -> Result<(), AllocError> {
+    let found = asked(rt, alloc, object)?;
+    let wanted = block_wanted(alloc, len, front)?;
+    compare(rt, found.as_str(), wanted.as_str());
     Ok(())
 }
 
 #[test]
 fn a_block_is_asked_for_with_these_bytes(rt: HostRuntime) -> Result<(), Fail> {
-    let alloc = rt.alloc();
-    compare_asked(&rt, alloc, header(), 626, HEADER)?;
-    compare_asked(&rt, alloc, whole_block(alloc)?, 1141, WHOLE)
+    compare_asked(&rt, rt.alloc(), header(), 626, HEADER)?;
+    compare_asked(&rt, rt.alloc(), whole_block(&rt, rt.alloc()), 1141, WHOLE)?;
+    Ok(())
 }
 
 /// Another object that is signed, the length of the body, and what stands in the body before `INFO` and behind it.
-const PLAIN: [(PlainObject, u16, &str, &str); 3] = [
-    (
-        PlainObject::RandaoReveal { epoch: 7 },
-        330,
-        "{",
-        r#","randao_reveal":{"epoch":"7"},"signingRoot":"0x5cc45e270efb6040eeda57c4dd60fba398dc41195d1052b080ed3d7b94cea3f7","type":"RANDAO_REVEAL"}"#,
-    ),
-    (
-        PlainObject::AggregationSlot { slot: 9 },
-        335,
-        r#"{"aggregation_slot":{"slot":"9"},"#,
-        r#","signingRoot":"0x834661cb6dbb66eea0baf3c297f7c2137b26594cfdf89089c9343ffed4fbf404","type":"AGGREGATION_SLOT"}"#,
-    ),
-    (
-        PlainObject::VoluntaryExit(VoluntaryExit {
+#[derive(Clone, Copy)]
+struct PlainRow {
+    object: PlainObject,
+    len: u16,
+    front: &'static str,
+    behind: &'static str,
+}
+
+const PLAIN: &[PlainRow] = &[
+    PlainRow {
+        object: PlainObject::RandaoReveal { epoch: 7 },
+        len: 330,
+        front: "{",
+        behind: r#","randao_reveal":{"epoch":"7"},"signingRoot":"0x5cc45e270efb6040eeda57c4dd60fba398dc41195d1052b080ed3d7b94cea3f7","type":"RANDAO_REVEAL"}"#,
+    },
+    PlainRow {
+        object: PlainObject::AggregationSlot { slot: 9 },
+        len: 335,
+        front: r#"{"aggregation_slot":{"slot":"9"},"#,
+        behind: r#","signingRoot":"0x834661cb6dbb66eea0baf3c297f7c2137b26594cfdf89089c9343ffed4fbf404","type":"AGGREGATION_SLOT"}"#,
+    },
+    PlainRow {
+        object: PlainObject::VoluntaryExit(VoluntaryExit {
             epoch: 3,
             validator_index: 5,
         }),
-        354,
-        "{",
-        r#","signingRoot":"0x0ec704bfc2471d39946286c3e0b268c9339e431480b34e5737b0ffb6a7ff02ba","type":"VOLUNTARY_EXIT","voluntary_exit":{"epoch":"3","validator_index":"5"}}"#,
-    ),
+        len: 354,
+        front: "{",
+        behind: r#","signingRoot":"0x0ec704bfc2471d39946286c3e0b268c9339e431480b34e5737b0ffb6a7ff02ba","type":"VOLUNTARY_EXIT","voluntary_exit":{"epoch":"3","validator_index":"5"}}"#,
+    },
 ];
+
+/// What is sent to ask for such an object.
+fn plainly_asked(
+    rt: &impl Abort,
+    alloc: Global,
+    object: PlainObject,
+) -> Result<String, AllocError> {
+    let mut signer = silent(rt, alloc)?;
+    let request = PlainRequest {
+        fork: FORK,
+        genesis: GENESIS,
+        object,
+    };
+    let _ = signer.sign_plain(&request, &PERMIT);
+    sent(alloc, signer)
+}
+
+/// What has to be sent for it.
+fn plain_wanted(alloc: Global, row: &PlainRow) -> Result<String, AllocError> {
+    let (len, front, behind) = (row.len, row.front, row.behind);
+    format!(in alloc; "POST {PATH} {FIELDS} {len}\r\n\r\n{front}{INFO}{behind}")
+}
+
+/// Compares both.
+fn compare_plain(rt: &impl Abort, alloc: Global, row: &PlainRow) -> Result<(), AllocError> {
+    let found = plainly_asked(rt, alloc, row.object)?;
+    let wanted = plain_wanted(alloc, row)?;
+    compare(rt, found.as_str(), wanted.as_str());
+    Ok(())
+}
 
 #[test]
 fn each_other_object_is_asked_for_with_these_bytes(rt: HostRuntime) -> Result<(), Fail> {
-    let alloc = rt.alloc();
-    let SignRequest { fork, genesis, .. } = request_of(header());
-    for (object, len, front, behind) in PLAIN {
-        let mut signer = signer(alloc, Vec::new(alloc), Vec::new(alloc))?;
-        let request = PlainRequest {
-            fork,
-            genesis,
-            object,
-        };
-        let _ = signer.sign_plain(&request, &PERMIT);
-        let wanted = format!(in alloc; "POST {PATH} {FIELDS} {len}\r\n\r\n{front}{INFO}{behind}")?;
-        assert_eq!(rt; sent(alloc, signer)?.as_str(), wanted.as_str());
+    for row in PLAIN {
+        compare_plain(&rt, rt.alloc(), row)?;
     }
     Ok(())
 }
@@ -343,31 +624,54 @@ const IN: &str = r#"{"keystores":["{\"version\":4}"],"passwords":["word"]}"#;
 const OUT: &str =
     r#"{"pubkeys":["0x010101010101010101010101010101010101010101010101010101010101010101010101010101010101010101010101"]}"#;
 
-#[test]
-fn a_key_goes_in_and_out_with_these_bytes(rt: HostRuntime) -> Result<(), Fail> {
-    let alloc = rt.alloc();
-    let mut signer = signer(alloc, Vec::new(alloc), Vec::new(alloc))?;
+/// What is sent where a key goes in and out.
+fn in_and_out(rt: &impl Abort, alloc: Global) -> Result<String, AllocError> {
+    let mut signer = silent(rt, alloc)?;
     let _ = signer.import(&KEY, "{\"version\":4}", "word");
     let _ = signer.delete(&KEY);
-    let wanted = format!(in alloc;
+    sent(alloc, signer)
+}
+
+/// What has to be sent then.
+fn in_and_out_wanted(alloc: Global) -> Result<String, AllocError> {
+    format!(in alloc;
         "POST /base/eth/v1/keystores {FIELDS} 54\r\n\r\n{IN}DELETE /base/eth/v1/keystores {FIELDS} 114\r\n\r\n{OUT}"
-    )?;
-    assert_eq!(rt; sent(alloc, signer)?.as_str(), wanted.as_str());
+    )
+}
+
+/// Compares both.
+fn compare_in_and_out(rt: &impl Abort, alloc: Global) -> Result<(), AllocError> {
+    let found = in_and_out(rt, alloc)?;
+    let wanted = in_and_out_wanted(alloc)?;
+    compare(rt, found.as_str(), wanted.as_str());
     Ok(())
 }
 
-/// What `sign` answers for a block.
-fn signing_words(alloc: Global, signer: &mut Web3Signer<MemLink>) -> Result<String, Fail> {
-    sign_words(alloc, &signer.sign(&request_of(header()), &PERMIT))
+#[test]
+fn a_key_goes_in_and_out_with_these_bytes(rt: HostRuntime) -> Result<(), Fail> {
+    compare_in_and_out(&rt, rt.alloc())?;
+    Ok(())
+}
+
+/// Compares what a signer's twin answers for a block that is denied.
+fn compare_twin(
+    rt: &impl Abort,
+    alloc: Global,
+    first: &Web3Signer<MemLink>,
+) -> Result<(), AllocError> {
+    let mut twin = first.twin(alloc)?;
+    compare_signed(rt, alloc, &mut twin, "denied 412")
+}
+
+/// Compares what a signer and its twin answer for it.
+fn compare_both(rt: &impl Abort, alloc: Global) -> Result<(), AllocError> {
+    let mut first = signer_at(rt, alloc, 412, "")?;
+    compare_twin(rt, alloc, &first)?;
+    compare_signed(rt, alloc, &mut first, "denied 412")
 }
 
 #[test]
 fn a_twin_is_answered_as_its_first_is(rt: HostRuntime) -> Result<(), Fail> {
-    let alloc = rt.alloc();
-    let said = response(alloc, 412, "")?;
-    let mut first = signer(alloc, said, Vec::new(alloc))?;
-    let mut twin = first.twin(alloc)?;
-    assert_eq!(rt; signing_words(alloc, &mut twin)?.as_str(), "denied 412");
-    assert_eq!(rt; signing_words(alloc, &mut first)?.as_str(), "denied 412");
+    compare_both(&rt, rt.alloc())?;
     Ok(())
 }

@@ -1,9 +1,12 @@
 //! The journal at an epoch's first slot.
-use crate::runs::{ONE_TURN, compacted, desk_of_one, stage_of, take_turns};
+use crate::runs::{ONE_TURN, compare_compacted, desk_of_one, played};
 use check_sign::{Desk, DeskReply};
 use edge_kit::MemDisk;
+use std::alloc::{AllocError, Global};
 use std::process::Abort;
+use std::sync::Wait;
 use std::test::Fail;
+use std::thread::Threads;
 
 /// Compacts the journal of a desk.
 fn compact<T: Abort>(rt: &T, desk: &mut Desk<MemDisk>) {
@@ -16,14 +19,23 @@ fn compact<T: Abort>(rt: &T, desk: &mut Desk<MemDisk>) {
     }
 }
 
+/// Takes one turn, in which no journal is compacted.
+fn look_at_turn<T: Abort + Threads + Wait + Sync>(rt: &T, alloc: Global) -> Result<(), AllocError> {
+    let stage = played(rt, alloc, &ONE_TURN)?;
+    compare_compacted(rt, stage.desk, false);
+    Ok(())
+}
+
+/// Compacts the journal of a desk with one active key.
+fn look_at_compaction<T: Abort>(rt: &T, alloc: Global) -> Result<(), AllocError> {
+    let mut desk = desk_of_one(rt, alloc, false, 1)?;
+    compact(rt, &mut desk);
+    compare_compacted(rt, desk, true);
+    Ok(())
+}
+
 #[test]
 fn a_small_journal_is_not_compacted(rt: HostRuntime) -> Result<(), Fail> {
-    let alloc = rt.alloc();
-    let mut stage = stage_of(&rt, alloc, &ONE_TURN)?;
-    take_turns(&rt, alloc, &ONE_TURN, &mut stage);
-    assert_eq!(&rt; compacted(stage.desk), (false, false));
-    let mut desk = desk_of_one(&rt, alloc, false, 1)?;
-    compact(&rt, &mut desk);
-    assert_eq!(&rt; compacted(desk), (true, true));
-    Ok(())
+    look_at_turn(&rt, rt.alloc())?;
+    Ok(look_at_compaction(&rt, rt.alloc())?)
 }

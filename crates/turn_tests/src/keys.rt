@@ -1,12 +1,10 @@
 //! Keys that become active between two turns.
 ghost use Rattle.duty_loop.specs.Houses.{IsHolding};
 
-use crate::runs::{AT_32, Line, ONE_TURN, Run, Stage, look_at_end, setup_of, stage_of};
+use crate::runs::{AT_32, Line, ONE_TURN, Run, Stage, activate, look_at_end, setup_of, stage_of};
 use crate::said::{KEY, SECOND, Said};
-use check_sign::{Desk, DeskReply};
 use duty_loop::{Held, first_held, take_turn};
 use duty_plans::DutySetup;
-use edge_kit::MemDisk;
 use std::alloc::Global;
 use std::process::Abort;
 use std::sync::Wait;
@@ -48,12 +46,12 @@ fn turn<T: Abort + Threads + Wait + Sync>(
         rt,
         alloc,
         setup,
-        &stage.clock,
+        &stage.edges.clock,
         held,
         &mut stage.desk,
-        &mut stage.nodes,
+        &mut stage.edges.nodes,
         stage.lanes.as_mut_slice(),
-        &mut stage.out,
+        &mut stage.edges.out,
     ) {
         Ok(()) => {}
         Err(_) => rt.panic("the loop ended"),
@@ -62,34 +60,35 @@ fn turn<T: Abort + Threads + Wait + Sync>(
 
 /// Makes another key active, at the desk of the loop and at those of the lanes.
 pub fn activate_second<T: Abort>(rt: &T, stage: &mut Stage) {
-    activate_at(rt, &mut stage.desk);
+    activate(rt, &mut stage.desk, SECOND, 1);
     for lane in &mut stage.lanes {
-        activate_at(rt, &mut lane.desk);
+        activate(rt, &mut lane.desk, SECOND, 1);
     }
 }
 
-fn activate_at<T: Abort>(rt: &T, desk: &mut Desk<MemDisk>) {
-    match desk.activate(SECOND, 1) {
-        DeskReply::Active => {}
-        _ => rt.panic("not activated"),
-    }
+/// Takes two turns, between which `SECOND` becomes active.
+fn take_both<T: Abort + Threads + Wait + Sync>(rt: &T, alloc: Global, stage: &mut Stage) {
+    let setup = setup_of(2, false);
+    let mut held = first_held(alloc, &setup, TWO_KEYS.start);
+    turn(rt, alloc, &setup, &mut held, stage);
+    activate_second(rt, stage);
+    turn(rt, alloc, &setup, &mut held, stage);
 }
+
+const LINES: [Line; 2] = [
+    Line::Vote(33, "sent"),
+    Line::VoteOf(34, SECOND, "nodata none"),
+];
+
+const ASKED: &str = "syncing fork validators proposer attester \
+    syncing fork validators proposer attester";
+
+const LANE_ASKED: &str = "syncing data vote@33 syncing data";
 
 #[test]
 fn a_key_that_became_active_is_asked_for(rt: HostRuntime) -> Result<(), Fail> {
     let alloc = rt.alloc();
-    let setup = setup_of(2, false);
     let mut stage = stage_of(&rt, alloc, &TWO_KEYS)?;
-    let mut held = first_held(alloc, &setup, TWO_KEYS.start);
-    turn(&rt, alloc, &setup, &mut held, &mut stage);
-    activate_second(&rt, &mut stage);
-    turn(&rt, alloc, &setup, &mut held, &mut stage);
-    let lines = [
-        Line::Vote(33, "sent"),
-        Line::VoteOf(34, SECOND, "nodata none"),
-    ];
-    let asked = "syncing fork validators proposer attester \
-        syncing fork validators proposer attester";
-    let lane_asked = "syncing data vote@33 syncing data";
-    look_at_end(&rt, alloc, stage, &lines, asked, lane_asked)
+    take_both(&rt, alloc, &mut stage);
+    Ok(look_at_end(&rt, alloc, stage, &LINES, ASKED, LANE_ASKED)?)
 }

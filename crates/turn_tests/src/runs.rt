@@ -1,6 +1,9 @@
 //! Runs of turns over desks, a signing service, nodes and a clock in memory, and what is expected of them.
+ghost use Rattle.std.specs.Prelude.{◌≤◌};
+ghost use Rattle.desk_machine.specs.Machine.{moment_limit};
+
 use crate::said::{FORK, KEY, Said, node, words};
-use check_sign::{Desk, DeskReply, Event, MOMENT_LIMIT};
+use check_sign::{Desk, DeskEvent, DeskReply, Event, MOMENT_LIMIT};
 use duty_lanes::Lane;
 use duty_loop::run_duties;
 use duty_plans::DutySetup;
@@ -10,6 +13,7 @@ use node_calls::MemNode;
 use node_fallback::Nodes;
 use signer_link::MemSigner;
 use std::alloc::{AllocError, Global};
+use std::fmt::Write;
 use std::process::Abort;
 use std::sync::Wait;
 use std::test::Fail;
@@ -60,14 +64,20 @@ pub const ONE_TURN: Run = Run {
 /// A lane with a desk of its own.
 pub type MemLane = Lane<Desk<MemDisk>, MemSigner, MemNode>;
 
-/// What turns are taken over: the clock, the loop's own desk and nodes, the lanes, and the output.
+/// What the loop has beside its desk and the lanes: the clock, its own nodes, and the output.
+#[derive(Drop)]
+pub struct Edges {
+    pub clock: MemClock,
+    pub nodes: Nodes<MemNode>,
+    pub out: MemSink,
+}
+
+/// What turns are taken over: the loop's own desk, the lanes, and what is beside them.
 #[derive(Drop)]
 pub struct Stage {
-    pub clock: MemClock,
     pub desk: Desk<MemDisk>,
-    pub nodes: Nodes<MemNode>,
     pub lanes: Vec<MemLane>,
-    pub out: MemSink,
+    pub edges: Edges,
 }
 
 /// A line that is printed.
@@ -102,6 +112,42 @@ pub fn setup_of(slots: u64, watches: bool) -> DutySetup {
     }
 }
 
+fn empty_disk(alloc: Global) -> Result<MemDisk, AllocError> {
+    MemDisk::new(alloc, Vec::new(alloc), Vec::new(alloc), None)
+}
+
+fn empty_disks(alloc: Global) -> Result<Disks<MemDisk>, AllocError> {
+    let first = empty_disk(alloc)?;
+    let second = empty_disk(alloc)?;
+    Ok(Disks { first, second })
+}
+
+/// Opens a desk over empty disks at this epoch.
+fn empty_desk<T: Abort>(
+    rt: &T,
+    alloc: Global,
+    watches: bool,
+    at: u64,
+) -> Result<Desk<MemDisk>, AllocError>
+    requires { at ≤ moment_limit }
+{
+    let disks = empty_disks(alloc)?;
+    match Desk::open(alloc, disks, Root([0; 32]), watches, at) {
+        Ok(desk) => Ok(desk),
+        Err(_) => rt.panic("not opened"),
+    }
+}
+
+/// Makes a key active at this epoch.
+pub fn activate<T: Abort>(rt: &T, desk: &mut Desk<MemDisk>, key: PubKey, at: u64)
+    requires { at ≤ moment_limit }
+{
+    match desk.activate(key, at) {
+        DeskReply::Active => {}
+        _ => rt.panic("not activated"),
+    }
+}
+
 /// A desk with one active key, made active at this epoch.
 pub fn desk_of_one<T: Abort>(
     rt: &T,
@@ -110,17 +156,9 @@ pub fn desk_of_one<T: Abort>(
     at: u64,
 ) -> Result<Desk<MemDisk>, AllocError> {
     assert!(rt; at <= MOMENT_LIMIT);
-    let disks = Disks {
-        first: MemDisk::new(alloc, Vec::new(alloc), Vec::new(alloc), None)?,
-        second: MemDisk::new(alloc, Vec::new(alloc), Vec::new(alloc), None)?,
-    };
-    let Ok(mut desk) = Desk::open(alloc, disks, Root([0; 32]), watches, at) else {
-        return rt.panic("not opened");
-    };
-    match desk.activate(KEY, at) {
-        DeskReply::Active => Ok(desk),
-        _ => rt.panic("not activated"),
-    }
+    let mut desk = empty_desk(rt, alloc, watches, at)?;
+    activate(rt, &mut desk, KEY, at);
+    Ok(desk)
 }
 
 fn clock_of(alloc: Global, run: &Run) -> Result<MemClock, AllocError> {
@@ -129,11 +167,13 @@ fn clock_of(alloc: Global, run: &Run) -> Result<MemClock, AllocError> {
 
 fn signer_of(alloc: Global, run: &Run) -> Result<MemSigner, AllocError> {
     let failing = run.failing_signs.to_vec(alloc)?;
-    Ok(MemSigner::new(alloc, run.lacking.to_vec(alloc)?, failing))
+    let lacking = run.lacking.to_vec(alloc)?;
+    Ok(MemSigner::new(alloc, lacking, failing))
 }
 
 fn nodes_of(alloc: Global, said: &[Said], failing: &[u64]) -> Result<Nodes<MemNode>, AllocError> {
-    let nodes = vec![in alloc; node(alloc, said, failing)?]?;
+    let node = node(alloc, said, failing)?;
+    let nodes = vec![in alloc; node]?;
     Ok(Nodes::new(alloc, nodes))
 }
 
@@ -145,20 +185,24 @@ pub fn lane_of<T: Abort>(rt: &T, alloc: Global, run: &Run) -> Result<MemLane, Al
     Ok(Lane::new(desk, signer, nodes))
 }
 
-/// What the turns of a run are taken over.
-pub fn stage_of<T: Abort>(rt: &T, alloc: Global, run: &Run) -> Result<Stage, AllocError> {
+fn lanes_of<T: Abort>(rt: &T, alloc: Global, run: &Run) -> Result<Vec<MemLane>, AllocError> {
+    let lane = lane_of(rt, alloc, run)?;
+    Ok(vec![in alloc; lane]?)
+}
+
+fn edges_of(alloc: Global, run: &Run) -> Result<Edges, AllocError> {
     let clock = clock_of(alloc, run)?;
     let out = MemSink::new(alloc, 4096, Vec::new(alloc))?;
     let nodes = nodes_of(alloc, run.said, run.failing)?;
-    let lanes = vec![in alloc; lane_of(rt, alloc, run)?]?;
+    Ok(Edges { clock, nodes, out })
+}
+
+/// What the turns of a run are taken over.
+pub fn stage_of<T: Abort>(rt: &T, alloc: Global, run: &Run) -> Result<Stage, AllocError> {
+    let edges = edges_of(alloc, run)?;
+    let lanes = lanes_of(rt, alloc, run)?;
     let desk = desk_of_one(rt, alloc, run.watches, run.active_at)?;
-    Ok(Stage {
-        clock,
-        desk,
-        nodes,
-        lanes,
-        out,
-    })
+    Ok(Stage { desk, lanes, edges })
 }
 
 /// Takes the turns of a run.
@@ -173,11 +217,11 @@ pub fn take_turns<T: Abort + Threads + Wait + Sync>(
         rt,
         alloc,
         &setup_of(run.slots, run.watches),
-        &stage.clock,
+        &stage.edges.clock,
         &mut stage.desk,
-        &mut stage.nodes,
+        &mut stage.edges.nodes,
         stage.lanes.as_mut_slice(),
-        &mut stage.out,
+        &mut stage.edges.out,
     );
     assert!(rt; ended.is_ok());
 }
@@ -190,6 +234,22 @@ fn first_words(alloc: Global, nodes: Nodes<MemNode>) -> Result<String, AllocErro
     }
 }
 
+/// The nodes of a lane, whose journal was not compacted.
+fn nodes_in<T: Abort>(rt: &T, lane: MemLane) -> Nodes<MemNode> {
+    let (desk, _signer, nodes) = lane.into_parts();
+    compare_compacted(rt, desk, false);
+    nodes
+}
+
+/// Puts what the first of some nodes was asked and handed over behind a text, and a bar between it and another's.
+fn push_words(alloc: Global, text: &mut String, nodes: Nodes<MemNode>) -> Result<(), AllocError> {
+    let words = first_words(alloc, nodes)?;
+    if !text.is_empty() {
+        text.push_str(" |")?;
+    }
+    text.push_str(words.as_str())
+}
+
 /// What the first of each lane's nodes was asked and handed over, lane by lane. The desk of none was compacted.
 fn words_of_lanes<T: Abort>(
     rt: &T,
@@ -198,52 +258,123 @@ fn words_of_lanes<T: Abort>(
 ) -> Result<String, AllocError> {
     let mut text = String::new(alloc);
     for lane in lanes {
-        let (desk, _signer, nodes) = lane.into_parts();
-        assert_eq!(rt; compacted(desk), (false, false));
-        if !text.is_empty() {
-            text.push_str(" |")?;
-        }
-        text.push_str(first_words(alloc, nodes)?.as_str())?;
+        push_words(alloc, &mut text, nodes_in(rt, lane))?;
     }
     Ok(text)
 }
 
-/// Whether a desk's second disk is begun, and whether an event tells of a compaction.
-pub fn compacted(desk: Desk<MemDisk>) -> (bool, bool) {
-    let (disks, events) = desk.end();
-    let told = events.as_slice().iter().any(|event| matches!(
+/// Whether an event tells of a compaction.
+fn tells_of_one(events: &[DeskEvent]) -> bool {
+    events.iter().any(|event| matches!(
         event.event,
         Event::Compacted {
             before: _,
             after: _
         }
-    ));
+    ))
+}
+
+/// Whether a desk's second disk is begun, and whether an event tells of a compaction.
+fn compacted(desk: Desk<MemDisk>) -> (bool, bool) {
+    let told = tells_of_one(desk.events());
+    let (disks, _) = desk.end();
     (!disks.second.bytes().is_empty(), told)
 }
 
-fn line_text(alloc: Global, line: &Line) -> Result<String, AllocError> {
-    let key = match line {
-        Line::VoteOf(_, key, _) => *key,
-        _ => KEY,
-    };
+/// Compares whether the journal of a desk was compacted with what is expected.
+pub fn compare_compacted<T: Abort>(rt: &T, desk: Desk<MemDisk>, wanted: bool) {
+    assert_eq!(rt; compacted(desk), (wanted, wanted));
+}
+
+/// Puts behind a text how a duty of a key in a slot ended.
+fn push_duty(
+    alloc: Global,
+    text: &mut String,
+    slot: u64,
+    duty: &str,
+    key: PubKey,
+    ended: &str,
+) -> Result<(), AllocError> {
     let key = hex_text(alloc, &key.0)?;
-    let key = key.as_str();
-    let text = match line {
-        Line::Block(slot, ended) => format!(in alloc; "{slot} block {key} {ended}\n")?,
-        Line::Vote(slot, ended) => format!(in alloc; "{slot} vote {key} {ended}\n")?,
-        Line::VoteOf(slot, _, ended) => format!(in alloc; "{slot} vote {key} {ended}\n")?,
-        Line::NoNode(slot) => format!(in alloc; "{slot} nodes none\n")?,
-    };
-    Ok(text)
+    write!(text, "{slot} {duty} {} {ended}\n", key.as_str())?;
+    Ok(())
+}
+
+/// Puts behind a text that no node answered in a slot.
+fn push_no_node(text: &mut String, slot: u64) -> Result<(), AllocError> {
+    write!(text, "{slot} nodes none\n")?;
+    Ok(())
+}
+
+fn push_line(alloc: Global, text: &mut String, line: Line) -> Result<(), AllocError> {
+    match line {
+        Line::Block(slot, ended) => push_duty(alloc, text, slot, "block", KEY, ended),
+        Line::Vote(slot, ended) => push_duty(alloc, text, slot, "vote", KEY, ended),
+        Line::VoteOf(slot, key, ended) => push_duty(alloc, text, slot, "vote", key, ended),
+        Line::NoNode(slot) => push_no_node(text, slot),
+    }
 }
 
 /// The text of these lines.
 fn text_of(alloc: Global, lines: &[Line]) -> Result<String, AllocError> {
     let mut text = String::new(alloc);
     for line in lines {
-        text.push_str(line_text(alloc, line)?.as_str())?;
+        push_line(alloc, &mut text, *line)?;
     }
     Ok(text)
+}
+
+/// Looks at what a node was asked and handed over.
+fn look_at_nodes<T: Abort>(
+    rt: &T,
+    alloc: Global,
+    nodes: Nodes<MemNode>,
+    asked: &str,
+) -> Result<(), AllocError> {
+    let words = first_words(alloc, nodes)?;
+    assert_eq!(rt; words.as_str().trim_start(), asked);
+    Ok(())
+}
+
+/// Looks at what the nodes of lanes were asked and handed over, and that no journal of theirs was compacted.
+fn look_at_lanes<T: Abort>(
+    rt: &T,
+    alloc: Global,
+    lanes: Vec<MemLane>,
+    asked: &str,
+) -> Result<(), AllocError> {
+    let words = words_of_lanes(rt, alloc, lanes)?;
+    assert_eq!(rt; words.as_str().trim_start(), asked);
+    Ok(())
+}
+
+/// Looks at what was printed.
+fn look_at_output<T: Abort>(
+    rt: &T,
+    alloc: Global,
+    out: MemSink,
+    lines: &[Line],
+) -> Result<(), AllocError> {
+    let text = text_of(alloc, lines)?;
+    assert!(rt; out.into_bytes().as_slice() == text.as_bytes());
+    Ok(())
+}
+
+/// Looks at what the turns printed, and at what the loop's node was asked and handed over.
+fn look_at_edges<T: Abort>(
+    rt: &T,
+    alloc: Global,
+    edges: Edges,
+    lines: &[Line],
+    asked: &str,
+) -> Result<(), AllocError> {
+    let Edges {
+        clock: _,
+        nodes,
+        out,
+    } = edges;
+    look_at_nodes(rt, alloc, nodes, asked)?;
+    look_at_output(rt, alloc, out, lines)
 }
 
 /// Looks at what the turns printed, at what the loop's node and those of the lanes were asked and handed over, with a bar
@@ -255,22 +386,32 @@ pub fn look_at_end<T: Abort>(
     lines: &[Line],
     asked: &str,
     lane_asked: &str,
-) -> Result<(), Fail> {
-    let Stage {
-        clock: _,
-        desk,
-        nodes,
-        lanes,
-        out,
-    } = stage;
-    assert_eq!(rt; compacted(desk), (false, false));
-    let words = first_words(alloc, nodes)?;
-    assert_eq!(rt; words.as_str().trim_start(), asked);
-    let words = words_of_lanes(rt, alloc, lanes)?;
-    assert_eq!(rt; words.as_str().trim_start(), lane_asked);
-    let text = text_of(alloc, lines)?;
-    assert!(rt; out.into_bytes().as_slice() == text.as_bytes());
-    Ok(())
+) -> Result<(), AllocError> {
+    let Stage { desk, lanes, edges } = stage;
+    compare_compacted(rt, desk, false);
+    look_at_lanes(rt, alloc, lanes, lane_asked)?;
+    look_at_edges(rt, alloc, edges, lines, asked)
+}
+
+/// What is left of a run's turns.
+pub fn played<T: Abort + Threads + Wait + Sync>(
+    rt: &T,
+    alloc: Global,
+    run: &Run,
+) -> Result<Stage, AllocError> {
+    let mut stage = stage_of(rt, alloc, run)?;
+    take_turns(rt, alloc, run, &mut stage);
+    Ok(stage)
+}
+
+/// Carries out a run, and looks at what it printed and asked.
+fn look_at_case<T: Abort + Threads + Wait + Sync>(
+    rt: &T,
+    alloc: Global,
+    case: &Case,
+) -> Result<(), AllocError> {
+    let stage = played(rt, alloc, &case.run)?;
+    look_at_end(rt, alloc, stage, case.lines, case.asked, case.lane_asked)
 }
 
 /// Carries out each run, and looks at what it printed and asked.
@@ -280,9 +421,7 @@ pub fn look_at<T: Abort + Threads + Wait + Sync>(
     cases: &[Case],
 ) -> Result<(), Fail> {
     for case in cases {
-        let mut stage = stage_of(rt, alloc, &case.run)?;
-        take_turns(rt, alloc, &case.run, &mut stage);
-        look_at_end(rt, alloc, stage, case.lines, case.asked, case.lane_asked)?;
+        look_at_case(rt, alloc, case)?;
     }
     Ok(())
 }

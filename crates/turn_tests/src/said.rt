@@ -83,37 +83,40 @@ fn details(slot: u64) -> AttestationData {
     }
 }
 
-fn no_items<T: Drop, const LIMIT: usize>(
-    alloc: Global,
-) -> Result<BoundedList<T, LIMIT>, AllocError> {
+fn no_items<T: Drop, const LIMIT: usize>(alloc: Global) -> BoundedList<T, LIMIT> {
     match BoundedList::try_new(Vec::new(alloc)) {
-        Ok(list) => Ok(list),
-        Err(_) => Err(AllocError),
+        Ok(list) => list,
+        Err(_) => unreachable!(),
     }
 }
 
-fn block(alloc: Global, slot: u64) -> Result<BeaconBlock, AllocError> {
-    let body = BeaconBlockBody {
+const NO_DEPOSIT: Eth1Data = Eth1Data {
+    deposit_root: Root([0; 32]),
+    deposit_count: 0,
+    block_hash: Root([0; 32]),
+};
+
+fn body(alloc: Global) -> BeaconBlockBody {
+    BeaconBlockBody {
         randao_reveal: Sig([0; 96]),
-        eth1_data: Eth1Data {
-            deposit_root: Root([0; 32]),
-            deposit_count: 0,
-            block_hash: Root([0; 32]),
-        },
+        eth1_data: NO_DEPOSIT,
         graffiti: [0; 32],
-        proposer_slashings: no_items(alloc)?,
-        attester_slashings: no_items(alloc)?,
-        attestations: no_items(alloc)?,
-        deposits: no_items(alloc)?,
-        voluntary_exits: no_items(alloc)?,
-    };
-    Ok(BeaconBlock {
+        proposer_slashings: no_items(alloc),
+        attester_slashings: no_items(alloc),
+        attestations: no_items(alloc),
+        deposits: no_items(alloc),
+        voluntary_exits: no_items(alloc),
+    }
+}
+
+fn block(alloc: Global, slot: u64) -> BeaconBlock {
+    BeaconBlock {
         slot,
         proposer_index: 7,
         parent_root: Root([0; 32]),
         state_root: Root([0; 32]),
-        body,
-    })
+        body: body(alloc),
+    }
 }
 
 fn proposers(alloc: Global, slots: &[u64]) -> Result<Items<ProposerRow>, AllocError> {
@@ -132,42 +135,65 @@ fn attesters(alloc: Global, votes: &[(PubKey, u64)]) -> Result<Items<AttesterRow
     Ok(Items::from_vec(rows))
 }
 
+/// The answer that gives the indices of these keys.
+fn indices(alloc: Global, keys: &[PubKey]) -> Result<Answer, AllocError> {
+    let mut rows = Vec::new(alloc);
+    for key in keys {
+        rows.push(validator(*key))?;
+    }
+    Ok(Answer::Validators(Items::from_vec(rows)))
+}
+
+/// The answer that gives the slots in which `KEY` proposes.
+fn proposed(alloc: Global, root: u8, slots: &[u64]) -> Result<Answer, AllocError> {
+    let rows = proposers(alloc, slots)?;
+    Ok(Answer::Proposer {
+        dependent_root: Root([root; 32]),
+        rows,
+    })
+}
+
+/// The answer that gives the slots in which keys vote.
+fn voted(alloc: Global, root: u8, votes: &[(PubKey, u64)]) -> Result<Answer, AllocError> {
+    let rows = attesters(alloc, votes)?;
+    Ok(Answer::Attester {
+        dependent_root: Root([root; 32]),
+        rows,
+    })
+}
+
+/// The answer that tells whether `KEY` was live.
+fn lived(alloc: Global, is_live: bool) -> Result<Answer, AllocError> {
+    let rows = vec![in alloc; LivenessRow { index: 7, is_live }]?;
+    Ok(Answer::Liveness(Items::from_vec(rows)))
+}
+
 fn answer(alloc: Global, said: Said) -> Result<Answer, AllocError> {
     match said {
         Said::Synced => Ok(Answer::Syncing { is_syncing: false }),
         Said::Fork => Ok(Answer::Fork(FORK)),
-        Said::Index => {
-            let rows = vec![in alloc; validator(KEY)]?;
-            Ok(Answer::Validators(Items::from_vec(rows)))
-        }
-        Said::Indices => {
-            let rows = vec![in alloc; validator(KEY), validator(SECOND)]?;
-            Ok(Answer::Validators(Items::from_vec(rows)))
-        }
-        Said::Proposes(root, slots) => Ok(Answer::Proposer {
-            dependent_root: Root([root; 32]),
-            rows: proposers(alloc, slots)?,
-        }),
-        Said::Votes(root, votes) => Ok(Answer::Attester {
-            dependent_root: Root([root; 32]),
-            rows: attesters(alloc, votes)?,
-        }),
+        Said::Index => indices(alloc, &[KEY]),
+        Said::Indices => indices(alloc, &[KEY, SECOND]),
+        Said::Proposes(root, slots) => proposed(alloc, root, slots),
+        Said::Votes(root, votes) => voted(alloc, root, votes),
         Said::Details(slot) => Ok(Answer::Data(details(slot))),
-        Said::Block(slot) => Ok(Answer::Block(block(alloc, slot)?)),
-        Said::Live(is_live) => {
-            let row = LivenessRow { index: 7, is_live };
-            Ok(Answer::Liveness(Items::from_vec(vec![in alloc; row]?)))
-        }
+        Said::Block(slot) => Ok(Answer::Block(block(alloc, slot))),
+        Said::Live(is_live) => lived(alloc, is_live),
     }
 }
 
-/// A node that says this, one after another, and does not answer at the calls of these numbers.
-pub fn node(alloc: Global, said: &[Said], failing: &[u64]) -> Result<MemNode, AllocError> {
+fn answers(alloc: Global, said: &[Said]) -> Result<Vec<Answer>, AllocError> {
     let mut answers = Vec::new(alloc);
     for said in said {
         answers.push(answer(alloc, *said)?)?;
     }
-    Ok(MemNode::new(alloc, answers, failing.to_vec(alloc)?))
+    Ok(answers)
+}
+
+/// A node that says this, one after another, and does not answer at the calls of these numbers.
+pub fn node(alloc: Global, said: &[Said], failing: &[u64]) -> Result<MemNode, AllocError> {
+    let failing = failing.to_vec(alloc)?;
+    Ok(MemNode::new(alloc, answers(alloc, said)?, failing))
 }
 
 fn word(ask: &Ask) -> &'static str {
@@ -196,16 +222,33 @@ fn word(ask: &Ask) -> &'static str {
     }
 }
 
-/// Puts what was posted behind a text, with its slot, and a mark where it is not of `KEY`.
-fn write_post(text: &mut String, call: &PostCall) -> Result<(), AllocError> {
-    match &call.post {
+/// Puts what was posted behind a text, with its slot.
+fn write_posted(text: &mut String, post: &Post) -> Result<(), AllocError> {
+    match post {
         Post::Vote(vote) => write!(text, " vote@{}", vote.details.slot)?,
         Post::Block(signed) => write!(text, " block@{}", signed.message.slot)?,
     }
+    Ok(())
+}
+
+/// Puts what was posted behind a text, with its slot, and a mark where it is not of `KEY`.
+fn write_post(text: &mut String, call: &PostCall) -> Result<(), AllocError> {
+    write_posted(text, &call.post)?;
     if call.key != KEY {
         text.push_str("*")?;
     }
     Ok(())
+}
+
+/// Puts what was called of a node behind a text.
+fn write_call(text: &mut String, call: &NodeCall) -> Result<(), AllocError> {
+    match call {
+        NodeCall::Asked(ask, _) => {
+            text.push_str(" ")?;
+            text.push_str(word(ask))
+        }
+        NodeCall::Posted(call, _) => write_post(text, call),
+    }
 }
 
 /// What was called of a node, in words: each question by its name, each post by what was posted and its slot, with a
@@ -213,10 +256,7 @@ fn write_post(text: &mut String, call: &PostCall) -> Result<(), AllocError> {
 pub fn words(alloc: Global, node: &MemNode) -> Result<String, AllocError> {
     let mut text = String::new(alloc);
     for call in node.told() {
-        match call {
-            NodeCall::Asked(ask, _) => write!(text, " {}", word(ask))?,
-            NodeCall::Posted(call, _) => write_post(&mut text, call)?,
-        }
+        write_call(&mut text, call)?;
     }
     Ok(text)
 }

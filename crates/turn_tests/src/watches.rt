@@ -1,9 +1,13 @@
 //! Watched keys, and nodes that don't answer.
-use crate::runs::{AT_32, Case, Line, ONE_TURN, Run, Stage, look_at_end, stage_of, take_turns};
+use crate::runs::{AT_32, Case, Line, ONE_TURN, Run, look_at_end, played};
 use crate::said::{KEY, Said};
-use check_sign::{DeskReply, KeyStanding, WatchState};
+use check_sign::{Desk, DeskReply, KeyStanding, WatchState};
+use edge_kit::{MemDisk, PubKey};
+use std::alloc::{AllocError, Global};
 use std::process::Abort;
+use std::sync::Wait;
 use std::test::Fail;
+use std::thread::Threads;
 
 /// A vote in slot 96, the first of epoch 3, of a key that was made active at epoch 0: epochs 1 and 2 are asked about.
 const WATCHED: Run = Run {
@@ -23,13 +27,18 @@ const WATCHED: Run = Run {
     ..ONE_TURN
 };
 
+/// How the watch of the only key stands, which is active.
+fn only_watch<T: Abort>(rt: &T, listed: &[(PubKey, KeyStanding)]) -> WatchState {
+    match listed {
+        [(_, KeyStanding::Active(watch))] => *watch,
+        _ => rt.panic("not active"),
+    }
+}
+
 /// How the watch of `KEY` stands at the loop's desk.
-fn watch_of<T: Abort>(rt: &T, stage: &mut Stage) -> WatchState {
-    match stage.desk.keys() {
-        DeskReply::Keys(listed) => match listed.as_slice() {
-            [(_, KeyStanding::Active(watch))] => *watch,
-            _ => rt.panic("not active"),
-        },
+fn watch_of<T: Abort>(rt: &T, desk: &mut Desk<MemDisk>) -> WatchState {
+    match desk.keys() {
+        DeskReply::Keys(listed) => only_watch(rt, listed.as_slice()),
         _ => rt.panic("not listed"),
     }
 }
@@ -114,14 +123,26 @@ const WATCHES: [(Case, WatchState); 4] = [
     ),
 ];
 
+fn look_at_standing<T: Abort>(rt: &T, desk: &mut Desk<MemDisk>, watch: WatchState) {
+    assert_eq!(rt; watch_of(rt, desk), watch);
+}
+
+/// Carries out a run, and looks at how the watch of `KEY` stands, and at what was printed and asked.
+fn look_at_watch<T: Abort + Threads + Wait + Sync>(
+    rt: &T,
+    alloc: Global,
+    case: &Case,
+    watch: WatchState,
+) -> Result<(), AllocError> {
+    let mut stage = played(rt, alloc, &case.run)?;
+    look_at_standing(rt, &mut stage.desk, watch);
+    look_at_end(rt, alloc, stage, case.lines, case.asked, case.lane_asked)
+}
+
 #[test]
 fn watches_are_asked_about_and_nodes_may_be_down(rt: HostRuntime) -> Result<(), Fail> {
-    let alloc = rt.alloc();
     for (case, watch) in &WATCHES {
-        let mut stage = stage_of(&rt, alloc, &case.run)?;
-        take_turns(&rt, alloc, &case.run, &mut stage);
-        assert_eq!(&rt; watch_of(&rt, &mut stage), *watch);
-        look_at_end(&rt, alloc, stage, case.lines, case.asked, case.lane_asked)?;
+        look_at_watch(&rt, rt.alloc(), case, *watch)?;
     }
     Ok(())
 }

@@ -5,8 +5,7 @@ use program_end::Status;
 use serve_run::LaneEnd;
 
 /// The status, the objects that were handed in, and what the desk did. `lanes` has the signing service and the nodes of
-/// each lane in which duties were done, other accesses to those that were handed in; it is empty where no lanes were
-/// made. `events` is empty where no desk was opened.
+/// each lane that was made, other accesses to those that were handed in; it is empty where none were made. `events` is empty where no desk was opened.
 #[derive(Drop)]
 pub struct Ending<D, S, N, R> {
     pub status: Status,

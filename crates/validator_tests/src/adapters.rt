@@ -2,7 +2,8 @@
 use edge_kit::{Failed, Sink, Source};
 use edge_system::{Reading, Writing};
 use std::io;
-use std::io::{Read, Write};
+use std::io::{Eprint, Read, Write};
+use std::process::Abort;
 
 /// Takes or gives at most so many bytes at a call, and fails at every third.
 #[derive(Drop)]
@@ -40,6 +41,27 @@ impl<T: Write> Write for Halting<T> {
     }
 }
 
+/// What each read of a source of seven bytes answers, and the bytes that it brings.
+const READS: [(Result<usize, Failed>, &[u8]); 5] = [
+    (Ok(3), b"abc"),
+    (Ok(3), b"def"),
+    (Err(Failed), b""),
+    (Ok(1), b"g"),
+    (Ok(0), b""),
+];
+
+/// Reads a piece of at most four bytes, and compares it.
+fn read_so<T: Abort, S: Source>(
+    rt: &T,
+    source: &mut S,
+    answer: Result<usize, Failed>,
+    front: &[u8],
+) {
+    let mut piece = [0; 4];
+    assert!(rt; source.read(&mut piece) == answer);
+    assert!(rt; piece.starts_with(front));
+}
+
 #[test]
 fn a_reader_is_a_source(rt: HostRuntime) {
     let bytes: &[u8] = b"abcdefg";
@@ -50,38 +72,37 @@ fn a_reader_is_a_source(rt: HostRuntime) {
         calls,
     };
     let mut source = Reading::new(halting, &rt);
-    let mut piece = [0; 4];
-    let wanted: [(Result<usize, Failed>, &[u8]); 5] = [
-        (Ok(3), b"abc"),
-        (Ok(3), b"def"),
-        (Err(Failed), b""),
-        (Ok(1), b"g"),
-        (Ok(0), b""),
-    ];
-    for (result, front) in wanted {
-        assert!(rt; source.read(&mut piece) == result);
-        assert!(rt; piece.starts_with(front));
+    for (answer, front) in READS {
+        read_so(&rt, &mut source, answer, front);
+    }
+}
+
+/// What each write to a sink of five bytes is answered.
+const WRITES: [(&[u8], Result<usize, Failed>); 6] = [
+    (b"abcd", Ok(3)),
+    (b"", Ok(0)),
+    (b"d", Err(Failed)),
+    (b"def", Ok(2)),
+    (b"f", Err(Failed)),
+    (b"f", Err(Failed)),
+];
+
+/// Writes each piece to a sink over these bytes, and compares what is answered.
+fn write_each<T: Abort + Eprint>(rt: &T, held: &mut [u8]) {
+    let halting = Halting {
+        inner: held,
+        step: 3,
+        calls: 0,
+    };
+    let mut sink = Writing::new(halting, rt);
+    for (piece, answer) in WRITES {
+        assert!(rt; sink.write(piece) == answer);
     }
 }
 
 #[test]
 fn a_writer_is_a_sink(rt: HostRuntime) {
     let mut held = [0; 5];
-    let (step, calls) = (3, 0);
-    {
-        let inner: &mut [u8] = &mut held;
-        let mut sink = Writing::new(Halting { inner, step, calls }, &rt);
-        let wanted: [(&[u8], Result<usize, Failed>); 6] = [
-            (b"abcd", Ok(3)),
-            (b"", Ok(0)),
-            (b"d", Err(Failed)),
-            (b"def", Ok(2)),
-            (b"f", Err(Failed)),
-            (b"f", Err(Failed)),
-        ];
-        for (piece, result) in wanted {
-            assert!(rt; sink.write(piece) == result);
-        }
-    }
+    write_each(&rt, &mut held);
     assert!(rt; held == *b"abcde");
 }

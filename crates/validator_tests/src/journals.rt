@@ -1,11 +1,13 @@
 //! The commands over a journal, and journals that are not opened.
-use run_doubles::{disks_after, disks_of, fresh_disks, play};
+use edge_kit::{Disks, MemDisk};
+use run_doubles::{Ended, SESSION, disks_after, disks_of, fresh_disks, play};
+use signer_link::MemSigner;
 use std::alloc::{AllocError, Global};
+use std::process::Abort;
+use std::sync::Wait;
 use std::test::Fail;
+use std::thread::Threads;
 use validator_cli::Status;
-
-/// The words of a session for the chain G0.
-const SESSION: &str = "validator session --genesis <G0>";
 
 /// A line that makes K1 active.
 const ACTIVATE: &str = r#"{"op":"activate","pubkey":"<K1>"}
@@ -24,17 +26,52 @@ const FILE: &str =
 const OTHER_FILE: &str =
     r#"{"data":[],"metadata":{"genesis_validators_root":"<G1>","interchange_format_version":"5"}}"#;
 
-#[test]
-fn a_file_that_was_merged_is_shown(rt: HostRuntime) -> Result<(), Fail> {
-    let alloc = rt.alloc();
-    let mut ended = play(&rt, alloc, MERGE, fresh_disks(alloc)?, FILE)?;
+/// Compares what a run came to with a status and an output. Nothing is done by the desk of a session.
+pub fn look_at<T: Abort>(
+    rt: &T,
+    alloc: Global,
+    ended: &Ended<MemSigner>,
+    status: Status,
+    output: &str,
+) -> Result<(), AllocError> {
+    assert_eq!(rt; ended.status, status, "{output}");
+    let is_written = ended.wrote(alloc, output)?;
+    assert!(rt; is_written, "{output}");
+    assert!(rt; ended.events.is_empty(), "{output}");
+    Ok(())
+}
+
+/// Merges `FILE` into a journal on empty disks, and gives what it leaves.
+fn merge_file<T: Threads + Wait + Sync + Abort>(
+    rt: &T,
+    alloc: Global,
+) -> Result<Disks<MemDisk>, AllocError> {
+    let ended = play(rt, alloc, MERGE, fresh_disks(alloc)?, FILE)?;
     assert_eq!(rt; ended.status, Status::Done);
     assert!(rt; ended.wrote(alloc, "merged 1\n")?);
-    let line = "<K1> known blocks 1 votes 0 floor_slot 100 floor_source - floor_target -\n";
+    disks_after(alloc, &ended)
+}
+
+/// What is shown of it.
+const SHOWN: &str = "<K1> known blocks 1 votes 0 floor_slot 100 floor_source - floor_target -\n";
+
+/// Shows the journal on these disks, and gives what that leaves.
+fn show_it<T: Threads + Wait + Sync + Abort>(
+    rt: &T,
+    alloc: Global,
+    disks: Disks<MemDisk>,
+) -> Result<Disks<MemDisk>, AllocError> {
+    let ended = play(rt, alloc, SHOW, disks, "")?;
+    assert_eq!(rt; ended.status, Status::Done);
+    assert!(rt; ended.wrote(alloc, SHOWN)?);
+    disks_after(alloc, &ended)
+}
+
+#[test]
+fn a_file_that_was_merged_is_shown(rt: HostRuntime) -> Result<(), Fail> {
+    let mut disks = merge_file(&rt, rt.alloc())?;
     for _ in 0..2 {
-        ended = play(&rt, alloc, SHOW, disks_after(alloc, &ended)?, "")?;
-        assert_eq!(rt; ended.status, Status::Done);
-        assert!(rt; ended.wrote(alloc, line)?);
+        disks = show_it(&rt, rt.alloc(), disks)?;
     }
     Ok(())
 }
@@ -58,7 +95,7 @@ struct Over {
     output: &'static str,
 }
 
-const RUNS: [Over; 5] = [
+const RUNS: &[Over] = &[
     Over {
         words: MERGE,
         held: Held::Nothing,
@@ -111,35 +148,63 @@ fn bytes_of(alloc: Global, held: Held) -> Result<Vec<u8>, AllocError> {
     Ok(bytes)
 }
 
+/// Runs over a disk.
+fn run_over<T: Threads + Wait + Sync>(
+    rt: &T,
+    alloc: Global,
+    over: &Over,
+) -> Result<Ended<MemSigner>, AllocError> {
+    let bytes = bytes_of(alloc, over.held)?;
+    let disks = disks_of(alloc, bytes, Vec::new(alloc))?;
+    play(rt, alloc, over.words, disks, over.input)
+}
+
+/// Runs over a disk, and compares what it came to.
+fn fail_over<T: Threads + Wait + Sync + Abort>(
+    rt: &T,
+    alloc: Global,
+    over: &Over,
+) -> Result<(), AllocError> {
+    let ended = run_over(rt, alloc, over)?;
+    look_at(rt, alloc, &ended, over.status, over.output)
+}
+
 #[test]
 fn each_fault_of_a_journal_or_a_file_is_told_in_its_line(rt: HostRuntime) -> Result<(), Fail> {
-    let alloc = rt.alloc();
     for over in RUNS {
-        let wanted = over.output;
-        let bytes = bytes_of(alloc, over.held)?;
-        let disks = disks_of(alloc, bytes, Vec::new(alloc))?;
-        let ended = play(&rt, alloc, over.words, disks, over.input)?;
-        assert_eq!(rt; ended.status, over.status, "{wanted}");
-        assert!(rt; ended.wrote(alloc, wanted)?, "{wanted}");
-        assert!(rt; ended.events.is_empty(), "{wanted}");
+        fail_over(&rt, rt.alloc(), over)?;
     }
     Ok(())
 }
 
+/// How many calls of the first disk the opening of empty disks makes.
+fn opening_calls<T: Threads + Wait + Sync + Abort>(
+    rt: &T,
+    alloc: Global,
+) -> Result<u64, AllocError> {
+    let idle = play(rt, alloc, SESSION, fresh_disks(alloc)?, "")?;
+    assert_eq!(rt; idle.status, Status::Done);
+    Ok(idle.disks.first.calls())
+}
+
+/// Runs a session that makes K1 active over a disk that fails at this call, and compares what it came to.
+fn fail_at<T: Threads + Wait + Sync + Abort>(
+    rt: &T,
+    alloc: Global,
+    call: u64,
+    output: &str,
+) -> Result<(), AllocError> {
+    let failing = vec![in alloc; call]?;
+    let disks = disks_of(alloc, Vec::new(alloc), failing)?;
+    let ended = play(rt, alloc, SESSION, disks, ACTIVATE)?;
+    look_at(rt, alloc, &ended, Status::DiskFault, output)
+}
+
 #[test]
 fn a_disk_that_fails_ends_the_session(rt: HostRuntime) -> Result<(), Fail> {
-    let alloc = rt.alloc();
-    let idle = play(&rt, alloc, SESSION, fresh_disks(alloc)?, "")?;
-    assert_eq!(rt; idle.status, Status::Done);
-    let opening = idle.disks.first.calls();
+    let opening = opening_calls(&rt, rt.alloc())?;
     let refused = "{\"answer\":\"refused\",\"reason\":\"disk\"}\nvalidator: disk fault\n";
-    for (call, output) in [(opening, refused), (0, "validator: disk fault\n")] {
-        let failing = Vec::from_slice(alloc, &[call])?;
-        let disks = disks_of(alloc, Vec::new(alloc), failing)?;
-        let ended = play(&rt, alloc, SESSION, disks, ACTIVATE)?;
-        assert_eq!(rt; ended.status, Status::DiskFault, "call {call}");
-        assert!(rt; ended.wrote(alloc, output)?, "call {call}");
-        assert!(rt; ended.events.is_empty(), "call {call}");
-    }
+    fail_at(&rt, rt.alloc(), opening, refused)?;
+    fail_at(&rt, rt.alloc(), 0, "validator: disk fault\n")?;
     Ok(())
 }

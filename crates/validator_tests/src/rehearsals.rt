@@ -1,6 +1,12 @@
 //! Rehearsals: what is counted in a run that is drawn from a number.
-use run_doubles::{Faults, fresh_disks, play, ready_signer, run};
+use crate::journals::look_at;
+use run_doubles::{Ended, Faults, fresh_disks, play, ready_signer, run};
+use signer_link::MemSigner;
+use std::alloc::{AllocError, Global};
+use std::process::Abort;
+use std::sync::Wait;
 use std::test::Fail;
+use std::thread::Threads;
 use validator_cli::Status;
 
 /// The words of a rehearsal, and what it writes. The counts are those of a program that was written from the rules
@@ -20,13 +26,27 @@ const COUNTED: [(&str, &str); 3] = [
     ),
 ];
 
+/// The largest rehearsal, and what it writes, counted as the others are.
+const LARGEST: (&str, &str) = (
+    "validator rehearse 7 16 20000",
+    "steps 20000\ngranted 14412\nrefused 645\nhandovers 2476\nstops 1275\nunsafe 0\n",
+);
+
+/// Rehearses, and compares what is written.
+fn rehearse<T: Threads + Wait + Sync + Abort>(
+    rt: &T,
+    alloc: Global,
+    words: &str,
+    wanted: &str,
+) -> Result<(), AllocError> {
+    let ended = play(rt, alloc, words, fresh_disks(alloc)?, "")?;
+    look_at(rt, alloc, &ended, Status::Done, wanted)
+}
+
 #[test]
 fn counts_are_written_a_line_each(rt: HostRuntime) -> Result<(), Fail> {
-    let alloc = rt.alloc();
     for (words, wanted) in COUNTED {
-        let ended = play(&rt, alloc, words, fresh_disks(alloc)?, "")?;
-        assert_eq!(rt; ended.status, Status::Done);
-        assert!(rt; ended.wrote(alloc, wanted)?, "{words}");
+        rehearse(&rt, rt.alloc(), words, wanted)?;
     }
     Ok(())
 }
@@ -34,56 +54,58 @@ fn counts_are_written_a_line_each(rt: HostRuntime) -> Result<(), Fail> {
 #[test]
 fn seventeen_clients_are_too_many(rt: HostRuntime) -> Result<(), Fail> {
     let alloc = rt.alloc();
-    let ended = play(
-        &rt,
-        alloc,
-        "validator rehearse 1 17 0",
-        fresh_disks(alloc)?,
-        "",
-    )?;
+    let words = "validator rehearse 1 17 0";
+    let ended = play(&rt, alloc, words, fresh_disks(alloc)?, "")?;
     assert_eq!(rt; ended.status, Status::Usage);
     Ok(())
 }
 
-/// The largest rehearsal, and what it writes, counted as the others are.
-const LARGEST: (&str, &str) = (
-    "validator rehearse 7 16 20000",
-    "steps 20000\ngranted 14412\nrefused 645\nhandovers 2476\nstops 1275\nunsafe 0\n",
-);
-
 #[test]
 fn the_same_number_gives_the_same_bytes(rt: HostRuntime) -> Result<(), Fail> {
-    let alloc = rt.alloc();
     let (words, wanted) = LARGEST;
-    let first = play(&rt, alloc, words, fresh_disks(alloc)?, "")?;
-    let again = play(&rt, alloc, words, fresh_disks(alloc)?, "")?;
-    assert_eq!(rt; first.status, Status::Done);
-    assert!(rt; first.wrote(alloc, wanted)?);
-    assert_eq!(rt; first.output.as_slice(), again.output.as_slice());
+    for _ in 0..2 {
+        rehearse(&rt, rt.alloc(), words, wanted)?;
+    }
     Ok(())
 }
 
-/// The input fails at its first read, and the output has room for twenty bytes.
-#[test]
-fn nothing_is_read_and_a_full_output_holds_a_front(rt: HostRuntime) -> Result<(), Fail> {
-    let alloc = rt.alloc();
-    let faults = Faults {
-        reads: Vec::from_slice(alloc, &[0])?,
+/// Faults of the first read, and an output with room for twenty bytes.
+fn tight(alloc: Global) -> Result<Faults, AllocError> {
+    Ok(Faults {
+        reads: vec![in alloc; 0]?,
         writes: Vec::new(alloc),
         room: 20,
-    };
-    let words = "validator rehearse 1 1 1";
-    let signer = ready_signer(alloc);
-    let ended = run(
-        &rt,
+    })
+}
+
+/// Rehearses once over these faults.
+fn rehearse_once<T: Threads + Wait + Sync>(
+    rt: &T,
+    alloc: Global,
+    faults: Faults,
+) -> Result<Ended<MemSigner>, AllocError> {
+    let (words, signer) = ("validator rehearse 1 1 1", ready_signer(alloc));
+    run(
+        rt,
         alloc,
         words,
         fresh_disks(alloc)?,
         b"{}\n",
         signer,
         faults,
+    )
+}
+
+#[test]
+fn nothing_is_read_and_a_full_output_holds_a_front(rt: HostRuntime) -> Result<(), Fail> {
+    let alloc = rt.alloc();
+    let ended = rehearse_once(&rt, alloc, tight(alloc)?)?;
+    look_at(
+        &rt,
+        alloc,
+        &ended,
+        Status::WriteFault,
+        "steps 1\ngranted 1\nre",
     )?;
-    assert_eq!(rt; ended.status, Status::WriteFault);
-    assert!(rt; ended.wrote(alloc, "steps 1\ngranted 1\nre")?);
     Ok(())
 }

@@ -2,10 +2,20 @@
 use run_doubles::{Ended, Faults, fresh_disks, ready_signer, run};
 use signer_link::MemSigner;
 use std::alloc::{AllocError, Global};
+use std::process::Abort;
 use std::sync::Wait;
 use std::test::Fail;
 use std::thread::Threads;
 use validator_cli::Status;
+
+/// Faults of every read up to the fourth.
+fn failing_reads(alloc: Global) -> Result<Faults, AllocError> {
+    Ok(Faults {
+        reads: Vec::from_slice(alloc, &[0, 1, 2, 3])?,
+        writes: Vec::new(alloc),
+        room: 1 << 20,
+    })
+}
 
 /// Runs words over an input whose every read up to the fourth fails, so that reading it at all ends the run
 /// with another status.
@@ -14,11 +24,7 @@ fn run_words<T: Threads + Wait + Sync>(
     alloc: Global,
     words: &str,
 ) -> Result<Ended<MemSigner>, AllocError> {
-    let faults = Faults {
-        reads: Vec::from_slice(alloc, &[0, 1, 2, 3])?,
-        writes: Vec::new(alloc),
-        room: 1 << 20,
-    };
+    let faults = failing_reads(alloc)?;
     let input = b"{\"op\":\"export\"}\n";
     let signer = ready_signer(alloc);
     run(rt, alloc, words, fresh_disks(alloc)?, input, signer, faults)
@@ -54,16 +60,36 @@ const FAULTY: [(&str, &str); 8] = [
     ),
 ];
 
+/// Compares a status with that of faulty words.
+fn look_at_usage<T: Abort>(rt: &T, status: Status, told: &str) {
+    assert_eq!(rt; status, Status::Usage, "{told}");
+    assert_eq!(rt; status.code(), 2, "{told}");
+}
+
+/// Looks whether an output is one line that begins so.
+fn look_at_line<T: Abort>(rt: &T, output: &[u8], begins: &str) {
+    assert!(rt; output.starts_with(begins.as_bytes()), "{begins}");
+    assert!(rt; is_one_line(output), "{begins}");
+}
+
+/// Runs words that are no command, and looks at what is told of them.
+fn run_faulty<T: Threads + Wait + Sync + Abort>(
+    rt: &T,
+    alloc: Global,
+    words: &str,
+    told: &str,
+) -> Result<(), AllocError> {
+    let ended = run_words(rt, alloc, words)?;
+    let begins = format!(in alloc; "validator: error: {told}")?;
+    look_at_usage(rt, ended.status, told);
+    look_at_line(rt, ended.output.as_slice(), begins.as_str());
+    Ok(())
+}
+
 #[test]
 fn words_that_are_no_command_are_told_in_one_line(rt: HostRuntime) -> Result<(), Fail> {
-    let alloc = rt.alloc();
     for (words, told) in FAULTY {
-        let ended = run_words(&rt, alloc, words)?;
-        let begins = format!(in alloc; "validator: error: {told}")?;
-        assert_eq!(rt; ended.status, Status::Usage, "{told}");
-        assert_eq!(rt; ended.status.code(), 2, "{told}");
-        assert!(rt; ended.output.starts_with(begins.as_bytes()), "{told}");
-        assert!(rt; is_one_line(ended.output.as_slice()), "{told}");
+        run_faulty(&rt, rt.alloc(), words, told)?;
     }
     Ok(())
 }
@@ -91,14 +117,24 @@ const HELP: &str =
 const SESSION_HELP: &str =
     "Answers signing requests, one JSON object a line, from standard input\n\nUsage: validator session";
 
+/// Runs words that ask for a text, and looks at it.
+fn run_shown<T: Threads + Wait + Sync + Abort>(
+    rt: &T,
+    alloc: Global,
+    words: &str,
+    begins: &str,
+) -> Result<(), AllocError> {
+    let ended = run_words(rt, alloc, words)?;
+    assert_eq!(rt; ended.status, Status::Done, "{begins}");
+    assert!(rt; ended.output.starts_with(begins.as_bytes()), "{begins}");
+    assert!(rt; ended.events.is_empty(), "{begins}");
+    Ok(())
+}
+
 #[test]
 fn help_and_version_are_shown_and_nothing_is_read(rt: HostRuntime) -> Result<(), Fail> {
-    let alloc = rt.alloc();
     for (words, begins) in SHOWN {
-        let ended = run_words(&rt, alloc, words)?;
-        assert_eq!(rt; ended.status, Status::Done, "{begins}");
-        assert!(rt; ended.output.starts_with(begins.as_bytes()), "{begins}");
-        assert!(rt; ended.events.is_empty(), "{begins}");
+        run_shown(&rt, rt.alloc(), words, begins)?;
     }
     Ok(())
 }

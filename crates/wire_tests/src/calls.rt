@@ -1,29 +1,42 @@
 //! Calls over a link in memory.
+use crate::links::{look_at_sent, saying};
 use edge_kit::MemLink;
 use http::Method;
 use http_call::call;
+use http_wire::{Response, WireFault};
 use service_url::ServiceUrl;
-use std::alloc::Global;
+use std::alloc::{AllocError, Global};
+use std::process::Abort;
 use std::test::Fail;
 
-/// What a call answers and, on a line of its own, what was sent by it, where the peer says this and the link's
-/// calls of these numbers fail.
-fn call_words(alloc: Global, said: &str, failing: Vec<u64>) -> Result<(String, String), Fail> {
-    let said = vec![in alloc; Vec::from_slice(alloc, said.as_bytes())?]?;
-    let mut link = MemLink::new(alloc, said, 1000, failing)?;
-    let Some(service) = ServiceUrl::read(alloc, "http://[::1]:9000/base/")? else {
-        return Ok((String::new(alloc), String::new(alloc)));
-    };
+/// The service that is called.
+fn service(alloc: Global) -> Result<ServiceUrl, AllocError> {
+    match ServiceUrl::read(alloc, "http://[::1]:9000/base/")? {
+        Some(service) => Ok(service),
+        None => Err(AllocError),
+    }
+}
+
+/// The status and the body of a response.
+fn response_words(alloc: Global, response: &Response) -> Result<String, AllocError> {
+    let body = String::from_utf8_lossy(alloc, response.body.as_slice())?;
+    format!(in alloc; "{} {}", response.status, body.as_str())
+}
+
+/// Those of an answer, or its fault.
+fn answer_words(alloc: Global, answer: &Result<Response, WireFault>) -> Result<String, AllocError> {
+    match answer {
+        Ok(response) => response_words(alloc, response),
+        Err(fault) => format!(in alloc; "{fault:?}"),
+    }
+}
+
+/// What a call over a link answers.
+fn call_over(alloc: Global, link: &mut MemLink) -> Result<String, AllocError> {
+    let service = service(alloc)?;
     let body = Vec::from_slice(alloc, b"{}")?;
-    let words = match call(alloc, &mut link, &service, Method::POST, "/sign", body) {
-        Ok(response) => {
-            let body = String::from_utf8_lossy(alloc, response.body.as_slice())?;
-            format!(in alloc; "{} {}", response.status, body.as_str())?
-        }
-        Err(fault) => format!(in alloc; "{fault:?}")?,
-    };
-    let sent = String::from_utf8_lossy(alloc, link.into_sent().as_slice())?;
-    Ok((words, String::from_str(alloc, sent.as_str())?))
+    let answer = call(alloc, link, &service, Method::POST, "/sign", body);
+    answer_words(alloc, &answer)
 }
 
 const SAID: &str = "HTTP/1.1 200 OK\r\nContent-Length: 2\r\n\r\nok";
@@ -31,41 +44,73 @@ const SAID: &str = "HTTP/1.1 200 OK\r\nContent-Length: 2\r\n\r\nok";
 const SENT: &str =
     "POST /base/sign HTTP/1.1\r\nHost: [::1]:9000\r\nAccept: application/json\r\nConnection: close\r\nContent-Type: application/json\r\nContent-Length: 2\r\n\r\n{}";
 
+/// What the peer says, and what a call answers.
+const ANSWERS: &[(&str, &str)] = &[
+    (SAID, "200 ok"),
+    (
+        "HTTP/1.1 412 Precondition Failed\r\nContent-Length: 0\r\n\r\n",
+        "412 ",
+    ),
+    ("HTTP/1.1 200 OK\r\nContent-Length: 3\r\n\r\nok", "BadBody"),
+    ("", "BadHead"),
+];
+
+/// Compares what a call over a link answers with these words.
+fn look_at_call<T: Abort>(
+    rt: &T,
+    alloc: Global,
+    link: &mut MemLink,
+    words: &str,
+) -> Result<(), AllocError> {
+    let answer = call_over(alloc, link)?;
+    assert_eq!(rt; answer.as_str(), words);
+    Ok(())
+}
+
+/// Calls a peer that says this.
+fn call_peer<T: Abort>(rt: &T, alloc: Global, said: &str, words: &str) -> Result<(), AllocError> {
+    let mut link = saying(alloc, said.as_bytes(), &[])?;
+    look_at_call(rt, alloc, &mut link, words)?;
+    look_at_sent(rt, alloc, link, SENT)
+}
+
 #[test]
 fn a_call_sends_its_request_and_answers_the_response(rt: HostRuntime) -> Result<(), Fail> {
-    let alloc = rt.alloc();
-    for (said, words) in [
-        (SAID, "200 ok"),
-        (
-            "HTTP/1.1 412 Precondition Failed\r\nContent-Length: 0\r\n\r\n",
-            "412 ",
-        ),
-        ("HTTP/1.1 200 OK\r\nContent-Length: 3\r\n\r\nok", "BadBody"),
-        ("", "BadHead"),
-    ] {
-        let (answer, sent) = call_words(alloc, said, Vec::new(alloc))?;
-        assert_eq!(rt; answer.as_str(), words);
-        assert_eq!(rt; sent.as_str(), SENT);
+    for (said, words) in ANSWERS {
+        call_peer(&rt, rt.alloc(), said, words)?;
     }
     Ok(())
 }
 
+/// Which call of the link hangs up.
+const HANG_UP: u64 = 3 + 38 + 1;
+
+/// Which call of the link fails, and what is answered.
+const FAULTS: &[(u64, &str)] = &[
+    (0, "Link"),
+    (1, "Link"),
+    (2, "Link"),
+    (3, "Link"),
+    (HANG_UP - 1, "Link"),
+    (HANG_UP, "Link"),
+    (HANG_UP + 1, "200 ok"),
+];
+
+/// Calls over a link whose call of this number fails.
+fn call_failing<T: Abort>(
+    rt: &T,
+    alloc: Global,
+    number: u64,
+    words: &str,
+) -> Result<(), AllocError> {
+    let mut link = saying(alloc, SAID.as_bytes(), &[number])?;
+    look_at_call(rt, alloc, &mut link, words)
+}
+
 #[test]
 fn a_link_that_fails_at_any_of_its_calls_is_told(rt: HostRuntime) -> Result<(), Fail> {
-    let alloc = rt.alloc();
-    let hang_up = 3 + 38 + 1;
-    for (number, words) in [
-        (0, "Link"),
-        (1, "Link"),
-        (2, "Link"),
-        (3, "Link"),
-        (hang_up - 1, "Link"),
-        (hang_up, "Link"),
-        (hang_up + 1, "200 ok"),
-    ] {
-        let failing = vec![in alloc; number]?;
-        let (answer, _) = call_words(alloc, SAID, failing)?;
-        assert_eq!(rt; answer.as_str(), words);
+    for (number, words) in FAULTS {
+        call_failing(&rt, rt.alloc(), *number, words)?;
     }
     Ok(())
 }

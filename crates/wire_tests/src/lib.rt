@@ -6,6 +6,8 @@ mod addresses;
 #[cfg(test)]
 mod calls;
 #[cfg(test)]
+mod links;
+#[cfg(test)]
 mod members;
 #[cfg(test)]
 mod messages;

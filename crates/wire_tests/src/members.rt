@@ -1,34 +1,114 @@
 use json_members::{bytes_in, flag_in, items_in, json_of, number_in, text_in};
-use std::alloc::Global;
+use std::alloc::{AllocError, Global};
+use std::process::Abort;
 use std::test::Fail;
 
 const TEXT: &[u8] =
     br#"{"a":"x","n":"012","m":"18446744073709551616","h":"0x0aFF","t":true,"l":[1,[2]],"a":"y"}"#;
 
-#[test]
-fn members_are_read_as_what_they_should_be(rt: HostRuntime) -> Result<(), Fail> {
-    let alloc = rt.alloc();
-    let Some(value) = json_of(alloc, TEXT)? else {
-        return Err(Fail::new("no JSON"));
-    };
-    assert_eq!(rt; text_in(&value, "a"), Some("y"));
-    assert_eq!(rt; text_in(&value, "t"), None);
-    assert_eq!(rt; number_in(&value, "n"), Some(12));
-    assert_eq!(rt; number_in(&value, "m"), None);
-    assert_eq!(rt; bytes_in::<2>(&value, "h"), Some([10, 255]));
-    assert_eq!(rt; bytes_in::<3>(&value, "h"), None);
-    assert_eq!(rt; flag_in(&value, "t"), Some(true));
-    assert_eq!(rt; flag_in(&value, "a"), None);
-    assert_eq!(rt; items_in(&value, "l").map(<[_]>::len), Some(2));
-    assert_eq!(rt; items_in(&value, "z").is_none(), true);
+/// Compares a member that is read as a text with this.
+fn look_at_text<T: Abort>(
+    rt: &T,
+    alloc: Global,
+    name: &str,
+    wanted: Option<&str>,
+) -> Result<(), AllocError> {
+    if let Some(value) = json_of(alloc, TEXT)? {
+        assert_eq!(rt; text_in(&value, name), wanted);
+    }
     Ok(())
 }
 
+/// Compares a member that is read as a number with this.
+fn look_at_number<T: Abort>(
+    rt: &T,
+    alloc: Global,
+    name: &str,
+    wanted: Option<u64>,
+) -> Result<(), AllocError> {
+    if let Some(value) = json_of(alloc, TEXT)? {
+        assert_eq!(rt; number_in(&value, name), wanted);
+    }
+    Ok(())
+}
+
+/// Compares a member that is read as bytes with these.
+fn look_at_bytes<T: Abort, const N: usize>(
+    rt: &T,
+    alloc: Global,
+    name: &str,
+    wanted: Option<[u8; N]>,
+) -> Result<(), AllocError> {
+    if let Some(value) = json_of(alloc, TEXT)? {
+        assert_eq!(rt; bytes_in::<N>(&value, name), wanted);
+    }
+    Ok(())
+}
+
+/// Compares a member that is read as a flag with this.
+fn look_at_flag<T: Abort>(
+    rt: &T,
+    alloc: Global,
+    name: &str,
+    wanted: Option<bool>,
+) -> Result<(), AllocError> {
+    if let Some(value) = json_of(alloc, TEXT)? {
+        assert_eq!(rt; flag_in(&value, name), wanted);
+    }
+    Ok(())
+}
+
+/// Compares the count of elements of a member that is read as an array with this.
+fn look_at_count<T: Abort>(
+    rt: &T,
+    alloc: Global,
+    name: &str,
+    wanted: Option<usize>,
+) -> Result<(), AllocError> {
+    if let Some(value) = json_of(alloc, TEXT)? {
+        assert_eq!(rt; items_in(&value, name).map(<[_]>::len), wanted);
+    }
+    Ok(())
+}
+
+/// Compares members that are read as texts and as numbers.
+fn look_at_numbers<T: Abort>(rt: &T, alloc: Global) -> Result<(), AllocError> {
+    look_at_text(rt, alloc, "a", Some("y"))?;
+    look_at_text(rt, alloc, "t", None)?;
+    look_at_number(rt, alloc, "n", Some(12))?;
+    look_at_number(rt, alloc, "m", None)
+}
+
+/// Compares members that are read as bytes, flags and arrays.
+fn look_at_others<T: Abort>(rt: &T, alloc: Global) -> Result<(), AllocError> {
+    look_at_bytes::<T, 2>(rt, alloc, "h", Some([10, 255]))?;
+    look_at_bytes::<T, 3>(rt, alloc, "h", None)?;
+    look_at_flag(rt, alloc, "t", Some(true))?;
+    look_at_flag(rt, alloc, "a", None)?;
+    look_at_count(rt, alloc, "l", Some(2))?;
+    look_at_count(rt, alloc, "z", None)
+}
+
+/// Whether bytes are JSON.
+fn is_json(alloc: Global, bytes: &[u8]) -> Result<bool, AllocError> {
+    Ok(json_of(alloc, bytes)?.is_some())
+}
+
+#[test]
+fn members_are_read_as_what_they_should_be(rt: HostRuntime) -> Result<(), Fail> {
+    assert!(rt; is_json(rt.alloc(), TEXT)?, "no JSON");
+    look_at_numbers(&rt, rt.alloc())?;
+    look_at_others(&rt, rt.alloc())?;
+    Ok(())
+}
+
+/// What is no JSON.
+const NO_JSON: &[&[u8]] = &[b"", b"{", b"{} {}", b"\"\xff\"", b"{\"a\":1,}"];
+
 #[test]
 fn bytes_that_are_no_json_are_none(rt: HostRuntime) -> Result<(), Fail> {
-    let alloc = rt.alloc();
-    for bytes in [&b""[..], b"{", b"{} {}", b"\"\xff\"", b"{\"a\":1,}"] {
-        assert!(rt; json_of(alloc, bytes)?.is_none());
+    for bytes in NO_JSON {
+        assert!(rt; !is_json(rt.alloc(), bytes)?);
     }
     Ok(())
 }

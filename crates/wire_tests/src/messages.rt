@@ -1,12 +1,14 @@
 //! Messages that are read and written over a link.
 ghost use Rattle.std.specs.Prelude.{None};
 
+use crate::links::{look_at_sent, saying};
 use edge_kit::{Failed, Link, MemLink};
 use http::Method;
 use http_wire::{
     Field, Request, Response, WireFault, read_request, read_response, write_request, write_response,
 };
 use std::alloc::{AllocError, Global};
+use std::process::Abort;
 use std::test::Fail;
 
 /// How what a peer says is cut into pieces.
@@ -69,60 +71,68 @@ impl<'a> Link for CutLink<'a> {
     }
 }
 
-/// The body of the request that the bytes spell and how many bytes are left behind it, or its fault.
-fn request_words(alloc: Global, bytes: &[u8], cut: Cut) -> Result<String, AllocError> {
+/// The body of a request and how many bytes are left behind it.
+fn request_words(alloc: Global, request: &Request, left: usize) -> Result<String, AllocError> {
+    let body = String::from_utf8_lossy(alloc, request.body.as_slice())?;
+    format!(in alloc; "{} {left}", body.as_str())
+}
+
+/// Those of the request that the bytes spell, or its fault.
+fn words_of_request(alloc: Global, bytes: &[u8], cut: Cut) -> Result<String, AllocError> {
     let mut link = CutLink { bytes, cut };
     match read_request(alloc, &mut link) {
-        Ok(request) => {
-            let body = String::from_utf8_lossy(alloc, request.body.as_slice())?;
-            format!(in alloc; "{} {}", body.as_str(), link.bytes.len())
-        }
+        Ok(request) => request_words(alloc, &request, link.bytes.len()),
         Err(fault) => format!(in alloc; "{fault:?}"),
     }
 }
 
-/// The status and the body of the response that the bytes spell and how many bytes are left behind it, or
-/// its fault.
-fn response_words(alloc: Global, bytes: &[u8], cut: Cut) -> Result<String, AllocError> {
+/// The status and the body of a response and how many bytes are left behind it.
+fn response_words(alloc: Global, response: &Response, left: usize) -> Result<String, AllocError> {
+    let body = String::from_utf8_lossy(alloc, response.body.as_slice())?;
+    format!(in alloc; "{} {} {left}", response.status, body.as_str())
+}
+
+/// Those of the response that the bytes spell, or its fault.
+fn words_of_response(alloc: Global, bytes: &[u8], cut: Cut) -> Result<String, AllocError> {
     let mut link = CutLink { bytes, cut };
     match read_response(alloc, &mut link) {
-        Ok(response) => {
-            let body = String::from_utf8_lossy(alloc, response.body.as_slice())?;
-            format!(in alloc;
-                "{} {} {}",
-                response.status,
-                body.as_str(),
-                link.bytes.len()
-            )
-        }
+        Ok(response) => response_words(alloc, &response, link.bytes.len()),
         Err(fault) => format!(in alloc; "{fault:?}"),
     }
+}
+
+/// Whether a request that is cut so is read as these words.
+fn reads_request(alloc: Global, bytes: &[u8], cut: Cut, wanted: &str) -> Result<bool, AllocError> {
+    let words = words_of_request(alloc, bytes, cut)?;
+    Ok(words.as_str() == wanted)
+}
+
+/// Whether a response is, likewise.
+fn reads_response(alloc: Global, bytes: &[u8], cut: Cut, wanted: &str) -> Result<bool, AllocError> {
+    let words = words_of_response(alloc, bytes, cut)?;
+    Ok(words.as_str() == wanted)
 }
 
 /// Whether a request is read as these words, byte by byte and however it is cut into two.
 fn is_request(alloc: Global, bytes: &[u8], wanted: &str) -> Result<bool, AllocError> {
-    let words = request_words(alloc, bytes, Cut::Each)?;
-    let mut is_same = words.as_str() == wanted;
+    let mut is_same = reads_request(alloc, bytes, Cut::Each, wanted)?;
     for count in 0..bytes.len() {
-        let words = request_words(alloc, bytes, Cut::Behind(count))?;
-        is_same = is_same && words.as_str() == wanted;
+        is_same &= reads_request(alloc, bytes, Cut::Behind(count), wanted)?;
     }
     Ok(is_same)
 }
 
 /// Whether a response is, likewise.
 fn is_response(alloc: Global, bytes: &[u8], wanted: &str) -> Result<bool, AllocError> {
-    let words = response_words(alloc, bytes, Cut::Each)?;
-    let mut is_same = words.as_str() == wanted;
+    let mut is_same = reads_response(alloc, bytes, Cut::Each, wanted)?;
     for count in 0..bytes.len() {
-        let words = response_words(alloc, bytes, Cut::Behind(count))?;
-        is_same = is_same && words.as_str() == wanted;
+        is_same &= reads_response(alloc, bytes, Cut::Behind(count), wanted)?;
     }
     Ok(is_same)
 }
 
 /// What follows the first line, and what is read.
-const REQUESTS: [(&str, &str); 21] = [
+const REQUESTS: &[(&str, &str)] = &[
     ("Content-Length: 5\r\n\r\nhellonext", "hello 4"),
     ("Content-Length: 5\r\n\r\nhell", "BadBody"),
     ("Content-Length: 16777217\r\n\r\n", "TooLong(16777216)"),
@@ -147,7 +157,7 @@ const REQUESTS: [(&str, &str); 21] = [
 ];
 
 /// What follows a field that says chunked, and what is read.
-const CHUNKED: [(&str, &str); 10] = [
+const CHUNKED: &[(&str, &str)] = &[
     ("\r\n5\r\nhello\r\n0\r\n\r\nnext", "hello 4"),
     ("\r\n5\r\nhello\r\n", "BadBody"),
     ("\r\nFFFFFFFFFFFFFFFFF\r\n", "BadBody"),
@@ -160,12 +170,25 @@ const CHUNKED: [(&str, &str); 10] = [
     ("Transfer-Encoding: chunked\r\n\r\n0\r\n\r\n", "BadBody"),
 ];
 
+/// Reads the request of a head and of what follows, however it is cut.
+fn look_at_request<T: Abort>(
+    rt: &T,
+    alloc: Global,
+    head: &str,
+    rest: &str,
+    wanted: &str,
+) -> Result<(), AllocError> {
+    let text = format!(in alloc; "{head}{rest}")?;
+    let is_same = is_request(alloc, text.as_bytes(), wanted)?;
+    assert!(rt; is_same, "at {rest}");
+    Ok(())
+}
+
 #[test]
 fn requests_are_what_the_bytes_spell_however_they_are_cut(rt: HostRuntime) -> Result<(), Fail> {
+    let head = "\r\n\nPOST /a HTTP/1.1\r\n";
     for (rest, wanted) in REQUESTS {
-        let text = format!(in rt.alloc(); "\r\n\nPOST /a HTTP/1.1\r\n{rest}")?;
-        let is_same = is_request(rt.alloc(), text.as_bytes(), wanted)?;
-        assert!(rt; is_same, "at {rest}");
+        look_at_request(&rt, rt.alloc(), head, rest, wanted)?;
     }
     Ok(())
 }
@@ -174,9 +197,7 @@ fn requests_are_what_the_bytes_spell_however_they_are_cut(rt: HostRuntime) -> Re
 fn chunks_are_what_the_bytes_spell_however_they_are_cut(rt: HostRuntime) -> Result<(), Fail> {
     let head = "POST /a HTTP/1.1\r\nTransfer-Encoding: chunked\r\n";
     for (rest, wanted) in CHUNKED {
-        let text = format!(in rt.alloc(); "{head}{rest}")?;
-        let is_same = is_request(rt.alloc(), text.as_bytes(), wanted)?;
-        assert!(rt; is_same, "at {rest}");
+        look_at_request(&rt, rt.alloc(), head, rest, wanted)?;
     }
     Ok(())
 }
@@ -185,7 +206,8 @@ const INTERIM: &str = "HTTP/1.1 103 Hints\r\n\r\n";
 
 const LOUD: &str = "HTTP/1.1 200\nTransfer-Encoding: CHUNKED\n\n1\r\nx\r\n0\r\nA: b\r\n\r\ny";
 
-const RESPONSES: [(u8, &str, &str); 8] = [
+/// How many interim responses come before a response, the response, and what is read.
+const RESPONSES: &[(u8, &str, &str)] = &[
     (0, "HTTP/1.1 200 OK\r\n\r\nhello", "200 hello 0"),
     (1, "HTTP/1.1 412\r\nContent-Length:1\r\n\r\nxy", "412 x 1"),
     (0, LOUD, "200 x 1"),
@@ -196,72 +218,112 @@ const RESPONSES: [(u8, &str, &str); 8] = [
     (9, "HTTP/1.1 200 OK\r\n\r\nx", "BadHead"),
 ];
 
+/// A response behind so many interim ones.
+fn behind_interim(alloc: Global, count: u8, response: &str) -> Result<Vec<u8>, AllocError> {
+    let mut bytes = Vec::new(alloc);
+    for _ in 0..count {
+        bytes.extend_from_slice(INTERIM.as_bytes())?;
+    }
+    bytes.extend_from_slice(response.as_bytes())?;
+    Ok(bytes)
+}
+
+/// Reads such a response, however it is cut.
+fn look_at_response<T: Abort>(
+    rt: &T,
+    alloc: Global,
+    interim: u8,
+    response: &str,
+    wanted: &str,
+) -> Result<(), AllocError> {
+    let bytes = behind_interim(alloc, interim, response)?;
+    let is_same = is_response(alloc, bytes.as_slice(), wanted)?;
+    assert!(rt; is_same, "at {interim} {response}");
+    Ok(())
+}
+
 #[test]
 fn responses_are_what_the_bytes_spell_however_they_are_cut(rt: HostRuntime) -> Result<(), Fail> {
     for (interim, response, wanted) in RESPONSES {
-        let mut bytes = Vec::new(rt.alloc());
-        for _ in 0..interim {
-            bytes.extend_from_slice(INTERIM.as_bytes())?;
-        }
-        bytes.extend_from_slice(response.as_bytes())?;
-        let is_same = is_response(rt.alloc(), bytes.as_slice(), wanted)?;
-        assert!(rt; is_same, "at {interim} {response}");
+        look_at_response(&rt, rt.alloc(), *interim, response, wanted)?;
     }
     Ok(())
 }
 
 /// A link that is connected, whose peer says these bytes, and whose call of this number fails.
-fn saying(alloc: Global, bytes: &[u8], failing: u64) -> Result<MemLink, AllocError> {
-    let mut conversations = Vec::new(alloc);
-    conversations.push(Vec::from_slice(alloc, bytes)?)?;
-    let mut calls = Vec::new(alloc);
-    calls.push(failing)?;
-    let mut link = MemLink::new(alloc, conversations, 1000, calls)?;
+fn connected(alloc: Global, bytes: &[u8], failing: u64) -> Result<MemLink, AllocError> {
+    let mut link = saying(alloc, bytes, &[failing])?;
     let _ = link.connect();
     Ok(link)
 }
 
-#[test]
-fn a_read_that_fails_is_the_links_fault(rt: HostRuntime) -> Result<(), Fail> {
-    let bytes = b"GET /a HTTP/1.1\r\n\r\n";
-    for call in 1..=20u64 {
-        let mut link = saying(rt.alloc(), bytes, call)?;
-        let is_link = matches!(read_request(rt.alloc(), &mut link), Err(WireFault::Link));
-        assert_eq!(rt; is_link, call <= 19, "at {call}");
-    }
+/// Whether reading a request over such a link is the link's fault.
+fn is_links_fault(alloc: Global, bytes: &[u8], failing: u64) -> Result<bool, AllocError> {
+    let mut link = connected(alloc, bytes, failing)?;
+    let read = read_request(alloc, &mut link);
+    Ok(matches!(read, Err(WireFault::Link)))
+}
+
+/// Compares whether reading a request is the link's fault with this.
+fn look_at_fault<T: Abort>(
+    rt: &T,
+    alloc: Global,
+    call: u64,
+    wanted: bool,
+) -> Result<(), AllocError> {
+    let is_link = is_links_fault(alloc, b"GET /a HTTP/1.1\r\n\r\n", call)?;
+    assert_eq!(rt; is_link, wanted, "at {call}");
     Ok(())
 }
 
 #[test]
-fn messages_are_written_in_one_way(rt: HostRuntime) -> Result<(), Fail> {
-    let alloc = rt.alloc();
-    let mut link = saying(alloc, b"", 100)?;
+fn a_read_that_fails_is_the_links_fault(rt: HostRuntime) -> Result<(), Fail> {
+    for call in 1..=20u64 {
+        look_at_fault(&rt, rt.alloc(), call, call <= 19)?;
+    }
+    Ok(())
+}
+
+/// Writes a request, and gives whether it was written.
+fn is_request_written(alloc: Global, link: &mut MemLink) -> Result<bool, AllocError> {
     let request = Request {
         method: Method::POST,
         target: Vec::from_slice(alloc, b"/a")?,
         fields: Vec::new(alloc),
         body: Vec::from_slice(alloc, b"[]")?,
     };
-    let Ok(()) = write_request(alloc, &mut link, &request) else {
-        return Err(Fail::from("not written"));
-    };
-    let mut fields = Vec::new(alloc);
-    fields.push(Field {
-        name: Vec::from_slice(alloc, b"A")?,
-        value: Vec::from_slice(alloc, b"b")?,
-    })?;
+    Ok(write_request(alloc, link, &request).is_ok())
+}
+
+/// One field.
+fn fields(alloc: Global) -> Result<Vec<Field>, AllocError> {
+    let name = Vec::from_slice(alloc, b"A")?;
+    let value = Vec::from_slice(alloc, b"b")?;
+    let fields = vec![in alloc; Field { name, value }]?;
+    Ok(fields)
+}
+
+/// Writes a response with that field, and gives whether it was written.
+fn is_response_written(alloc: Global, link: &mut MemLink) -> Result<bool, AllocError> {
     let response = Response {
         status: 401,
-        fields,
+        fields: fields(alloc)?,
         body: Vec::from_slice(alloc, b"{}")?,
     };
-    let Ok(()) = write_response(alloc, &mut link, &response) else {
-        return Err(Fail::from("not written"));
-    };
-    let sent = String::from_utf8_lossy(alloc, link.into_sent().as_slice())?;
-    assert_eq!(rt;
-        sent.as_str(),
-        "POST /a HTTP/1.1\r\nAccept: application/json\r\nConnection: close\r\nContent-Type: application/json\r\nContent-Length: 2\r\n\r\n[]HTTP/1.1 401 Unauthorized\r\nA: b\r\nContent-Type: application/json\r\nContent-Length: 2\r\nConnection: close\r\n\r\n{}"
-    );
+    Ok(write_response(alloc, link, &response).is_ok())
+}
+
+const WRITTEN: &str =
+    "POST /a HTTP/1.1\r\nAccept: application/json\r\nConnection: close\r\nContent-Type: application/json\r\nContent-Length: 2\r\n\r\n[]HTTP/1.1 401 Unauthorized\r\nA: b\r\nContent-Type: application/json\r\nContent-Length: 2\r\nConnection: close\r\n\r\n{}";
+
+#[test]
+fn messages_are_written_in_one_way(rt: HostRuntime) -> Result<(), Fail> {
+    let alloc = rt.alloc();
+    let mut link = connected(alloc, b"", 100)?;
+    let is_written = is_request_written(alloc, &mut link)?;
+    assert!(rt; is_written, "not written");
+    let is_written = is_response_written(alloc, &mut link)?;
+    assert!(rt; is_written, "not written");
+    look_at_sent(&rt, alloc, link, WRITTEN)?;
     Ok(())
 }

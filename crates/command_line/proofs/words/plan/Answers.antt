@@ -2,7 +2,7 @@ use Rattle.std.proofs.Common.{◌≡◌, ◌∙◌, List, [], map, string_bytes,
 use Rattle.std.proofs.lemmas.Result.{IfOk-weaker}
 use Rattle.clap.specs.Words.{App, IsAmong, Kinds, Text, fault_of, is_simple, is_simple_and_free, kind_of, subcommand_of, subcommand_rows_of}
 use Rattle.command_line.specs.Plans.{asked_at, asked_by}
-use Rattle.command_line.specs.Table.{table}
+use Rattle.command_table.specs.Table.{table}
 use Rattle.command_line.proofs.PlanLemmas.{table_is_simple, table_is_free, error_asked}
 use Rattle.command_line.proofs.words.plan.Goals as goal
 

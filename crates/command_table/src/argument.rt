@@ -1,0 +1,92 @@
+//! The options of a command, and its values in their place, as `clap` takes them.
+ghost use Rattle.std.specs.Prelude.{◌≡◌, false};
+ghost use Rattle.clap.specs.Words.{rule_of};
+ghost use Rattle.command_table.specs.Table.{fork_rule, genesis_rule, nodes_rule, option_rule, value_rule, watch_rule};
+
+use clap::{Arg, ArgAction};
+use std::alloc::Global;
+
+/// A value that must be given, in its place.
+pub(crate) fn value<'a>(alloc: Global, id: &'a str, name: &'a str, about: &'a str) -> Arg<'a>
+    ensures local { result.global ≡ false }
+    ensures rule { rule_of result ≡ value_rule id.now }
+{
+    Arg::new(alloc, id)
+        .value_name(name)
+        .help(about)
+        .required(true)
+        .action(ArgAction::Set)
+}
+
+/// An option of one value, which a command cannot do without, or can.
+pub(crate) fn value_option<'a>(
+    alloc: Global,
+    id: &'a str,
+    name: &'a str,
+    about: &'a str,
+    is_required: bool,
+) -> Arg<'a>
+    ensures local { result.global ≡ false }
+    ensures rule { rule_of result ≡ option_rule id.now is_required }
+{
+    Arg::new(alloc, id)
+        .long(id)
+        .value_name(name)
+        .help(about)
+        .required(is_required)
+        .action(ArgAction::Set)
+}
+
+/// The option `--genesis`.
+pub(crate) fn genesis<'a>(alloc: Global) -> Arg<'a>
+    ensures local { result.global ≡ false }
+    ensures rule { rule_of result ≡ genesis_rule }
+{
+    value_option(
+        alloc,
+        "genesis",
+        "HEX32",
+        "Genesis validators root of the chain: 0x and 64 hex digits",
+        true,
+    )
+}
+
+/// The option `--fork`.
+pub(crate) fn fork<'a>(alloc: Global) -> Arg<'a>
+    ensures local { result.global ≡ false }
+    ensures rule { rule_of result ≡ fork_rule }
+{
+    Arg::new(alloc, "fork")
+        .long("fork")
+        .value_name("PREVIOUS:CURRENT:EPOCH")
+        .help(
+            "Fork of the signing domains: two versions, each 0x and 8{n}hex digits, and the epoch from which the second holds,{n}in decimal",
+        )
+        .default_value("0x00000000:0x00000000:0")
+        .action(ArgAction::Set)
+}
+
+/// The option `--watch`.
+pub(crate) fn watch<'a>(alloc: Global) -> Arg<'a>
+    ensures local { result.global ≡ false }
+    ensures rule { rule_of result ≡ watch_rule }
+{
+    Arg::new(alloc, "watch")
+        .long("watch")
+        .help(
+            "A key that becomes active signs only once it was told{n}not live in the two epochs after",
+        )
+        .action(ArgAction::SetTrue)
+}
+
+/// The nodes, which stand behind the options.
+pub(crate) fn nodes<'a>(alloc: Global) -> Arg<'a>
+    ensures local { result.global ≡ false }
+    ensures rule { rule_of result ≡ nodes_rule }
+{
+    Arg::new(alloc, "node")
+        .value_name("NODE")
+        .help("Beacon nodes, as http://127.0.0.1:5052, one or more")
+        .required(true)
+        .action(ArgAction::Append)
+}

@@ -1,0 +1,7 @@
+//! The table of the program's commands and options, as `clap` takes it.
+#![tactic(auto)]
+
+mod argument;
+mod command;
+
+pub use command::{help, merge, program, rehearse, serve, session, show};

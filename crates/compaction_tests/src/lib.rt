@@ -1,5 +1,0 @@
-//! Tests of sessions whose journal is compacted.
-#![tactic(auto)]
-
-#[cfg(test)]
-mod compactions;

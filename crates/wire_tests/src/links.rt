@@ -1,0 +1,25 @@
+//! Links in memory, and what is sent over them.
+use edge_kit::MemLink;
+use std::alloc::{AllocError, Global};
+use std::process::Abort;
+
+/// A link whose peer says these bytes, and whose calls of these numbers fail.
+pub fn saying(alloc: Global, bytes: &[u8], failing: &[u64]) -> Result<MemLink, AllocError> {
+    let said = Vec::from_slice(alloc, bytes)?;
+    let conversations = vec![in alloc; said]?;
+    let failing = Vec::from_slice(alloc, failing)?;
+    MemLink::new(alloc, conversations, 1000, failing)
+}
+
+/// Compares what was sent over a link with this.
+pub fn look_at_sent<T: Abort>(
+    rt: &T,
+    alloc: Global,
+    link: MemLink,
+    wanted: &str,
+) -> Result<(), AllocError> {
+    let bytes = link.into_sent();
+    let sent = String::from_utf8_lossy(alloc, bytes.as_slice())?;
+    assert_eq!(rt; sent.as_str(), wanted);
+    Ok(())
+}
