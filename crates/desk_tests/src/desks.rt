@@ -185,7 +185,7 @@ fn closed_once_spent<T: Abort>(rt: &T, desk: &mut Desk<MemDisk>) -> Book
 }
 
 /// What the key's grant was for.
-const SIGNED: VoteEntry = VoteEntry {
+pub const SIGNED: VoteEntry = VoteEntry {
     source: 0,
     target: 1,
     root: Some(RA),

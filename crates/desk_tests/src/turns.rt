@@ -3,8 +3,9 @@ ghost use Rattle.std.specs.Prelude.{◌≡◌};
 ghost use Rattle.desk_lock.specs.Passes.{number};
 ghost use Rattle.desk_seat.specs.Seats.{IsDeskPass};
 
-use crate::desks::{K1, activate, back_from_one, back_from_two, lent, sign};
+use crate::desks::KEY;
 use crate::did::{is_activation, is_granting, is_settling};
+use crate::lent::{activate, back_from_one, back_from_two, lent, sign};
 use check_sign::{Desk, DeskCall, DeskEvent, DeskReply};
 use desk_lock::{Pass, Shared};
 use desk_seat::{LentDesk, Seated};
@@ -24,7 +25,7 @@ fn activate_again<D: Disk, T: Wait + Abort>(
     ensures pass { IsDeskPass D.moment D.leaves D.faults shared.now pass.new }
     ensures number { number pass.new ≡ number pass.old }
 {
-    match shared.turn(rt, pass, DeskCall::Activate { key: K1, now: 2 }) {
+    match shared.turn(rt, pass, DeskCall::Activate { key: KEY, now: 2 }) {
         DeskReply::Already => {}
         _ => rt.panic("not active before"),
     }

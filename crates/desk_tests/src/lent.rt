@@ -6,21 +6,16 @@ ghost use Rattle.desk_machine.specs.declared.call.DeskCall.{DeskCall};
 ghost use Rattle.desk_machine.specs.declared.call.DeskReply.{DeskReply};
 ghost use Rattle.desk_seat.specs.Seats.{IsDeskPass};
 
+use crate::desks::{KEY, RA, begun};
 use crate::did::has_the_vote;
 use check_sign::{Desk, DeskCall, DeskCalls, DeskReply, Grant, Outcome};
 use desk_lock::{Owner, Pass, Shared};
 use desk_seat::{LentDesk, lend, take_back};
-use edge_kit::{Disk, Disks, MemDisk, PubKey, Root};
+use edge_kit::{Disk, MemDisk};
 use slash_defs::Message;
 use std::alloc::{AllocError, Global};
 use std::process::Abort;
 use std::sync::Wait;
-
-pub const K1: PubKey = PubKey([0x11; 48]);
-
-const GENESIS: Root = Root([0; 32]);
-
-pub const RA: Root = Root([0xaa; 32]);
 
 /// The vote of the key.
 pub const VOTE: Message = Message::Vote {
@@ -28,18 +23,6 @@ pub const VOTE: Message = Message::Vote {
     target: 1,
     root: RA,
 };
-
-/// Opens a desk over empty disks.
-fn begun<T: Abort>(rt: &T, alloc: Global) -> Result<Desk<MemDisk>, AllocError> {
-    let disks = Disks {
-        first: MemDisk::new(alloc, Vec::new(alloc), Vec::new(alloc), None)?,
-        second: MemDisk::new(alloc, Vec::new(alloc), Vec::new(alloc), None)?,
-    };
-    match Desk::open(alloc, disks, GENESIS, false, 0) {
-        Ok(desk) => Ok(desk),
-        Err(_) => rt.panic("not opened"),
-    }
-}
 
 /// A desk over empty disks, lent to so many passes.
 pub fn lent<T: Abort>(rt: &T, alloc: Global, n: u64) -> Result<Owner<LentDesk<MemDisk>>, AllocError>
@@ -93,7 +76,7 @@ pub fn activate<D: Disk, T: Wait + Abort>(
     ensures pass { IsDeskPass D.moment D.leaves D.faults shared.now pass.new }
     ensures number { number pass.new ≡ number pass.old }
 {
-    match shared.turn(rt, pass, DeskCall::Activate { key: K1, now: 2 }) {
+    match shared.turn(rt, pass, DeskCall::Activate { key: KEY, now: 2 }) {
         DeskReply::Active => {}
         _ => rt.panic("not activated"),
     }
@@ -115,7 +98,7 @@ pub fn settle<K: DeskCalls, T: Abort>(rt: &T, desk: &mut K, grant: Grant)
 
 /// The call for leave to sign the vote of the key.
 pub const PROPOSE: DeskCall = DeskCall::Propose {
-    key: K1,
+    key: KEY,
     message: VOTE,
     now: 3,
 };
@@ -138,7 +121,7 @@ pub fn begin_close<K: DeskCalls, T: Abort>(rt: &T, desk: &mut K)
     ensures ready { K.ready desk.new }
     ensures led { (made : List (DeskCall × DeskReply)) × K.leads desk.old made desk.new }
 {
-    match desk.call(DeskCall::BeginClose { key: K1 }) {
+    match desk.call(DeskCall::BeginClose { key: KEY }) {
         DeskReply::CloseBegun => {}
         _ => rt.panic("the close is not begun"),
     }
@@ -150,7 +133,7 @@ pub fn close<K: DeskCalls, T: Abort>(rt: &T, desk: &mut K)
     ensures ready { K.ready desk.new }
     ensures led { (made : List (DeskCall × DeskReply)) × K.leads desk.old made desk.new }
 {
-    match desk.close_idle(&K1) {
+    match desk.close_idle(&KEY) {
         DeskReply::Closed(book) => assert!(rt; has_the_vote(&book)),
         _ => rt.panic("not closed"),
     }

@@ -5,8 +5,8 @@ ghost use Rattle.desk_machine.specs.declared.call.DeskCall.{DeskCall};
 ghost use Rattle.desk_machine.specs.declared.call.DeskReply.{DeskReply};
 ghost use Rattle.desk_seat.specs.Seats.{IsDeskPass};
 
-use crate::desks::{activate, back_from_one, begin_close, close, lent, sign};
 use crate::did::{is_activation, is_close, is_closing, is_granting, is_settling};
+use crate::lent::{activate, back_from_one, begin_close, close, lent, sign};
 use check_sign::{Desk, DeskCalls, DeskEvent, DeskReply};
 use desk_lock::{Pass, Shared};
 use desk_seat::{LentDesk, Seated};

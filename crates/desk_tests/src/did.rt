@@ -1,13 +1,8 @@
 //! What a desk did.
-use crate::desks::{K1, RA, VOTE};
+use crate::desks::{KEY, SIGNED};
+use crate::lent::VOTE;
 use check_sign::{DeskEvent, Event, Outcome};
-use slash_defs::{Book, VoteEntry};
-
-const SIGNED: VoteEntry = VoteEntry {
-    source: 0,
-    target: 1,
-    root: Some(RA),
-};
+use slash_defs::Book;
 
 /// Whether a book has just the vote.
 pub fn has_the_vote(book: &Book) -> bool {
@@ -17,7 +12,7 @@ pub fn has_the_vote(book: &Book) -> bool {
 /// Whether the key became active.
 pub fn is_activation(did: &DeskEvent) -> bool {
     match &did.event {
-        Event::Activated { key } => *key == K1 && did.moment == 2,
+        Event::Activated { key } => *key == KEY && did.moment == 2,
         _ => false,
     }
 }
@@ -29,7 +24,7 @@ pub fn is_granting(did: &DeskEvent) -> bool {
             key,
             message,
             grant,
-        } => *key == K1 && *message == VOTE && *grant == 0 && did.moment == 3,
+        } => *key == KEY && *message == VOTE && *grant == 0 && did.moment == 3,
         _ => false,
     }
 }
@@ -47,7 +42,7 @@ pub fn is_settling(did: &DeskEvent) -> bool {
 /// Whether the key began to be closed.
 pub fn is_closing(did: &DeskEvent) -> bool {
     match &did.event {
-        Event::CloseBegun { key } => *key == K1 && did.moment == 3,
+        Event::CloseBegun { key } => *key == KEY && did.moment == 3,
         _ => false,
     }
 }
@@ -55,7 +50,7 @@ pub fn is_closing(did: &DeskEvent) -> bool {
 /// Whether the key was closed, and the vote handed over.
 pub fn is_close(did: &DeskEvent) -> bool {
     match &did.event {
-        Event::Closed { key, book } => *key == K1 && has_the_vote(book) && did.moment == 3,
+        Event::Closed { key, book } => *key == KEY && has_the_vote(book) && did.moment == 3,
         _ => false,
     }
 }

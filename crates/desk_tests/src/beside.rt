@@ -6,8 +6,8 @@ ghost use Rattle.desk_machine.specs.declared.call.DeskCall.{DeskCall};
 ghost use Rattle.desk_machine.specs.declared.call.DeskReply.{DeskReply};
 ghost use Rattle.desk_seat.specs.Seats.{IsDeskPass};
 
-use crate::desks::{PROPOSE, activate, back_from_two, begin_close, close, lent, settle};
 use crate::did::{is_activation, is_close, is_closing, is_granting, is_settling};
+use crate::lent::{PROPOSE, activate, back_from_two, begin_close, close, lent, settle};
 use check_sign::{Desk, DeskCalls, DeskEvent, DeskReply};
 use desk_lock::{Pass, Shared};
 use desk_seat::{LentDesk, Seated};

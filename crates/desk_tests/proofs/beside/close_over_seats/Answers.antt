@@ -2,7 +2,7 @@ use denote.Param.{param}
 use denote.Exit.{yes}
 use denote.Param.Send.{param_send, arg_send}
 use Rattle.desk_seat.proofs.Crosses.{seated_send}
-use Rattle.seat_tests.proofs.beside.close_over_seats.Goals as goal
+use Rattle.desk_tests.proofs.beside.close_over_seats.Goals as goal
 
 pub hold_and_close-requires-send-K : goal.hold_and_close-requires-send-K
 hold_and_close-requires-send-K g c κs within =
