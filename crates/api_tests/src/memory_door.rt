@@ -1,9 +1,9 @@
-//! The door in memory, on which the other tests stand.
+//! The door in memory, on which the tests of connections stand.
 use edge_kit::{Door, Link, MemDoor, MemLink};
 use std::alloc::{AllocError, Global};
 use std::test::Fail;
 
-// A connected link of this room, whose peer says nothing.
+/// A connected link of this room, whose peer says nothing.
 fn link_of(alloc: Global, room: usize) -> Result<MemLink, AllocError> {
     let mut link = MemLink::new(alloc, Vec::new(alloc), room, Vec::new(alloc))?;
     let _ = link.connect();

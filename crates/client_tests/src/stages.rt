@@ -53,10 +53,12 @@ fn refusal_word(refusal: &DeskRefusal) -> &'static str {
     }
 }
 
+/// Compares how many there are.
 fn compare_counts<T: Abort>(rt: &T, found: usize, wanted: usize) {
     assert_eq!(rt; found, wanted);
 }
 
+/// Compares what became of one key.
 fn compare_status<T: Abort>(rt: &T, status: &KeyStatus, wanted: &str) {
     assert_eq!(rt; word(status), wanted);
 }

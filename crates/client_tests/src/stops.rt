@@ -58,8 +58,8 @@ fn has_the_vote(file: &File) -> bool {
     }
 }
 
-/// Deletes the key, and compares what became of it; whether the file has its vote.
-fn deletes_so<T: Abort>(
+/// Deletes the key, compares what became of it, and gives whether the file has its vote.
+fn delete_for_vote<T: Abort>(
     rt: &T,
     alloc: Global,
     stage: &mut Stage,
@@ -79,7 +79,7 @@ fn stopped<T: Abort>(
     crash: Crash,
 ) -> Result<Vec<u8>, AllocError> {
     let mut stage = stage_over(rt, alloc, bytes, Some(stop))?;
-    let _ = deletes_so(rt, alloc, &mut stage, "disk")?;
+    let _ = delete_for_vote(rt, alloc, &mut stage, "disk")?;
     disk_of(stage.desk).image(alloc, crash)
 }
 
@@ -91,7 +91,7 @@ fn compare_again<T: Abort>(
     wanted: &str,
 ) -> Result<(), AllocError> {
     let mut stage = stage_over(rt, alloc, image, None)?;
-    let has_vote = deletes_so(rt, alloc, &mut stage, wanted)?;
+    let has_vote = delete_for_vote(rt, alloc, &mut stage, wanted)?;
     assert!(rt; has_vote);
     Ok(())
 }

@@ -174,8 +174,8 @@ fn keep_closing<T: Abort>(rt: &T, desk: &mut Desk<MemDisk>, grant: &Grant)
     refused_as_closing(rt, desk, grant, vote(1, 2, RA));
 }
 
-/// Closes the key once its grant is spent, and gives what is handed over.
-fn closed_once_spent<T: Abort>(rt: &T, desk: &mut Desk<MemDisk>) -> Book
+/// Closes the key once its grant is settled, and gives what is handed over.
+fn closed_once_settled<T: Abort>(rt: &T, desk: &mut Desk<MemDisk>) -> Book
     requires { StandsForOne desk.old.contents }
 {
     let grant = granted(rt, desk, vote(0, 1, RA));
@@ -201,7 +201,7 @@ fn look_at_book<T: Abort>(rt: &T, book: &Book) {
 fn closed_disk<T: Abort>(rt: &T, alloc: Global) -> Result<MemDisk, AllocError> {
     let mut desk = begun(rt, alloc)?;
     activate(rt, &mut desk);
-    look_at_book(rt, &closed_once_spent(rt, &mut desk));
+    look_at_book(rt, &closed_once_settled(rt, &mut desk));
     Ok(first_disk(desk))
 }
 
@@ -289,7 +289,7 @@ fn spend_leave<T: Abort>(rt: &T, desk: &mut Desk<MemDisk>) {
     desk.settle(grant, Outcome::Sent);
 }
 
-/// How much a desk did since it was opened.
+/// How many events a desk has had since it was opened.
 fn event_count(desk: Desk<MemDisk>) -> usize {
     let (_, events) = desk.end();
     events.len()

@@ -197,8 +197,8 @@ mod tests {
         Ok(door)
     }
 
-    /// Accepts where there is no connection.
-    fn accept_none<T: Abort, D: Door>(rt: &T, door: &mut D)
+    /// Accepts at a door that can't be opened.
+    fn fail_to_accept<T: Abort, D: Door>(rt: &T, door: &mut D)
     where
         D::Conn: Drop,
     {
@@ -213,7 +213,7 @@ mod tests {
     ) -> io::Result<TcpDoor<N>> {
         let free = TcpListener::bind(&handle, "127.0.0.1:0")?;
         let mut door = door_of(alloc, handle, &free)?;
-        accept_none(rt, &mut door);
+        fail_to_accept(rt, &mut door);
         Ok(door)
     }
 

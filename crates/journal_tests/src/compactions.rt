@@ -110,7 +110,7 @@ fn opened_empty(alloc: Global) -> Result<Journal<MemDisk>, Fail> {
     opened(alloc, disks)
 }
 
-/// The disks that this leaves.
+/// The disks of a journal that was compacted twice.
 fn compacted_twice<T: Abort>(rt: &T, alloc: Global) -> Result<Disks<MemDisk>, Fail> {
     let mut journal = opened_empty(alloc)?;
     compact_twice(rt, alloc, &mut journal)?;
@@ -140,7 +140,7 @@ fn look_at_first<T: Abort>(rt: &T, journal: &Journal<MemDisk>) -> Result<(), Fai
     Ok(())
 }
 
-/// Compares the journal of these disks with what was written.
+/// Compares a journal with what was written.
 fn look_at_journal<T: Abort>(rt: &T, journal: &Journal<MemDisk>) -> Result<(), Fail> {
     assert_eq!(rt; journal.payloads().len(), 4);
     look_at_first(rt, journal)?;

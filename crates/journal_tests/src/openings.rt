@@ -36,8 +36,13 @@ impl Damage {
     }
 }
 
-/// Opens the bytes of that file as the first file and as the second.
-fn is_damaged<T: Abort>(rt: &T, alloc: Global, damage: &Damage, bytes: &[u8]) -> Result<(), Fail> {
+/// Opens bytes as the first file and as the second, and compares the faults with the damage.
+fn look_at_damage<T: Abort>(
+    rt: &T,
+    alloc: Global,
+    damage: &Damage,
+    bytes: &[u8],
+) -> Result<(), Fail> {
     let first = fault_of(alloc, bytes, &[])?;
     assert_eq!(rt; first, damage.fault(Place::First));
     let second = fault_of(alloc, &[], bytes)?;
@@ -45,13 +50,13 @@ fn is_damaged<T: Abort>(rt: &T, alloc: Global, damage: &Damage, bytes: &[u8]) ->
     Ok(())
 }
 
-/// Opens that file so.
+/// Opens a damaged file as either.
 fn open_damaged<T: Abort>(rt: &T, alloc: Global, damage: &Damage) -> Result<(), Fail> {
     let bytes = file_of(alloc, damage.front, damage.rest)?;
-    is_damaged(rt, alloc, damage, &bytes)
+    look_at_damage(rt, alloc, damage, &bytes)
 }
 
-/// Opens each of these files so.
+/// Opens each of these damaged files as either.
 fn open_each<T: Abort>(rt: &T, alloc: Global, table: &[Damage]) -> Result<(), Fail> {
     for damage in table {
         open_damaged(rt, alloc, damage)?;

@@ -178,7 +178,7 @@ const INPUT: &str = r#"{"op":"activate","pubkey":"<K1>"}
 "#;
 
 /// Empty disks, of which the second fails at this call.
-fn failing_disks(alloc: Global, failing: u64) -> Result<Disks<MemDisk>, AllocError> {
+fn second_failing(alloc: Global, failing: u64) -> Result<Disks<MemDisk>, AllocError> {
     let calls = vec![in alloc; failing]?;
     let second = MemDisk::new(alloc, Vec::new(alloc), calls, None)?;
     let first = MemDisk::new(alloc, Vec::new(alloc), Vec::new(alloc), None)?;
@@ -191,7 +191,7 @@ fn fail_at<T: Threads + Wait + Sync + Abort>(
     alloc: Global,
     failing: u64,
 ) -> Result<Disks<MemDisk>, AllocError> {
-    let disks = failing_disks(alloc, failing)?;
+    let disks = second_failing(alloc, failing)?;
     let ended = play(rt, alloc, SESSION, disks, INPUT)?;
     assert!(rt; ended.status != Status::Done, "call {failing}");
     disks_after(alloc, &ended)

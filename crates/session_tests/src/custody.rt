@@ -305,7 +305,7 @@ fn opening_calls<T: Threads + Wait + Sync>(rt: &T, alloc: Global) -> Result<u64,
 }
 
 /// Empty disks, of which the first fails at this call.
-fn failing_disks(alloc: Global, call: u64) -> Result<Disks<MemDisk>, AllocError> {
+fn first_failing(alloc: Global, call: u64) -> Result<Disks<MemDisk>, AllocError> {
     let failing = vec![in alloc; call]?;
     disks_of(alloc, Vec::new(alloc), failing)
 }
@@ -317,7 +317,7 @@ fn run_failing<T: Threads + Wait + Sync>(
     call: u64,
     requests: &str,
 ) -> Result<Ended<MemSigner>, AllocError> {
-    let disks = failing_disks(alloc, call)?;
+    let disks = first_failing(alloc, call)?;
     let input = format!(in alloc; "{requests}{{\"op\":\"list\"}}\n")?;
     play(rt, alloc, SESSION, disks, input.as_str())
 }

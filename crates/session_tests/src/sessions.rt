@@ -1,4 +1,5 @@
-//! Sessions without faults: what is read, what is written, and what the desk did.
+//! Sessions over disks and signers in memory: what is read, what is written, and what the desk did; and how the other
+//! modules run theirs.
 use edge_kit::{Disks, MemDisk, PubKey};
 use run_doubles::{
     Ended, Faults, SESSION, Session, came_to, disks_after, filled, fresh_disks, in_two, no_faults,

@@ -14,7 +14,7 @@ fn parts_of(alloc: Global, service: &ServiceUrl) -> Result<String, AllocError> {
     )
 }
 
-/// Those of an address, where it is one.
+/// The parts of an address, where it is one.
 fn parts_read(alloc: Global, text: &str) -> Result<String, AllocError> {
     match ServiceUrl::read(alloc, text)? {
         Some(service) => parts_of(alloc, &service),

@@ -10,10 +10,10 @@ use std::process::Abort;
 use std::test::Fail;
 
 /// The service that is called.
-fn service(alloc: Global) -> Result<ServiceUrl, AllocError> {
+fn service(alloc: Global) -> Result<ServiceUrl, Fail> {
     match ServiceUrl::read(alloc, "http://[::1]:9000/base/")? {
         Some(service) => Ok(service),
-        None => Err(AllocError),
+        None => Err(Fail::new("no address")),
     }
 }
 
@@ -23,7 +23,7 @@ fn response_words(alloc: Global, response: &Response) -> Result<String, AllocErr
     format!(in alloc; "{} {}", response.status, body.as_str())
 }
 
-/// Those of an answer, or its fault.
+/// The status and the body of an answer, or its fault.
 fn answer_words(alloc: Global, answer: &Result<Response, WireFault>) -> Result<String, AllocError> {
     match answer {
         Ok(response) => response_words(alloc, response),
@@ -32,11 +32,11 @@ fn answer_words(alloc: Global, answer: &Result<Response, WireFault>) -> Result<S
 }
 
 /// What a call over a link answers.
-fn call_over(alloc: Global, link: &mut MemLink) -> Result<String, AllocError> {
+fn call_over(alloc: Global, link: &mut MemLink) -> Result<String, Fail> {
     let service = service(alloc)?;
     let body = Vec::from_slice(alloc, b"{}")?;
     let answer = call(alloc, link, &service, Method::POST, "/sign", body);
-    answer_words(alloc, &answer)
+    Ok(answer_words(alloc, &answer)?)
 }
 
 const SAID: &str = "HTTP/1.1 200 OK\r\nContent-Length: 2\r\n\r\nok";
@@ -61,17 +61,17 @@ fn look_at_call<T: Abort>(
     alloc: Global,
     link: &mut MemLink,
     words: &str,
-) -> Result<(), AllocError> {
+) -> Result<(), Fail> {
     let answer = call_over(alloc, link)?;
     assert_eq!(rt; answer.as_str(), words);
     Ok(())
 }
 
 /// Calls a peer that says this.
-fn call_peer<T: Abort>(rt: &T, alloc: Global, said: &str, words: &str) -> Result<(), AllocError> {
+fn call_peer<T: Abort>(rt: &T, alloc: Global, said: &str, words: &str) -> Result<(), Fail> {
     let mut link = saying(alloc, said.as_bytes(), &[])?;
     look_at_call(rt, alloc, &mut link, words)?;
-    look_at_sent(rt, alloc, link, SENT)
+    Ok(look_at_sent(rt, alloc, link, SENT)?)
 }
 
 #[test]
@@ -102,7 +102,7 @@ fn call_failing<T: Abort>(
     alloc: Global,
     number: u64,
     words: &str,
-) -> Result<(), AllocError> {
+) -> Result<(), Fail> {
     let mut link = saying(alloc, SAID.as_bytes(), &[number])?;
     look_at_call(rt, alloc, &mut link, words)
 }

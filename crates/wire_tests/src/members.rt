@@ -12,10 +12,11 @@ fn look_at_text<T: Abort>(
     alloc: Global,
     name: &str,
     wanted: Option<&str>,
-) -> Result<(), AllocError> {
-    if let Some(value) = json_of(alloc, TEXT)? {
-        assert_eq!(rt; text_in(&value, name), wanted);
-    }
+) -> Result<(), Fail> {
+    let Some(value) = json_of(alloc, TEXT)? else {
+        return Err(Fail::new("no JSON"));
+    };
+    assert_eq!(rt; text_in(&value, name), wanted);
     Ok(())
 }
 
@@ -25,10 +26,11 @@ fn look_at_number<T: Abort>(
     alloc: Global,
     name: &str,
     wanted: Option<u64>,
-) -> Result<(), AllocError> {
-    if let Some(value) = json_of(alloc, TEXT)? {
-        assert_eq!(rt; number_in(&value, name), wanted);
-    }
+) -> Result<(), Fail> {
+    let Some(value) = json_of(alloc, TEXT)? else {
+        return Err(Fail::new("no JSON"));
+    };
+    assert_eq!(rt; number_in(&value, name), wanted);
     Ok(())
 }
 
@@ -38,10 +40,11 @@ fn look_at_bytes<T: Abort, const N: usize>(
     alloc: Global,
     name: &str,
     wanted: Option<[u8; N]>,
-) -> Result<(), AllocError> {
-    if let Some(value) = json_of(alloc, TEXT)? {
-        assert_eq!(rt; bytes_in::<N>(&value, name), wanted);
-    }
+) -> Result<(), Fail> {
+    let Some(value) = json_of(alloc, TEXT)? else {
+        return Err(Fail::new("no JSON"));
+    };
+    assert_eq!(rt; bytes_in::<N>(&value, name), wanted);
     Ok(())
 }
 
@@ -51,10 +54,11 @@ fn look_at_flag<T: Abort>(
     alloc: Global,
     name: &str,
     wanted: Option<bool>,
-) -> Result<(), AllocError> {
-    if let Some(value) = json_of(alloc, TEXT)? {
-        assert_eq!(rt; flag_in(&value, name), wanted);
-    }
+) -> Result<(), Fail> {
+    let Some(value) = json_of(alloc, TEXT)? else {
+        return Err(Fail::new("no JSON"));
+    };
+    assert_eq!(rt; flag_in(&value, name), wanted);
     Ok(())
 }
 
@@ -64,15 +68,16 @@ fn look_at_count<T: Abort>(
     alloc: Global,
     name: &str,
     wanted: Option<usize>,
-) -> Result<(), AllocError> {
-    if let Some(value) = json_of(alloc, TEXT)? {
-        assert_eq!(rt; items_in(&value, name).map(<[_]>::len), wanted);
-    }
+) -> Result<(), Fail> {
+    let Some(value) = json_of(alloc, TEXT)? else {
+        return Err(Fail::new("no JSON"));
+    };
+    assert_eq!(rt; items_in(&value, name).map(<[_]>::len), wanted);
     Ok(())
 }
 
 /// Compares members that are read as texts and as numbers.
-fn look_at_numbers<T: Abort>(rt: &T, alloc: Global) -> Result<(), AllocError> {
+fn look_at_texts_and_numbers<T: Abort>(rt: &T, alloc: Global) -> Result<(), Fail> {
     look_at_text(rt, alloc, "a", Some("y"))?;
     look_at_text(rt, alloc, "t", None)?;
     look_at_number(rt, alloc, "n", Some(12))?;
@@ -80,7 +85,7 @@ fn look_at_numbers<T: Abort>(rt: &T, alloc: Global) -> Result<(), AllocError> {
 }
 
 /// Compares members that are read as bytes, flags and arrays.
-fn look_at_others<T: Abort>(rt: &T, alloc: Global) -> Result<(), AllocError> {
+fn look_at_others<T: Abort>(rt: &T, alloc: Global) -> Result<(), Fail> {
     look_at_bytes::<T, 2>(rt, alloc, "h", Some([10, 255]))?;
     look_at_bytes::<T, 3>(rt, alloc, "h", None)?;
     look_at_flag(rt, alloc, "t", Some(true))?;
@@ -97,9 +102,8 @@ fn is_json(alloc: Global, bytes: &[u8]) -> Result<bool, AllocError> {
 #[test]
 fn members_are_read_as_what_they_should_be(rt: HostRuntime) -> Result<(), Fail> {
     assert!(rt; is_json(rt.alloc(), TEXT)?, "no JSON");
-    look_at_numbers(&rt, rt.alloc())?;
-    look_at_others(&rt, rt.alloc())?;
-    Ok(())
+    look_at_texts_and_numbers(&rt, rt.alloc())?;
+    look_at_others(&rt, rt.alloc())
 }
 
 /// What is no JSON.

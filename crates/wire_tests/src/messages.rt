@@ -77,7 +77,7 @@ fn request_words(alloc: Global, request: &Request, left: usize) -> Result<String
     format!(in alloc; "{} {left}", body.as_str())
 }
 
-/// Those of the request that the bytes spell, or its fault.
+/// The words of the request that the bytes spell, or its fault.
 fn words_of_request(alloc: Global, bytes: &[u8], cut: Cut) -> Result<String, AllocError> {
     let mut link = CutLink { bytes, cut };
     match read_request(alloc, &mut link) {
@@ -92,7 +92,7 @@ fn response_words(alloc: Global, response: &Response, left: usize) -> Result<Str
     format!(in alloc; "{} {} {left}", response.status, body.as_str())
 }
 
-/// Those of the response that the bytes spell, or its fault.
+/// The words of the response that the bytes spell, or its fault.
 fn words_of_response(alloc: Global, bytes: &[u8], cut: Cut) -> Result<String, AllocError> {
     let mut link = CutLink { bytes, cut };
     match read_response(alloc, &mut link) {
@@ -285,7 +285,7 @@ fn a_read_that_fails_is_the_links_fault(rt: HostRuntime) -> Result<(), Fail> {
 }
 
 /// Writes a request, and gives whether it was written.
-fn is_request_written(alloc: Global, link: &mut MemLink) -> Result<bool, AllocError> {
+fn writes_request(alloc: Global, link: &mut MemLink) -> Result<bool, AllocError> {
     let request = Request {
         method: Method::POST,
         target: Vec::from_slice(alloc, b"/a")?,
@@ -295,7 +295,7 @@ fn is_request_written(alloc: Global, link: &mut MemLink) -> Result<bool, AllocEr
     Ok(write_request(alloc, link, &request).is_ok())
 }
 
-/// One field.
+/// A list of one field.
 fn fields(alloc: Global) -> Result<Vec<Field>, AllocError> {
     let name = Vec::from_slice(alloc, b"A")?;
     let value = Vec::from_slice(alloc, b"b")?;
@@ -304,7 +304,7 @@ fn fields(alloc: Global) -> Result<Vec<Field>, AllocError> {
 }
 
 /// Writes a response with that field, and gives whether it was written.
-fn is_response_written(alloc: Global, link: &mut MemLink) -> Result<bool, AllocError> {
+fn writes_response(alloc: Global, link: &mut MemLink) -> Result<bool, AllocError> {
     let response = Response {
         status: 401,
         fields: fields(alloc)?,
@@ -320,9 +320,9 @@ const WRITTEN: &str =
 fn messages_are_written_in_one_way(rt: HostRuntime) -> Result<(), Fail> {
     let alloc = rt.alloc();
     let mut link = connected(alloc, b"", 100)?;
-    let is_written = is_request_written(alloc, &mut link)?;
+    let is_written = writes_request(alloc, &mut link)?;
     assert!(rt; is_written, "not written");
-    let is_written = is_response_written(alloc, &mut link)?;
+    let is_written = writes_response(alloc, &mut link)?;
     assert!(rt; is_written, "not written");
     look_at_sent(&rt, alloc, link, WRITTEN)?;
     Ok(())
