@@ -97,12 +97,7 @@ const FAULTS: &[(u64, &str)] = &[
 ];
 
 /// Calls over a link whose call of this number fails.
-fn call_failing<T: Abort>(
-    rt: &T,
-    alloc: Global,
-    number: u64,
-    words: &str,
-) -> Result<(), Fail> {
+fn call_failing<T: Abort>(rt: &T, alloc: Global, number: u64, words: &str) -> Result<(), Fail> {
     let mut link = saying(alloc, SAID.as_bytes(), &[number])?;
     look_at_call(rt, alloc, &mut link, words)
 }
