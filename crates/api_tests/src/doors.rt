@@ -1,6 +1,6 @@
 //! Connections that come in, one behind another.
 use crate::scenes::{Scene, play_all};
-use keymanager_loop::ConnectionsEnd;
+use keymanager_api::ConnectionsEnd;
 use std::test::Fail;
 
 /// Asks for the keys, with the token.

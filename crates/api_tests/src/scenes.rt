@@ -2,7 +2,7 @@
 use check_sign::Desk;
 use edge_clock::MemClock;
 use edge_kit::{Disks, Link, MemDisk, MemDoor, MemLink, Root};
-use keymanager_loop::{Connections, ConnectionsEnd, serve_connections};
+use keymanager_api::{Connections, ConnectionsEnd, serve_connections};
 use signer_link::MemSigner;
 use std::alloc::{AllocError, Global};
 use std::process::Abort;

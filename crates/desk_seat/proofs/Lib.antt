@@ -1,2 +1,4 @@
 pub mod Crosses
 pub mod TurnLemmas
+pub mod PlaceLemmas
+pub mod SpanLemmas

@@ -3,3 +3,4 @@ pub mod FairLaws
 pub mod Seats
 pub mod SeatLaws
 pub mod Turns
+pub mod Spans

@@ -31,7 +31,7 @@ use Rattle.duty_turns.specs.TurnSteps.{Does, Fits, HasTaken, House, IsPiece, Lan
 use Rattle.duty_asks.specs.Quiet.{Outside, Parts, QuietDoes, done_value, stop_value}
 use Rattle.duty_asks.specs.declared.ask.Stop.{Stop as Stopped}
 use Rattle.duty_asks.specs.declared.ask.Stop.TheVariants as stop
-use Rattle.duty_lanes.specs.Working.{WorksDone}
+use Rattle.duty_workers.specs.Working.{WorksDone}
 use Rattle.duty_loop.specs.Houses.{PartTurns, house, no_signer}
 
 -- up to what is left, and then up to what is left of that

@@ -7,3 +7,7 @@ pub mod GuardingLemmas
 pub mod TurnLemmas
 pub mod RunLemmas
 pub mod ShortenLemmas
+pub mod GivesLemmas
+pub mod PartLemmas
+pub mod TurnEndLemmas
+pub mod EndLemmas

@@ -36,7 +36,7 @@ use Rattle.duty_asks.specs.Placed.{HoldsPlaced}
 use Rattle.duty_asks.specs.Quiet.{WritesText, done_value}
 use Rattle.duty_asks.specs.declared.ask.Stop.{Stop}
 use Rattle.duty_asks.specs.declared.ask.Stop.TheVariants as stop
-use Rattle.duty_lanes.specs.Working.{WereRefreshed, WorksDone}
+use Rattle.duty_workers.specs.Working.{WereRefreshed, WorksDone}
 use Rattle.duty_loop.specs.Houses.{IsFailed, PartTurns, Turns, end_by, end_of, house, next_value}
 use Rattle.duty_loop.proofs.HouseLemmas.{turn_calls, turn_looks, turn_refresh_cut, turn_refresh_lanes_cut, turn_refreshes, turn_refreshes_lanes, turn_waits, turn_works, turn_works_cut, turn_write_fails, turn_writes}
 use Rattle.duty_loop.proofs.TurnLemmas.{votes_now}

@@ -4,3 +4,4 @@ pub mod Houses
 pub mod Noting
 pub mod Shortening
 pub mod Guarding
+pub mod Ends

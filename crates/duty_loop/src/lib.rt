@@ -1,6 +1,7 @@
 //! The duty loop of a validator client: slot behind slot, what is due is learnt from the nodes, and done in lanes.
 #![tactic(auto)]
 
+mod ends;
 mod keys;
 mod laws;
 mod live;
@@ -11,6 +12,7 @@ mod watch;
 mod work;
 
 pub use duty_turns::{DutyEnd, Held};
+pub use ends::end_law;
 pub use laws::{due_law, turns_law};
 pub use run::{first_held, run_duties};
 pub use turn::take_turn;

@@ -4,7 +4,7 @@ ghost use Rattle.std.specs.Result.{result_ok};
 ghost use Rattle.call_plans.specs.Paths.{Carries};
 ghost use Rattle.node_fallback.specs.Seen.{Seen};
 ghost use Rattle.duty_plans.specs.Seats.{Seat};
-ghost use Rattle.duty_lanes.specs.Working.{IsReady, WorksDone, lanes_seen};
+ghost use Rattle.duty_workers.specs.Working.{IsReady, WorksDone, lanes_seen};
 ghost use Rattle.duty_workers.specs.Hands.{are_placed};
 ghost use Rattle.duty_turns.specs.Standing.{Standing};
 ghost use Rattle.duty_turns.specs.Turns.{blocks_in, calls, close_plan, due_plan, failed_plan, is_block, votes_in, votes_plan, work_of};
@@ -15,10 +15,10 @@ ghost use Rattle.duty_loop.specs.Houses.{IsFailed, Turns, end_by, house, next_va
 
 use desk_machine::{DeskCall, DeskCalls, DeskReply};
 use duty_asks::write_text;
-use duty_lanes::{Lane, run_lanes};
 use duty_plans::{DutyResult, DutySetup};
 use duty_schedule::Duty;
 use duty_turns::{DutyEnd, Held, duty_lines, epoch_of, next_slot, slot_of, votes_start};
+use duty_workers::{Lane, run_lanes};
 use edge_clock::Clock;
 use edge_kit::Sink;
 use node_calls::Node;

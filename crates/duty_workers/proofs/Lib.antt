@@ -1,2 +1,7 @@
 pub mod PlaceLemmas
 pub mod StepLemmas
+pub mod TurnLemmas
+pub mod DealLemmas
+pub mod GatherLemmas
+pub mod WorkLemmas
+pub mod RefreshLemmas

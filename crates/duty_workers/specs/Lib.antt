@@ -1,1 +1,3 @@
 pub mod Hands
+pub mod Working
+pub mod Shares

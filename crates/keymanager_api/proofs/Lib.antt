@@ -2,3 +2,4 @@ mod RunLemmas
 mod ServeLemmas
 mod KeystoreLemmas
 mod ReplyLemmas
+pub mod VisitLemmas

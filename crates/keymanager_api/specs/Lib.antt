@@ -3,3 +3,6 @@ pub mod Asking
 pub mod Bodies
 pub mod Plans
 pub mod Serving
+pub mod Doors
+pub mod Handling
+pub mod Visits

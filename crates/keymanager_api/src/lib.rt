@@ -1,13 +1,15 @@
 //! The Keymanager API (ethereum/keymanager-APIs, local key manager) over any desk and any signer: a request is answered,
-//! and a connection served.
+//! a connection served, and the loop of a client serves connection behind connection.
 #![tactic(auto)]
 
 mod answering;
 mod asked;
 mod bodies;
+mod connections;
 mod members;
 mod send;
 mod serve;
 
 pub use answering::answer;
+pub use connections::{Connections, ConnectionsEnd, serve_connections};
 pub use serve::{Served, serve_connection};

@@ -20,15 +20,15 @@ use Rattle.duty_plans.specs.Steps.{DutyStep, Calls, Replies, desk_calls, step_ca
 use Rattle.duty_turns.specs.declared.held.DutyEnd.{DutyEnd}
 use Rattle.duty_turns.specs.declared.held.DutyEnd.TheVariants as duty_end
 use Rattle.duty_loop.specs.Guarding.{loop_steps}
-use Rattle.duty_ends.specs.Ends.{EndAtFailedDisk}
+use Rattle.duty_loop.specs.Ends.{EndAtFailedDisk}
 use Rattle.keymanager_api.specs.Serving.{LinkSeen}
-use Rattle.keymanager_loop.specs.Doors.{Hall}
-use Rattle.keymanager_loop.specs.Visits.{EndsAt, FailedAtLast, Visit, Visits, asks_failed, calls_in}
-use Rattle.keymanager_loop.specs.declared.run.ConnectionsEnd.{ConnectionsEnd}
-use Rattle.keymanager_loop.specs.declared.run.ConnectionsEnd.TheVariants as connections_end
+use Rattle.keymanager_api.specs.Doors.{Hall}
+use Rattle.keymanager_api.specs.Visits.{EndsAt, FailedAtLast, Visit, Visits, asks_failed, calls_in}
+use Rattle.keymanager_api.specs.declared.connections.ConnectionsEnd.{ConnectionsEnd}
+use Rattle.keymanager_api.specs.declared.connections.ConnectionsEnd.TheVariants as connections_end
 use Rattle.command_line.specs.declared.serve_options.ServeOptions.{ServeOptions}
 use Rattle.journal_commands.specs.Views.{Output}
-use Rattle.run_views.specs.Views.{Calls as Made, Grew}
+use Rattle.serve_run.specs.Views.{Calls as Made, Grew}
 use Rattle.serve_run.specs.Clients.{Parts, hall_of}
 use Rattle.serve_run.specs.Ends.{Because}
 use Rattle.serve_run.specs.Serving.{ClosesBoth, ClosesConnections, ClosesMemory, Serves}

@@ -28,7 +28,7 @@ use Rattle.check_sign.specs.Paths.{Path}
 use Rattle.check_sign.proofs.FaultLemmas.{either_back, either_on}
 use Rattle.desk_seat.specs.Steps.{DeskStep}
 use Rattle.desk_seat.specs.Turns.{calls_of}
-use Rattle.grant_history.specs.Spans.{History, NoneInHand, Spans}
+use Rattle.desk_seat.specs.Spans.{History, NoneInHand, Spans}
 use Rattle.program_end.specs.declared.limit.Limit.TheVariants as limit
 use Rattle.program_end.specs.declared.status.Status.{Status}
 use Rattle.program_end.specs.declared.status.Status.TheVariants as status
@@ -42,7 +42,7 @@ use Rattle.session_run.proofs.PathLemmas.{path_fares, path_machine}
 use Rattle.command_line.specs.declared.serve_options.ServeOptions.{ServeOptions}
 use Rattle.journal_commands.specs.Openings.{HadDeskAt}
 use Rattle.journal_commands.proofs.OpeningLemmas.{Handed, fares_same, had_desk}
-use Rattle.run_views.specs.Views.{Calls, Grew}
+use Rattle.serve_run.specs.Views.{Calls, Grew}
 use Rattle.serve_run.specs.Clients.{LaneSeen, Parts, idle_seats, lane_seat, lane_seats}
 use Rattle.serve_run.specs.Ends.{Because, ClosesIdleKeys, LaneSpans, ServesDesk, Shares, Unserved, lane_number, posted_in_lanes}
 use Rattle.serve_run.specs.Serving.{steps_in}

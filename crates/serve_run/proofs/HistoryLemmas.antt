@@ -13,7 +13,7 @@ use Rattle.desk_machine.specs.declared.call.Outcome.{Outcome}
 use Rattle.desk_machine.specs.declared.call.Outcome.TheVariants as outcome
 use Rattle.desk_lock.specs.Histories.{own}
 use Rattle.desk_seat.specs.Turns.{calls_of}
-use Rattle.grant_history.specs.Spans.{History, Spans}
+use Rattle.desk_seat.specs.Spans.{History, Spans}
 use Rattle.duty_plans.specs.Guards.{GivenIn, IsSigned, PostedGranted, PostsGuarded, SettledIn, SignsGuarded, granted_by, granted_in, posted_in}
 use Rattle.duty_plans.specs.Steps.{DutyCall, DutyReply, DutyStep, Calls, Posts, Replies, Reveals, Signs, desk_calls, step_calls}
 use Rattle.duty_turns.specs.TurnSteps.{TurnStep}

@@ -6,3 +6,5 @@ pub mod LoopLemmas
 pub mod SeatLemmas
 pub mod ShareLemmas
 pub mod ViewLemmas
+pub mod TurnViews
+pub mod VisitViews

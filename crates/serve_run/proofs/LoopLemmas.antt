@@ -16,11 +16,11 @@ use Rattle.duty_turns.specs.Standing.{Standing}
 use Rattle.duty_turns.specs.TurnSteps.{Does, Fits, House, SinkSeen, TurnPlan, TurnStep}
 use Rattle.duty_turns.specs.Times.{slot_of}
 use Rattle.duty_turns.specs.Turns.{first_standing, turns_plan}
-use Rattle.duty_lanes.specs.Working.{lanes_seen}
-use Rattle.duty_lanes.specs.declared.lane.Lane.{Lane}
+use Rattle.duty_workers.specs.Working.{lanes_seen}
+use Rattle.duty_workers.specs.declared.lane.Lane.{Lane}
 use Rattle.duty_loop.specs.Guarding.{AllFree, Guarded, IsFree, loop_steps}
 use Rattle.duty_loop.specs.Houses.{RunsFrom, end_value, house}
-use Rattle.duty_ends.specs.Ends.{EndAtFailedDisk}
+use Rattle.duty_loop.specs.Ends.{EndAtFailedDisk}
 use Rattle.duty_safety.specs.OnTime.{on_time_turns}
 use Rattle.serve_run.specs.Serving.{DutiesRan}
 

@@ -11,11 +11,11 @@ use Rattle.desk_seat.specs.Seats.{DeskPass, IsDeskPass, SharedDesk}
 use Rattle.duty_plans.specs.Seats.{Seat}
 use Rattle.duty_turns.specs.TurnSteps.{House, TurnStep}
 use Rattle.duty_plans.specs.Steps.{desk_calls}
-use Rattle.duty_lanes.specs.Working.{lane_seen, lanes_seen}
-use Rattle.duty_lanes.specs.declared.lane.Lane.{Lane}
+use Rattle.duty_workers.specs.Working.{lane_seen, lanes_seen}
+use Rattle.duty_workers.specs.declared.lane.Lane.{Lane}
 use Rattle.duty_loop.specs.Guarding.{Guarded, lane_steps}
-use Rattle.run_views.specs.Views.{seat_by}
-use Rattle.run_views.specs.Views.{Calls}
+use Rattle.serve_run.specs.Views.{seat_by}
+use Rattle.serve_run.specs.Views.{Calls}
 use Rattle.serve_run.specs.Clients.{idle_seats, lane_end_seen, lane_ends_seen, lane_seats}
 use Rattle.serve_run.specs.Seating.{AreNew, lane_end}
 use Rattle.serve_run.specs.declared.lanes.LaneEnd.{LaneEnd}

@@ -14,7 +14,7 @@ use Rattle.program_end.specs.declared.status.Status.{Status}
 use Rattle.duty_plans.specs.declared.setup.DutySetup.{DutySetup}
 use Rattle.duty_turns.specs.declared.held.DutyEnd.{DutyEnd}
 use Rattle.keymanager_api.specs.Serving.{LinkSeen}
-use Rattle.keymanager_loop.specs.declared.run.ConnectionsEnd.{ConnectionsEnd}
+use Rattle.keymanager_api.specs.declared.connections.ConnectionsEnd.{ConnectionsEnd}
 use Rattle.command_line.specs.declared.serve_options.ServeOptions.{ServeOptions}
 use Rattle.journal_commands.specs.Views.{Output}
 use Rattle.serve_run.specs.Clients.{Parts}

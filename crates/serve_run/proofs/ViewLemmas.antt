@@ -12,9 +12,9 @@ use Rattle.duty_turns.specs.TurnSteps.{Fits, House, TurnStep}
 use Rattle.duty_turns.specs.Turns.{first_standing}
 use Rattle.duty_loop.specs.Guarding.{Guarded, GuardedAt, lane_steps, loop_steps}
 use Rattle.duty_loop.specs.Houses.{end_value}
-use Rattle.duty_ends.specs.Ends.{EndAtFailedDisk}
+use Rattle.duty_loop.specs.Ends.{EndAtFailedDisk}
 use Rattle.duty_safety.specs.OnTime.{on_time_turns}
-use Rattle.run_views.specs.Views.{Calls, Grew, IsView, SeesSame, house_by, seat_by}
+use Rattle.serve_run.specs.Views.{Calls, Grew, IsView, SeesSame, house_by, seat_by}
 use Rattle.serve_run.specs.Serving.{DutiesRan}
 use Rattle.serve_run.proofs.ShareLemmas.{map_found}
 

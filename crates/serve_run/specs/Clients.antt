@@ -9,8 +9,8 @@ use Rattle.duty_plans.specs.Hands.{Free}
 use Rattle.duty_plans.specs.Seats.{Seat, at_seat, nodes_seen, signer_seen}
 use Rattle.duty_turns.specs.TurnSteps.{House, SinkSeen}
 use Rattle.duty_loop.specs.Houses.{house}
-use Rattle.keymanager_loop.specs.Doors.{DoorSeen, Hall, door_seen, hall}
-use Rattle.run_views.specs.Views.{Calls}
+use Rattle.keymanager_api.specs.Doors.{DoorSeen, Hall, door_seen, hall}
+use Rattle.serve_run.specs.Views.{Calls}
 use Rattle.journal_commands.specs.Views.{Output, output_of}
 use Rattle.serve_run.specs.declared.lanes.LaneEnd.{LaneEnd}
 

@@ -23,7 +23,7 @@ use Rattle.check_sign.specs.Paths.{Path}
 use Rattle.check_sign.specs.Standing.{DeskStands}
 use Rattle.desk_seat.specs.Steps.{DeskStep}
 use Rattle.desk_seat.specs.Turns.{calls_of}
-use Rattle.grant_history.specs.Spans.{ClosesKey, History, NoneInHand, Spans}
+use Rattle.desk_seat.specs.Spans.{ClosesKey, History, NoneInHand, Spans}
 use Rattle.program_end.specs.declared.limit.Limit.TheVariants as limit
 use Rattle.program_end.specs.declared.status.Status.{Status}
 use Rattle.program_end.specs.declared.status.Status.TheVariants as status
@@ -41,7 +41,7 @@ use Rattle.command_line.specs.declared.planned.Plan.{Plan}
 use Rattle.command_line.specs.declared.planned.Plan.TheVariants as plan
 use Rattle.command_line.specs.declared.serve_options.ServeOptions.{ServeOptions}
 use Rattle.journal_commands.specs.Openings.{HadDeskAt, NotOpened}
-use Rattle.run_views.specs.Views.{Calls}
+use Rattle.serve_run.specs.Views.{Calls}
 use Rattle.serve_run.specs.Clients.{LaneSeen, Parts}
 use Rattle.serve_run.specs.Serving.{Serves, steps_in}
 use Rattle.serve_run.specs.Starting.{ClosesUnstarted, StartsBy}

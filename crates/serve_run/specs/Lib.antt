@@ -4,3 +4,4 @@ pub mod Equipping
 pub mod Serving
 pub mod Seating
 pub mod Ends
+pub mod Views

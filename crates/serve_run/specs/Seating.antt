@@ -7,9 +7,9 @@ use Rattle.desk_seat.specs.Seats.{DeskPass, IsDeskPass, SharedDesk}
 use Rattle.duty_plans.specs.declared.setup.DutySetup.{DutySetup}
 use Rattle.duty_turns.specs.declared.held.DutyEnd.{DutyEnd}
 use Rattle.keymanager_api.specs.Serving.{LinkSeen}
-use Rattle.keymanager_loop.specs.declared.run.ConnectionsEnd.{ConnectionsEnd}
-use Rattle.duty_lanes.specs.declared.lane.Lane.{Lane}
-use Rattle.run_views.specs.Views.{Calls}
+use Rattle.keymanager_api.specs.declared.connections.ConnectionsEnd.{ConnectionsEnd}
+use Rattle.duty_workers.specs.declared.lane.Lane.{Lane}
+use Rattle.serve_run.specs.Views.{Calls}
 use Rattle.serve_run.specs.Clients.{Parts}
 use Rattle.serve_run.specs.Serving.{Beside, Wanted}
 use Rattle.serve_run.specs.declared.lanes.LaneEnd.{LaneEnd}

@@ -14,16 +14,16 @@ use Rattle.duty_turns.specs.TurnSteps.{Fits, House, TurnStep}
 use Rattle.duty_turns.specs.Turns.{first_standing}
 use Rattle.duty_loop.specs.Guarding.{Guarded, loop_steps}
 use Rattle.duty_loop.specs.Houses.{RunsFrom, end_value}
-use Rattle.duty_ends.specs.Ends.{EndAtFailedDisk}
+use Rattle.duty_loop.specs.Ends.{EndAtFailedDisk}
 use Rattle.duty_safety.specs.OnTime.{on_time_turns}
 use Rattle.keymanager_api.specs.Serving.{LinkSeen}
-use Rattle.keymanager_loop.specs.Visits.{ServesAll}
-use Rattle.keymanager_loop.specs.declared.run.Connections.{Connections}
-use Rattle.keymanager_loop.specs.declared.run.ConnectionsEnd.{ConnectionsEnd}
-use Rattle.keymanager_loop.specs.declared.run.ConnectionsEnd.TheVariants as connections_end
+use Rattle.keymanager_api.specs.Visits.{ServesAll}
+use Rattle.keymanager_api.specs.declared.connections.Connections.{Connections}
+use Rattle.keymanager_api.specs.declared.connections.ConnectionsEnd.{ConnectionsEnd}
+use Rattle.keymanager_api.specs.declared.connections.ConnectionsEnd.TheVariants as connections_end
 use Rattle.command_line.specs.declared.serve_options.ServeOptions.{ServeOptions}
 use Rattle.journal_commands.specs.Views.{Output, ClosedBy}
-use Rattle.run_views.specs.Views.{Calls, Grew}
+use Rattle.serve_run.specs.Views.{Calls, Grew}
 use Rattle.serve_run.specs.Clients.{Parts, hall_of, house_of, idle_seats, lane_seats}
 use Rattle.serve_run.specs.declared.start.Start.{Start}
 

@@ -9,7 +9,7 @@ use crate::beside::LoopEnds;
 use crate::start::Unstarted;
 use duty_turns::DutyEnd;
 use edge_kit::{Root, Sink};
-use keymanager_loop::ConnectionsEnd;
+use keymanager_api::ConnectionsEnd;
 use node_fallback::Cause;
 use program_end::{ClosingLine, Status, close};
 use std::alloc::{AllocError, Global};

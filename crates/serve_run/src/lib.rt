@@ -10,6 +10,7 @@ mod run;
 mod seats;
 mod shared;
 mod start;
+mod views;
 
 pub use lanes::LaneEnd;
 pub use run::{ServeEnd, run_serve};

@@ -3,7 +3,7 @@ ghost use Rattle.std.specs.Prelude.{◌≡◌, ◌⊎◌, ◌≤◌, [], vec_len
 ghost use Rattle.edge_kit.specs.Causes.{Rose};
 ghost use Rattle.record_journal.specs.TwoDisks.{EitherRose};
 ghost use Rattle.command_line.specs.declared.serve_options.ServeOptions.{ServeOptions};
-ghost use Rattle.keymanager_loop.specs.Doors.{link_seen};
+ghost use Rattle.keymanager_api.specs.Doors.{link_seen};
 ghost use Rattle.serve_run.specs.Clients.{parts_seen};
 ghost use Rattle.serve_run.specs.Ends.{Because, Equipped, IsServe, NotEquipped, OverJournal, ServeEnds};
 
@@ -13,11 +13,11 @@ use crate::shared::serve_desk;
 use crate::start::{Start, ask_start};
 use check_sign::{Desk, Events};
 use command_line::{Plan, ServeOptions};
+use desk_seat::{among_law, close_law, span_law};
 use duty_safety::safe_law;
 use duty_turns::{epoch_of, slot_of};
 use edge_clock::Clock;
 use edge_kit::{Disk, Disks, Door, Sink};
-use grant_history::{among_law, close_law, span_law};
 use journal_commands::close_unopened;
 use node_calls::Node;
 use node_fallback::Nodes;

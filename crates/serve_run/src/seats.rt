@@ -2,13 +2,13 @@
 ghost use Rattle.std.specs.Prelude.{◌≡◌, ◌+◌, ◌≤◌, ◌++◌, [], All, map, vec_capacity, vec_len};
 ghost use Rattle.desk_lock.specs.Sharing.{IsSame, given_of, passes_of};
 ghost use Rattle.desk_seat.specs.Seats.{IsDeskPass};
-ghost use Rattle.duty_lanes.specs.Working.{IsReady};
+ghost use Rattle.duty_workers.specs.Working.{IsReady};
 ghost use Rattle.serve_run.specs.Seating.{AreNew, lane_end};
 
 use crate::lanes::LaneEnd;
 use desk_lock::{Owner, Pass, Shared};
 use desk_seat::{LentDesk, Seated};
-use duty_lanes::Lane;
+use duty_workers::Lane;
 use edge_kit::Disk;
 use std::sync::Wait;
 

@@ -4,7 +4,7 @@ ghost use Rattle.desk_machine.specs.Machine.{moment_limit};
 
 use crate::said::{FORK, KEY, Said, node, words};
 use check_sign::{Desk, DeskEvent, DeskReply, Event, MOMENT_LIMIT};
-use duty_lanes::Lane;
+use duty_workers::Lane;
 use duty_loop::run_duties;
 use duty_plans::DutySetup;
 use edge_clock::{Delay, MemClock};

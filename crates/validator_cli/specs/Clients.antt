@@ -9,7 +9,7 @@ use Rattle.desk_machine.specs.declared.event.DeskEvent.{DeskEvent}
 use Rattle.program_end.specs.declared.status.Status.{Status}
 use Rattle.program_end.specs.declared.status.Status.TheVariants as status
 use Rattle.keymanager_api.specs.Serving.{LinkSeen}
-use Rattle.keymanager_loop.specs.Doors.{door_seen}
+use Rattle.keymanager_api.specs.Doors.{door_seen}
 use Rattle.command_line.specs.declared.serve_options.ServeOptions.{ServeOptions}
 use Rattle.journal_commands.specs.Views.{output_of}
 use Rattle.serve_run.specs.Clients.{Parts, lane_ends_seen}

@@ -2,7 +2,7 @@
 ghost use Rattle.std.specs.Prelude.{◌≡◌, [], IfOk, IfSome, IfNone, map, string_bytes};
 ghost use Rattle.edge_kit.specs.Causes.{Rose};
 ghost use Rattle.record_journal.specs.TwoDisks.{EitherRose};
-ghost use Rattle.keymanager_loop.specs.Doors.{link_seen};
+ghost use Rattle.keymanager_api.specs.Doors.{link_seen};
 ghost use Rattle.command_line.specs.Plans.{asked_of, serve};
 ghost use Rattle.command_line.specs.declared.serve_options.ServeOptions.{ServeOptions};
 ghost use Rattle.serve_run.specs.Ends.{Because, IsServe};

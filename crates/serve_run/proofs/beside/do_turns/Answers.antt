@@ -1,7 +1,7 @@
 use Rattle.std.proofs.Common.{ℕ, Option}
 use Rattle.duty_plans.specs.Seats.{nodes_seen}
 use Rattle.duty_turns.specs.TurnSteps.{House, sink_seen}
-use Rattle.duty_lanes.specs.Working.{lanes_seen}
+use Rattle.duty_workers.specs.Working.{lanes_seen}
 use Rattle.duty_loop.specs.Houses.{house}
 use Rattle.serve_run.proofs.LoopLemmas.{duties_ran, house_free}
 use Rattle.serve_run.proofs.beside.do_turns.Goals as goal

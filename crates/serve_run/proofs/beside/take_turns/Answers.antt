@@ -2,8 +2,8 @@ use Rattle.std.proofs.Common.{◌≡◌, ℕ, List, Option, length, refl, sym, a
 use Rattle.std.proofs.lemmas.Grind.{common_steps}
 use Rattle.duty_plans.specs.Seats.{nodes_seen}
 use Rattle.duty_turns.specs.TurnSteps.{House, sink_seen}
-use Rattle.duty_lanes.specs.Working.{lanes_seen}
-use Rattle.duty_lanes.specs.declared.lane.Lane.{Lane}
+use Rattle.duty_workers.specs.Working.{lanes_seen}
+use Rattle.duty_workers.specs.declared.lane.Lane.{Lane}
 use Rattle.duty_loop.specs.Houses.{house}
 use Rattle.serve_run.specs.Serving.{DutiesRan}
 use Rattle.serve_run.proofs.SeatLemmas.{lanes_long, whole_back}

@@ -2,7 +2,7 @@ use Rattle.std.proofs.Common.{◌⊎◌, ⊎_elim, ℕ, Option, ap, subst, ◌�
 use Rattle.edge_kit.specs.Causes.{Rose}
 use Rattle.check_sign.specs.Contents.{Seen}
 use Rattle.record_journal.specs.TwoDisks.{EitherRose}
-use Rattle.keymanager_loop.specs.Doors.{link_seen}
+use Rattle.keymanager_api.specs.Doors.{link_seen}
 use Rattle.duty_turns.specs.Times.{epoch_of}
 use Rattle.journal_commands.specs.Openings.{HadDeskAt}
 use Rattle.journal_commands.proofs.OpeningLemmas.{Handed}

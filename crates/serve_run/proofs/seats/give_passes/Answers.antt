@@ -3,7 +3,7 @@ use Rattle.std.proofs.lemmas.List.{length-append, length-map}
 use Rattle.desk_lock.specs.Passes.{IsNew}
 use Rattle.desk_lock.specs.Sharing.{given_of}
 use Rattle.desk_seat.specs.Seats.{DeskPass, IsDeskPass, SharedDesk}
-use Rattle.duty_lanes.specs.declared.lane.Lane.{Lane}
+use Rattle.duty_workers.specs.declared.lane.Lane.{Lane}
 use Rattle.serve_run.specs.Seating.{AreNew, lane_end}
 use Rattle.serve_run.specs.declared.lanes.LaneEnd.{LaneEnd}
 use Rattle.serve_run.proofs.ShareLemmas.{map_push, new_push}

@@ -3,8 +3,8 @@ use Rattle.std.proofs.lemmas.List.{map-append}
 use Rattle.std.proofs.lemmas.List.Elements.{All-push}
 use Rattle.desk_seat.specs.Seats.{DeskPass, IsDeskPass, SharedDesk}
 use Rattle.desk_seat.specs.declared.seated.Seated.{Seated}
-use Rattle.duty_lanes.specs.Working.{IsReady}
-use Rattle.duty_lanes.specs.declared.lane.Lane.{Lane}
+use Rattle.duty_workers.specs.Working.{IsReady}
+use Rattle.duty_workers.specs.declared.lane.Lane.{Lane}
 use Rattle.serve_run.specs.Seating.{lane_end}
 use Rattle.serve_run.specs.declared.lanes.LaneEnd.{LaneEnd}
 use Rattle.serve_run.proofs.ShareLemmas.{map_push, next_of}

@@ -1,7 +1,7 @@
 use Rattle.std.proofs.Common.{◌≡◌, ◌++◌, ◌≤◌, All, length, map}
 use Rattle.std.specs.Prelude.{vec_capacity}
 use Rattle.desk_seat.specs.Seats.{IsDeskPass}
-use Rattle.duty_lanes.specs.Working.{IsReady}
+use Rattle.duty_workers.specs.Working.{IsReady}
 use Rattle.serve_run.specs.Seating.{lane_end}
 use Rattle.serve_run.proofs.seats.take_seats.Given as goal
 

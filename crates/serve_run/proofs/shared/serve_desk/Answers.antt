@@ -4,8 +4,8 @@ use Rattle.check_sign.specs.Contents.{Seen}
 use Rattle.desk_lock.specs.Sharing.{given_of, opening, passes_of}
 use Rattle.desk_seat.specs.Seats.{DeskPass}
 use Rattle.desk_seat.specs.Turns.{Served}
-use Rattle.duty_lanes.specs.declared.lane.Lane.{Lane}
-use Rattle.keymanager_loop.specs.Doors.{link_seen}
+use Rattle.duty_workers.specs.declared.lane.Lane.{Lane}
+use Rattle.keymanager_api.specs.Doors.{link_seen}
 use Rattle.journal_commands.specs.Views.{output_of}
 use Rattle.serve_run.specs.Clients.{Parts, parts_seen}
 use Rattle.serve_run.specs.Seating.{AreNew, RanBeside, lane_end}

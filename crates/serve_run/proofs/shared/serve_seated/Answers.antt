@@ -17,13 +17,13 @@ use Rattle.duty_plans.specs.Seats.{Seat, nodes_seen, signer_seen}
 use Rattle.duty_plans.specs.declared.setup.DutySetup.{DutySetup}
 use Rattle.duty_turns.specs.declared.held.DutyEnd.{DutyEnd}
 use Rattle.duty_turns.specs.TurnSteps.{House, SinkSeen, sink_seen}
-use Rattle.duty_lanes.specs.Working.{lanes_seen}
-use Rattle.duty_lanes.specs.declared.lane.Lane.{Lane}
+use Rattle.duty_workers.specs.Working.{lanes_seen}
+use Rattle.duty_workers.specs.declared.lane.Lane.{Lane}
 use Rattle.duty_loop.specs.Houses.{end_value, house}
-use Rattle.keymanager_loop.specs.Doors.{DoorSeen, door_seen, hall, link_seen}
-use Rattle.keymanager_loop.specs.Visits.{ServesAll}
-use Rattle.run_views.specs.Views.{house_by, seat_by}
-use Rattle.run_views.specs.Views.{Calls, Grew}
+use Rattle.keymanager_api.specs.Doors.{DoorSeen, door_seen, hall, link_seen}
+use Rattle.keymanager_api.specs.Visits.{ServesAll}
+use Rattle.serve_run.specs.Views.{house_by, seat_by}
+use Rattle.serve_run.specs.Views.{Calls, Grew}
 use Rattle.serve_run.specs.Clients.{idle_seats, lane_ends_seen, lane_seats}
 use Rattle.serve_run.specs.Seating.{HaveMade, lane_end}
 use Rattle.serve_run.specs.Serving.{DutiesRan, Wanted, wanted_of}

@@ -1,4 +1,0 @@
-pub mod GivesLemmas
-pub mod PartLemmas
-pub mod TurnLemmas
-pub mod EndLemmas

@@ -1,5 +1,0 @@
-pub mod TurnLemmas
-pub mod DealLemmas
-pub mod GatherLemmas
-pub mod WorkLemmas
-pub mod RefreshLemmas

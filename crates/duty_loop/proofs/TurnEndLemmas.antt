@@ -1,0 +1,130 @@
+-- What the last step was where the turns end before their number.
+use Rattle.std.proofs.Common.{◌≡◌, ℕ, zero, suc, true, false, List, [], ◌∷◌, ◌++◌, length, Option, Some, None, Result, Ok, Err, refl}
+use Rattle.std.specs.Prelude.{nat_lt}
+use Rattle.edge_kit.specs.declared.bytes.PubKey.{PubKey}
+use Rattle.desk_machine.specs.declared.call.DeskCall.TheVariants as call
+use Rattle.desk_machine.specs.declared.call.DeskReply.{DeskReply}
+use Rattle.desk_machine.specs.declared.call.DeskReply.TheVariants as reply
+use Rattle.duty_schedule.specs.declared.rows.Duty.{Duty}
+use Rattle.call_plans.specs.Plans.{Follows}
+use Rattle.duty_plans.specs.Steps.{Calls, Replies}
+use Rattle.duty_plans.specs.declared.result.DutyResult.{DutyResult}
+use Rattle.duty_plans.specs.declared.setup.DutySetup.{DutySetup}
+use Rattle.duty_turns.specs.declared.held.DutyEnd.{DutyEnd}
+use Rattle.duty_turns.specs.declared.held.DutyEnd.TheVariants as end
+use Rattle.duty_turns.specs.Lines.{duty_lines}
+use Rattle.duty_turns.specs.Standing.{Standing}
+use Rattle.duty_turns.specs.Times.{is_first_slot, next_slot, slot_of, slot_start, votes_start}
+use Rattle.duty_turns.specs.TurnSteps.{TurnPlan, TurnReply, TurnStep, Fits, Own, Owned, Writes, Wrote}
+use Rattle.duty_turns.specs.Turns.{Next, NextPlan, active_of, asked_plan, at_slot, blocks_in, calls, close_plan, closed_plan, compacted, due_plan, failed_plan, listed_plan, next_turn, own_reply, ready_plan, refreshes, refreshes_lanes, shortens, size_limit, sized, turn_plan, turns_plan, votes_in, votes_plan, waits, with_active, woken_plan, work_of, works}
+use Rattle.duty_loop.proofs.GivesLemmas.{Always, Gives, Said, calls_always, gives_ask, gives_bind, gives_done, if_always, looks_up_always, refreshes_always, refreshes_lanes_always, stop_always, waits_always, works_always}
+use Rattle.duty_loop.proofs.PartLemmas.{EndInCut, WhyNone, asked_part}
+
+-- with the last of these steps the desk said that its disk failed
+abbrev pub EndAtDisk : List TurnStep → Type 0
+EndAtDisk steps = (front : List TurnStep) × (steps ≡ front ++ (Own (Calls call.HasFailed), Owned (Replies (reply.HasFailed true))) ∷ [])
+
+abbrev pub WhyEnd : List TurnStep → DutyEnd → Type 0
+WhyEnd steps end.Disk = EndAtDisk steps
+WhyEnd steps end.Write = EndInCut steps
+WhyEnd steps end.OutOfMemory = ⊥
+
+-- why there is an end
+abbrev pub Why : (X : Type 0) → Said (Result X DutyEnd)
+Why X steps (Ok x) = Unit {0}
+Why X steps (Err ended) = WhyEnd steps ended
+
+abbrev IsTurn : NextPlan → Type 0
+IsTurn p = Always (Why Standing) p
+
+-- ---- the end of a turn
+
+failed_turn : (front : List TurnStep) (s : Standing) (r : TurnReply) → Gives (Why Standing) (front ++ (Own (Calls call.HasFailed), r) ∷ []) (failed_plan s (own_reply r))
+failed_turn front s (Owned (Replies (reply.HasFailed true))) =
+    gives_done (Why Standing) (front ++ (Own (Calls call.HasFailed), Owned (Replies (reply.HasFailed true))) ∷ []) (Err end.Disk) (front, refl)
+failed_turn front s r = gives_done (Why Standing) (front ++ (Own (Calls call.HasFailed), r) ∷ []) (Ok s) tt
+
+closed_turn : (front : List TurnStep) (text : List ℕ) (s : Standing) (r : TurnReply) → Fits (Writes text) r → Gives (Why Standing) (front ++ (Writes text, r) ∷ []) (closed_plan s r)
+closed_turn front text s (Wrote true piece) fit =
+    let behind : List TurnStep = front ++ (Writes text, Wrote true piece) ∷ [] in
+    gives_ask (Why Standing) behind (Own (Calls call.HasFailed)) (λ r. failed_plan s (own_reply r)) (λ r fit. failed_turn behind s r)
+closed_turn front text s (Wrote false piece) fit = gives_done (Why Standing) (front ++ (Writes text, Wrote false piece) ∷ []) (Err end.Write) (front, text, piece, refl)
+closed_turn front text s r fit = absurd fit
+
+close_turn : (slot : ℕ) (ds : List Duty) (results : List DutyResult) (s : Standing) → IsTurn (close_plan slot ds results s)
+close_turn slot ds results s front =
+    let text = duty_lines slot ds results in
+    gives_ask (Why Standing) front (Writes text) (closed_plan s) (closed_turn front text s)
+
+-- ---- what stands between
+
+compacted_turn : (p : NextPlan) → IsTurn p → (r : DeskReply) → IsTurn (compacted r p)
+compacted_turn p h reply.OutOfMemory = stop_always (Why Standing)
+compacted_turn p h r = h
+
+sized_turn : (p : NextPlan) → IsTurn p → (r : DeskReply) → IsTurn (sized r p)
+sized_turn p h (reply.Size size) =
+    if_always (Why Standing) (nat_lt size_limit size) (calls call.Compact (λ r. compacted r p)) p (calls_always (Why Standing) call.Compact (λ r. compacted r p) (compacted_turn p h)) h
+sized_turn p h r = stop_always (Why Standing)
+
+shortens_turn : (s : Standing) (p : NextPlan) → IsTurn p → IsTurn (shortens s p)
+shortens_turn s p h = if_always (Why Standing) (is_first_slot s.slot) (calls call.Size (λ r. sized r p)) p (calls_always (Why Standing) call.Size (λ r. sized r p) (sized_turn p h)) h
+
+-- ---- a turn
+
+votes_turn : (setup : DutySetup) (s : Standing) (ds : List Duty) (proposed : List DutyResult) (reached : ℕ) → IsTurn (votes_plan setup s ds proposed reached)
+votes_turn setup s ds proposed reached =
+    let now = slot_of setup.genesis_time reached in
+    let place = length (blocks_in ds) in
+    let all : List Duty = blocks_in ds ++ votes_in ds in
+    let behind : List DutyResult → NextPlan = λ cast. close_plan s.slot all (proposed ++ cast) (at_slot (next_slot s.slot) s) in
+    if_always (Why Standing) (nat_lt s.slot now) (close_plan s.slot (blocks_in ds) proposed (at_slot now s)) (works (work_of setup s) place (votes_in ds) behind)
+    (close_turn s.slot (blocks_in ds) proposed (at_slot now s))
+    (works_always (Why Standing) (work_of setup s) place (votes_in ds) behind (λ cast. close_turn s.slot all (proposed ++ cast) (at_slot (next_slot s.slot) s)))
+
+due_turn : (setup : DutySetup) (s : Standing) (ds : List Duty) → IsTurn (due_plan setup s ds)
+due_turn setup s ds =
+    let moment = votes_start setup.genesis_time s.slot in
+    let behind : List DutyResult → NextPlan = λ proposed. waits moment (votes_plan setup s ds proposed) in
+    works_always (Why Standing) (work_of setup s) 0 (blocks_in ds) behind (λ proposed. waits_always (Why Standing) moment (votes_plan setup s ds proposed) (votes_turn setup s ds proposed))
+
+ready_turn : (setup : DutySetup) (active : List PubKey) (mid : List TurnStep) (o : Option Standing) → WhyNone mid o → Gives (Why Standing) mid (ready_plan setup active o)
+ready_turn setup active mid None w = gives_done (Why Standing) mid (Err end.Write) w
+ready_turn setup active mid (Some s) w =
+    let t = with_active active s in
+    looks_up_always (Why Standing) s.answers s.slot active (due_plan setup t) (due_turn setup t) mid
+
+listed_turn : (setup : DutySetup) (s : Standing) (r : DeskReply) → IsTurn (listed_plan setup s r)
+listed_turn setup s (reply.Keys listed) front =
+    let active = active_of listed in
+    gives_bind WhyNone (Why Standing) front (asked_plan setup listed active s) (ready_plan setup active) (asked_part setup listed active s front) (ready_turn setup active)
+listed_turn setup s r front = stop_always (Why Standing) front
+
+woken_turn : (setup : DutySetup) (s : Standing) (reached : ℕ) → IsTurn (woken_plan setup s reached)
+woken_turn setup s reached =
+    let now = slot_of setup.genesis_time reached in
+    let keys = calls call.Keys (listed_plan setup s) in
+    let part = shortens s keys in
+    if_always (Why Standing) (nat_lt s.slot now) (close_plan s.slot [] [] (at_slot now s)) (refreshes (refreshes_lanes part))
+    (close_turn s.slot [] [] (at_slot now s))
+    (refreshes_always (Why Standing) (refreshes_lanes part) (refreshes_lanes_always (Why Standing) part
+    (shortens_turn s keys (calls_always (Why Standing) call.Keys (listed_plan setup s) (listed_turn setup s)))))
+
+turn_ends : (setup : DutySetup) (s : Standing) → IsTurn (turn_plan setup s)
+turn_ends setup s = waits_always (Why Standing) (slot_start setup.genesis_time s.slot) (woken_plan setup s) (woken_turn setup s)
+
+-- ---- turn behind turn
+
+abbrev Whole : Said (Result (Unit {0}) DutyEnd)
+Whole = Why (Unit {0})
+
+next_ends : (turns : Standing → TurnPlan (Result (Unit {0}) DutyEnd)) → ((s : Standing) → Always Whole (turns s)) → (mid : List TurnStep) (x : Next) → Why Standing mid x → Gives Whole mid (next_turn turns x)
+next_ends turns h mid (Ok s) w = h s mid
+next_ends turns h mid (Err ended) w = gives_done Whole mid (Err ended) w
+
+turns_end : (setup : DutySetup) (n : ℕ) (s : Standing) → Always Whole (turns_plan setup n s)
+turns_end setup zero s front = gives_done Whole front (Ok tt) tt
+turns_end setup (suc n) s front = gives_bind (Why Standing) Whole front (turn_plan setup s) (next_turn (turns_plan setup n)) (turn_ends setup s front) (next_ends (turns_plan setup n) (turns_end setup n))
+
+pub why_end : (setup : DutySetup) (n : ℕ) (s : Standing) (steps : List TurnStep) (ended : DutyEnd) → Follows Fits (turns_plan setup n s) steps (Some (Err ended)) → WhyEnd steps ended
+why_end setup n s steps ended f = turns_end setup n s [] steps (Err ended) f

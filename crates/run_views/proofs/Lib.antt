@@ -1,2 +1,0 @@
-pub mod TurnViews
-pub mod VisitViews
