@@ -1,7 +1,9 @@
 //! Tests of the journal over two files: what its bytes are read as, and what each stop of a call leaves. And tests of
-//! interchange files, and of how a program ends.
+//! interchange files, of how a program ends, and of readers and writers as sources and sinks.
 #![tactic(auto)]
 
+#[cfg(test)]
+mod adapters;
 #[cfg(test)]
 mod compactions;
 #[cfg(test)]

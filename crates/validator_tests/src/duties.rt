@@ -1,7 +1,7 @@
 //! Duties of whole epochs, with and without a watch.
 use crate::runs::{Run, look_at};
-use crate::said::{Due, K1, K2, Said};
 use crate::starts::{ACTIVATE_BOTH, OF_G0, ONE_SLOT};
+use run_doubles::{Due, K1, K2, Said};
 use std::test::Fail;
 
 /// Two blocks and two votes in each epoch. In the second one vote's data is of another slot, and in the third no block

@@ -1,9 +1,7 @@
 //! What lanes leave.
-use crate::chain_node::ChainNode;
 use crate::runs::{Run, outside_of, serve, words_of};
-use crate::said::{Due, K1, K2, Said};
 use crate::starts::{ACTIVATE_BOTH, OF_G0, ONE_SLOT};
-use run_doubles::KeepingSigner;
+use run_doubles::{ChainNode, Due, K1, K2, KeepingSigner, Said};
 use std::alloc::{AllocError, Global};
 use std::process::Abort;
 use std::sync::Wait;

@@ -1,10 +1,10 @@
 //! Runs of the validator client over objects in memory, and what is expected of them.
-use crate::chain_node::ChainNode;
-use crate::said::Said;
 use edge_clock::MemClock;
 use edge_kit::{Disks, Door, Link, MemDisk, MemDoor, MemLink, MemSink, MemSource};
 use node_calls::Node;
-use run_doubles::{SESSION, disks_after, filled, fresh_disks, is_text, play, ready_signer};
+use run_doubles::{
+    ChainNode, SESSION, Said, disks_after, filled, fresh_disks, is_text, play, ready_signer,
+};
 use signer_link::Signer;
 use std::alloc::{AllocError, Global};
 use std::process::Abort;

@@ -1,7 +1,7 @@
 //! Connections beside the duties.
 use crate::runs::{Run, look_at};
-use crate::said::{Due, K1, Said};
 use crate::starts::{OF_G0, ONE_SLOT};
+use run_doubles::{Due, K1, Said};
 use std::test::Fail;
 use validator_cli::Status;
 

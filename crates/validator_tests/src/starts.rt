@@ -1,6 +1,6 @@
 //! How a run begins, and runs in which nothing is to be done.
 use crate::runs::{Run, look_at};
-use crate::said::Said;
+use run_doubles::Said;
 use std::test::Fail;
 use validator_cli::Status;
 
