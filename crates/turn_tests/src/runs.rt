@@ -4,9 +4,9 @@ ghost use Rattle.desk_machine.specs.Machine.{moment_limit};
 
 use crate::said::{FORK, KEY, Said, node, words};
 use check_sign::{Desk, DeskEvent, DeskReply, Event, MOMENT_LIMIT};
-use duty_workers::Lane;
 use duty_loop::run_duties;
 use duty_plans::DutySetup;
+use duty_workers::Lane;
 use edge_clock::{Delay, MemClock};
 use edge_kit::{Disks, MemDisk, MemSink, PubKey, Root, hex_text};
 use node_calls::MemNode;
