@@ -1,6 +1,7 @@
 //! The door in memory, on which the tests of connections stand.
 use edge_kit::{Door, Link, MemDoor, MemLink};
 use std::alloc::{AllocError, Global};
+use std::process::Abort;
 use std::test::Fail;
 
 /// A connected link of this room, whose peer says nothing.
@@ -10,24 +11,41 @@ fn link_of(alloc: Global, room: usize) -> Result<MemLink, AllocError> {
     Ok(link)
 }
 
-#[test]
-fn a_door_gives_and_takes_back(rt: HostRuntime) -> Result<(), Fail> {
-    let alloc = rt.alloc();
-    let mut coming = Vec::new(alloc);
-    coming.push(link_of(alloc, 1)?)?;
-    let mut failing = Vec::new(alloc);
-    failing.push(0)?;
-    let mut door = MemDoor::new(alloc, coming, failing)?;
-    assert!(rt; door.accept().is_err());
-    if let Ok(Some(mut conn)) = door.accept() {
-        assert!(rt; matches!(door.accept(), Ok(None)));
-        assert_eq!(rt; conn.send(b"ab"), Ok(1));
-        door.finish(conn);
-    }
-    let finished = door.into_finished();
+/// A door with one connection, which has room for one byte; the door's call 0 fails.
+fn door_of_one(alloc: Global) -> Result<MemDoor, AllocError> {
+    let coming = vec![in alloc; link_of(alloc, 1)?]?;
+    let failing = vec![in alloc; 0]?;
+    MemDoor::new(alloc, coming, failing)
+}
+
+/// Takes the connection of a door, which has no other, sends over it and gives it back.
+fn use_connection<T: Abort>(rt: &T, door: &mut MemDoor) {
+    let Ok(Some(mut conn)) = door.accept() else {
+        return rt.panic("no connection");
+    };
+    assert!(rt; matches!(door.accept(), Ok(None)));
+    assert_eq!(rt; conn.send(b"ab"), Ok(1));
+    door.finish(conn);
+}
+
+/// Compares what was sent over a connection with the one byte that it had room for.
+fn look_at_sent<T: Abort>(rt: &T, conn: MemLink) {
+    assert_eq!(rt; conn.into_sent().as_slice(), b"a".as_slice());
+}
+
+/// Looks whether one connection came back, and what was sent over it.
+fn look_at_finished<T: Abort>(rt: &T, finished: Vec<MemLink>) {
     assert_eq!(rt; finished.len(), 1);
     for conn in finished {
-        assert_eq!(rt; conn.into_sent().as_slice(), b"a".as_slice());
+        look_at_sent(rt, conn);
     }
+}
+
+#[test]
+fn a_door_gives_and_takes_back(rt: HostRuntime) -> Result<(), Fail> {
+    let mut door = door_of_one(rt.alloc())?;
+    assert!(rt; door.accept().is_err());
+    use_connection(&rt, &mut door);
+    look_at_finished(&rt, door.into_finished());
     Ok(())
 }

@@ -62,7 +62,7 @@ fn compare_active<T: Abort>(
 }
 
 /// The keys 2, 2 once more, none, 1 and 3.
-const KEYSTORES: [Keystore; 5] = [
+const KEYSTORES: &[Keystore] = &[
     Keystore {
         mark: "",
         digit: "2",
@@ -86,7 +86,7 @@ const KEYSTORES: [Keystore; 5] = [
 ];
 
 /// What becomes of `KEYSTORES`.
-const IMPORTS: [Case; 2] = [
+const IMPORTS: &[Case] = &[
     Case {
         failing: &[],
         statuses: &[
@@ -168,6 +168,18 @@ fn take_in<T: Abort>(
     Ok(())
 }
 
+/// Takes the keys in, and looks at what becomes of them and which are active then.
+fn take_both_in<T: Abort>(
+    rt: &T,
+    alloc: Global,
+    brought: &Brought,
+    stage: &mut Stage,
+    statuses: &[&str],
+) -> Result<(), AllocError> {
+    take_in(rt, alloc, brought, stage, statuses)?;
+    compare_active(rt, alloc, stage, &[K1, K2])
+}
+
 /// Takes the keys in with a signer, and looks at what becomes of them.
 fn look_at_import<T: Abort>(
     rt: &T,
@@ -176,12 +188,11 @@ fn look_at_import<T: Abort>(
     case: &Case,
 ) -> Result<(), AllocError> {
     let mut stage = stage_of_three(rt, alloc, case.failing)?;
-    take_in(rt, alloc, brought, &mut stage, case.statuses)?;
-    compare_active(rt, alloc, &mut stage, &[K1, K2])
+    take_both_in(rt, alloc, brought, &mut stage, case.statuses)
 }
 
 fn look_at_imports<T: Abort>(rt: &T, alloc: Global, brought: &Brought) -> Result<(), AllocError> {
-    for case in &IMPORTS {
+    for case in IMPORTS {
         look_at_import(rt, alloc, brought, case)?;
     }
     Ok(())
@@ -189,12 +200,12 @@ fn look_at_imports<T: Abort>(rt: &T, alloc: Global, brought: &Brought) -> Result
 
 #[test]
 fn keys_are_taken_in_one_by_one(rt: HostRuntime) -> Result<(), Fail> {
-    let brought = to_bring(rt.alloc(), &KEYSTORES)?;
+    let brought = to_bring(rt.alloc(), KEYSTORES)?;
     Ok(look_at_imports(&rt, rt.alloc(), &brought)?)
 }
 
 /// What becomes of the keys 1, 2, 3, 4 and 1 once more that are deleted.
-const DELETIONS: [Case; 3] = [
+const DELETIONS: &[Case] = &[
     Case {
         failing: &[],
         statuses: &[
@@ -246,16 +257,26 @@ fn give_up_again<T: Abort>(rt: &T, alloc: Global, stage: &mut Stage) -> Result<(
     Ok(())
 }
 
+/// Gives the keys up twice, and looks at what becomes of them and that none is active then.
+fn give_up_twice<T: Abort>(
+    rt: &T,
+    alloc: Global,
+    stage: &mut Stage,
+    statuses: &[&str],
+) -> Result<(), AllocError> {
+    give_up(rt, alloc, stage, statuses)?;
+    give_up_again(rt, alloc, stage)?;
+    compare_active(rt, alloc, stage, &[])
+}
+
 /// Gives the keys up twice with a signer, and looks at what becomes of them.
 fn look_at_deletion<T: Abort>(rt: &T, alloc: Global, case: &Case) -> Result<(), AllocError> {
     let mut stage = stage_of_three(rt, alloc, case.failing)?;
-    give_up(rt, alloc, &mut stage, case.statuses)?;
-    give_up_again(rt, alloc, &mut stage)?;
-    compare_active(rt, alloc, &mut stage, &[])
+    give_up_twice(rt, alloc, &mut stage, case.statuses)
 }
 
 fn look_at_deletions<T: Abort>(rt: &T, alloc: Global) -> Result<(), AllocError> {
-    for case in &DELETIONS {
+    for case in DELETIONS {
         look_at_deletion(rt, alloc, case)?;
     }
     Ok(())
@@ -322,7 +343,7 @@ struct Member {
     key: Option<PubKey>,
 }
 
-const MEMBERS: [Member; 4] = [
+const MEMBERS: &[Member] = &[
     Member {
         keystore: Keystore {
             mark: "",
@@ -366,7 +387,7 @@ fn look_at_member<T: Abort>(rt: &T, alloc: Global, member: &Member) -> Result<()
 }
 
 fn look_at_members<T: Abort>(rt: &T, alloc: Global) -> Result<(), AllocError> {
-    for member in &MEMBERS {
+    for member in MEMBERS {
         look_at_member(rt, alloc, member)?;
     }
     Ok(())

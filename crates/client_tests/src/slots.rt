@@ -26,7 +26,7 @@ const FORK: Fork = Fork {
     epoch: 0,
 };
 
-const SETUP: DutySetup = DutySetup {
+const SETUP: &DutySetup = &DutySetup {
     genesis: Root([0; 32]),
     genesis_time: 0,
     fork: FORK,
@@ -91,9 +91,9 @@ const OTHER_BLOCK: ProposerRow = ProposerRow {
     ..BLOCK
 };
 
-const VOTES: [Duty; 3] = [Duty::Vote(VOTE), Duty::Vote(OTHER_VOTE), Duty::Vote(VOTE)];
+const VOTES: &[Duty] = &[Duty::Vote(VOTE), Duty::Vote(OTHER_VOTE), Duty::Vote(VOTE)];
 
-const BLOCKS: [Duty; 3] = [
+const BLOCKS: &[Duty] = &[
     Duty::Block(OTHER_BLOCK),
     Duty::Block(BLOCK),
     Duty::Block(BLOCK),
@@ -234,11 +234,11 @@ fn stage_of<T: Abort>(
 fn vote(alloc: Global, stage: &mut Stage) -> Result<Vec<DutyResult>, AllocError> {
     run_slot(
         alloc,
-        &SETUP,
+        SETUP,
         &Domains::new(FORK, SETUP.genesis),
         SLOT,
         1,
-        &VOTES,
+        VOTES,
         &mut stage.desk,
         &mut stage.signer,
         &mut stage.nodes,
@@ -249,11 +249,11 @@ fn vote(alloc: Global, stage: &mut Stage) -> Result<Vec<DutyResult>, AllocError>
 fn propose(alloc: Global, stage: &mut Stage) -> Result<Vec<DutyResult>, AllocError> {
     run_slot(
         alloc,
-        &SETUP,
+        SETUP,
         &Domains::new(FORK, SETUP.genesis),
         SLOT,
         1,
-        &BLOCKS,
+        BLOCKS,
         &mut stage.desk,
         &mut stage.signer,
         &mut stage.nodes,
@@ -358,7 +358,7 @@ fn look_at<T: Abort>(
 }
 
 /// What becomes of `VOTES`. A message that was granted stays in the record, whatever became of it.
-const VOTED: [Case; 6] = [
+const VOTED: &[Case] = &[
     Case {
         outside: WELL,
         ended: "sent; refused unknown; refused double_vote; 1 posts; 3 events",
@@ -401,7 +401,7 @@ const VOTED: [Case; 6] = [
 ];
 
 /// What becomes of `BLOCKS`. Each but the first has leave for its reveal, which is settled too.
-const PROPOSED: [Case; 8] = [
+const PROPOSED: &[Case] = &[
     Case {
         outside: WELL,
         ended: "refused unknown; sent; refused double_block; 1 posts; 7 events",
@@ -459,10 +459,10 @@ const PROPOSED: [Case; 8] = [
 
 #[test]
 fn each_vote_ends_by_its_first_call_that_failed(rt: HostRuntime) -> Result<(), Fail> {
-    Ok(look_at(&rt, rt.alloc(), &VOTED, false)?)
+    Ok(look_at(&rt, rt.alloc(), VOTED, false)?)
 }
 
 #[test]
 fn each_block_ends_by_its_first_call_that_failed(rt: HostRuntime) -> Result<(), Fail> {
-    Ok(look_at(&rt, rt.alloc(), &PROPOSED, true)?)
+    Ok(look_at(&rt, rt.alloc(), PROPOSED, true)?)
 }

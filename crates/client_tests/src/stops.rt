@@ -83,6 +83,17 @@ fn stopped<T: Abort>(
     disk_of(stage.desk).image(alloc, crash)
 }
 
+/// Deletes the key at a desk over what a crash left, compares what becomes of it, and gives whether the file has its vote.
+fn delete_again<T: Abort>(
+    rt: &T,
+    alloc: Global,
+    image: &[u8],
+    wanted: &str,
+) -> Result<bool, AllocError> {
+    let mut stage = stage_over(rt, alloc, image, None)?;
+    delete_for_vote(rt, alloc, &mut stage, wanted)
+}
+
 /// Deletes the key at a desk over what a crash left, and compares what becomes of it; the file has its vote.
 fn compare_again<T: Abort>(
     rt: &T,
@@ -90,8 +101,7 @@ fn compare_again<T: Abort>(
     image: &[u8],
     wanted: &str,
 ) -> Result<(), AllocError> {
-    let mut stage = stage_over(rt, alloc, image, None)?;
-    let has_vote = delete_for_vote(rt, alloc, &mut stage, wanted)?;
+    let has_vote = delete_again(rt, alloc, image, wanted)?;
     assert!(rt; has_vote);
     Ok(())
 }
@@ -104,7 +114,7 @@ struct Stop {
 }
 
 /// Once the gate is written the key is closed.
-const STOPS: [Stop; 8] = [
+const STOPS: &[Stop] = &[
     Stop {
         call: 0,
         crash: Crash::Written,
@@ -162,7 +172,7 @@ fn look_at_stop<T: Abort>(
 
 fn look_at_stops<T: Abort>(rt: &T, alloc: Global, bytes: &[u8]) -> Result<(), AllocError> {
     let opening = opening_calls(rt, alloc, bytes)?;
-    for row in &STOPS {
+    for row in STOPS {
         look_at_stop(rt, alloc, bytes, opening, row)?;
     }
     Ok(())

@@ -350,7 +350,7 @@ struct Second {
     gate: u64,
 }
 
-const SECONDS: [Second; 5] = [
+const SECONDS: &[Second] = &[
     Second {
         parts: &[],
         gate: 11,
@@ -422,7 +422,7 @@ fn stop_compactions<T: Abort>(rt: &T, alloc: Global, second: &Second) -> Result<
 #[test]
 fn every_stop_of_a_compaction_leaves_a_journal(rt: HostRuntime) -> Result<(), Fail> {
     for second in SECONDS {
-        stop_compactions(&rt, rt.alloc(), &second)?;
+        stop_compactions(&rt, rt.alloc(), second)?;
     }
     Ok(())
 }

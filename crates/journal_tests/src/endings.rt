@@ -65,7 +65,7 @@ fn line_at(alloc: Global, place: usize) -> Result<ClosingLine, AllocError> {
 }
 
 /// Each line with the code of its status.
-const LINES: [(u8, &str); 21] = [
+const LINES: &[(u8, &str)] = &[
     (12, "validator: file refused: too_long len 268435457\n"),
     (12, "validator: file refused: not_utf8\n"),
     (12, "validator: file refused: json\n"),

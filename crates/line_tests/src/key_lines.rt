@@ -98,7 +98,7 @@ fn input_of(alloc: Global, len: usize, failing: Option<u64>) -> Result<MemSource
 /// An input's length, the number of its call that fails, the limit that it is read up to, and how many bytes are read.
 type Reading = (usize, Option<u64>, u64, Result<usize, WholeFault>);
 
-const READINGS: [Reading; 7] = [
+const READINGS: &[Reading] = &[
     (0, None, 0, Ok(0)),
     (150_000, None, 150_000, Ok(150_000)),
     (150_000, None, 149_999, Err(WholeFault::TooLong)),
@@ -133,5 +133,5 @@ fn read_each<T: Abort>(rt: &T, alloc: Global, rows: &[Reading]) -> Result<(), Fa
 
 #[test]
 fn an_input_is_read_up_to_its_limit(rt: HostRuntime) -> Result<(), Fail> {
-    read_each(&rt, rt.alloc(), &READINGS)
+    read_each(&rt, rt.alloc(), READINGS)
 }

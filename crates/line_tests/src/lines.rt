@@ -141,7 +141,7 @@ fn outcome(alloc: Global, line: &[u8]) -> Result<String, AllocError> {
     }
 }
 
-const OUTCOMES: [(&str, &str); 64] = [
+const OUTCOMES: &[(&str, &str)] = &[
     // Each op.
     (r#"{"op":"merge","file":"&"}"#, "merge 1"),
     (
@@ -318,7 +318,7 @@ fn compare_each<T: Abort>(rt: &T, alloc: Global, rows: &[(&str, &str)]) -> Resul
 
 #[test]
 fn each_line_has_its_request(rt: HostRuntime) -> Result<(), Fail> {
-    compare_each(&rt, rt.alloc(), &OUTCOMES)?;
+    compare_each(&rt, rt.alloc(), OUTCOMES)?;
     Ok(())
 }
 
@@ -507,7 +507,7 @@ fn verdict_at(place: usize) -> Verdict {
     }
 }
 
-const LINES: [&str; 40] = [
+const LINES: &[&str] = &[
     r#"{"answer":"merged","keys":"1"}"#,
     r#"{"answer":"active"}"#,
     r#"{"answer":"signed","signature":"0xbbbbbbbbbbbbbbbbbbbbbbbbbbbbbbbbbbbbbbbbbbbbbbbbbbbbbbbbbbbbbbbbbbbbbbbbbbbbbbbbbbbbbbbbbbbbbbbbbbbbbbbbbbbbbbbbbbbbbbbbbbbbbbbbbbbbbbbbbbbbbbbbbbbbbbbbbbbbbbbbbbbbbbbbbbbbbbbbbbbbbbbbbbbbbbbb","signing_root":"%"}"#,
@@ -580,7 +580,7 @@ fn compare_lines<T: Abort>(rt: &T, alloc: Global, lines: &[&str]) -> Result<(), 
 
 #[test]
 fn each_answer_has_its_line(rt: HostRuntime) -> Result<(), Fail> {
-    compare_lines(&rt, rt.alloc(), &LINES)?;
+    compare_lines(&rt, rt.alloc(), LINES)?;
     Ok(())
 }
 

@@ -66,7 +66,7 @@ fn node(alloc: Global, votes: &[Vote], failing: &[u64]) -> Result<MemNode, Alloc
     Ok(MemNode::new(alloc, answers, failing))
 }
 
-const FIRST: [Vote; 2] = [
+const FIRST: &[Vote] = &[
     Vote {
         root: 0xaa,
         slot: 96,
@@ -77,15 +77,15 @@ const FIRST: [Vote; 2] = [
     },
 ];
 
-const SECOND: [Vote; 1] = [Vote {
+const SECOND: &[Vote] = &[Vote {
     root: 0xbb,
     slot: 97,
 }];
 
 /// A node of which the second call and the fourth fail, and one of which the second does.
 fn nodes(alloc: Global) -> Result<Nodes<MemNode>, AllocError> {
-    let first = node(alloc, &FIRST, &[1, 3])?;
-    let second = node(alloc, &SECOND, &[1])?;
+    let first = node(alloc, FIRST, &[1, 3])?;
+    let second = node(alloc, SECOND, &[1])?;
     Ok(Nodes::new(alloc, vec![in alloc; first, second]?))
 }
 
@@ -183,7 +183,7 @@ fn look_at_turn<T: Abort>(
     Ok(())
 }
 
-const TURNS: [Turn; 4] = [
+const TURNS: &[Turn] = &[
     Turn {
         word: "replaced",
         first: 1,
@@ -207,38 +207,47 @@ const TURNS: [Turn; 4] = [
 ];
 
 fn look_at_turns<T: Abort>(rt: &T, alloc: Global, stage: &mut Stage) -> Result<(), AllocError> {
-    for turn in &TURNS {
+    for turn in TURNS {
         look_at_turn(rt, alloc, stage, turn)?;
     }
     Ok(())
+}
+
+/// Nodes with a new schedule.
+fn stage_over(alloc: Global, nodes: Nodes<MemNode>) -> Stage {
+    let schedule = Schedule::new(alloc);
+    Stage { nodes, schedule }
+}
+
+/// The nodes with a new schedule.
+fn stage_of(alloc: Global) -> Result<Stage, AllocError> {
+    let nodes = nodes(alloc)?;
+    Ok(stage_over(alloc, nodes))
 }
 
 #[test]
 fn another_dependent_root_from_the_second_node_replaces_the_duties(
     rt: HostRuntime,
 ) -> Result<(), Fail> {
-    let mut stage = Stage {
-        nodes: nodes(rt.alloc())?,
-        schedule: Schedule::new(rt.alloc()),
-    };
+    let mut stage = stage_of(rt.alloc())?;
     Ok(look_at_turns(&rt, rt.alloc(), &mut stage)?)
 }
 
-/// The same nodes' twins, with a schedule of their own.
+/// The nodes' twins, with a schedule of their own.
 fn twin_of(alloc: Global, stage: &Stage) -> Result<Stage, AllocError> {
-    Ok(Stage {
-        nodes: stage.nodes.twin(alloc)?,
-        schedule: Schedule::new(alloc),
-    })
+    let nodes = stage.nodes.twin(alloc)?;
+    Ok(stage_over(alloc, nodes))
+}
+
+/// Looks at the turns of the nodes' twins.
+fn look_at_twins<T: Abort>(rt: &T, alloc: Global, stage: &Stage) -> Result<(), AllocError> {
+    let mut twin = twin_of(alloc, stage)?;
+    look_at_turns(rt, alloc, &mut twin)
 }
 
 #[test]
 fn twins_of_nodes_answer_as_those_do(rt: HostRuntime) -> Result<(), Fail> {
-    let mut stage = Stage {
-        nodes: nodes(rt.alloc())?,
-        schedule: Schedule::new(rt.alloc()),
-    };
-    let mut twin = twin_of(rt.alloc(), &stage)?;
-    look_at_turns(&rt, rt.alloc(), &mut twin)?;
+    let mut stage = stage_of(rt.alloc())?;
+    look_at_twins(&rt, rt.alloc(), &stage)?;
     Ok(look_at_turns(&rt, rt.alloc(), &mut stage)?)
 }

@@ -65,7 +65,7 @@ fn look_at<T: Abort>(rt: &T, alloc: Global, all: &[Answered]) -> Result<(), Allo
     Ok(())
 }
 
-const ABOUT_THE_CHAIN: [Answered; 4] = [
+const ABOUT_THE_CHAIN: &[Answered] = &[
     Answered {
         question: Question::Genesis,
         body: bodies::GENESIS,
@@ -90,10 +90,10 @@ const ABOUT_THE_CHAIN: [Answered; 4] = [
 
 #[test]
 fn each_question_about_the_chain_has_its_answer(rt: HostRuntime) -> Result<(), Fail> {
-    Ok(look_at(&rt, rt.alloc(), &ABOUT_THE_CHAIN)?)
+    Ok(look_at(&rt, rt.alloc(), ABOUT_THE_CHAIN)?)
 }
 
-const ABOUT_A_SLOT: [Answered; 3] = [
+const ABOUT_A_SLOT: &[Answered] = &[
     Answered {
         question: Question::Proposer(3),
         body: bodies::PROPOSER,
@@ -113,10 +113,10 @@ const ABOUT_A_SLOT: [Answered; 3] = [
 
 #[test]
 fn each_question_about_a_slot_has_its_answer(rt: HostRuntime) -> Result<(), Fail> {
-    Ok(look_at(&rt, rt.alloc(), &ABOUT_A_SLOT)?)
+    Ok(look_at(&rt, rt.alloc(), ABOUT_A_SLOT)?)
 }
 
-const WITH_A_LIST: [Answered; 3] = [
+const WITH_A_LIST: &[Answered] = &[
     Answered {
         question: Question::Attester,
         body: bodies::ATTESTER,
@@ -136,7 +136,7 @@ const WITH_A_LIST: [Answered; 3] = [
 
 #[test]
 fn each_question_with_a_list_has_its_answer(rt: HostRuntime) -> Result<(), Fail> {
-    Ok(look_at(&rt, rt.alloc(), &WITH_A_LIST)?)
+    Ok(look_at(&rt, rt.alloc(), WITH_A_LIST)?)
 }
 
 /// A question, and a body of status 200 that cannot be read as its answer.
@@ -162,7 +162,7 @@ fn look_at_all_unread<T: Abort>(rt: &T, alloc: Global, all: &[Unread]) -> Result
     Ok(())
 }
 
-const MISFITS: [Unread; 3] = [
+const MISFITS: &[Unread] = &[
     Unread {
         question: Question::Attester,
         body: bodies::LATE_ATTESTER,
@@ -179,10 +179,10 @@ const MISFITS: [Unread; 3] = [
 
 #[test]
 fn duties_that_do_not_fit_cannot_be_read(rt: HostRuntime) -> Result<(), Fail> {
-    Ok(look_at_all_unread(&rt, rt.alloc(), &MISFITS)?)
+    Ok(look_at_all_unread(&rt, rt.alloc(), MISFITS)?)
 }
 
-const OTHER_FORMS: [Unread; 5] = [
+const OTHER_FORMS: &[Unread] = &[
     Unread {
         question: Question::Block,
         body: bodies::LATER_BLOCK,
@@ -207,7 +207,7 @@ const OTHER_FORMS: [Unread; 5] = [
 
 #[test]
 fn members_of_another_form_cannot_be_read(rt: HostRuntime) -> Result<(), Fail> {
-    Ok(look_at_all_unread(&rt, rt.alloc(), &OTHER_FORMS)?)
+    Ok(look_at_all_unread(&rt, rt.alloc(), OTHER_FORMS)?)
 }
 
 /// What is replied to the question of genesis where the peer says these bytes and the link fails at these calls.

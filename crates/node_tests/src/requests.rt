@@ -40,7 +40,7 @@ fn look_at<T: Abort>(rt: &T, alloc: Global, all: &[Sent]) -> Result<(), AllocErr
     Ok(())
 }
 
-const ABOUT_THE_CHAIN: [Sent; 3] = [
+const ABOUT_THE_CHAIN: &[Sent] = &[
     Sent {
         question: Question::Genesis,
         line: "GET /base/eth/v1/beacon/genesis HTTP/1.1",
@@ -62,10 +62,10 @@ const ABOUT_THE_CHAIN: [Sent; 3] = [
 fn questions_about_the_chain_are_sent_as_the_beacon_api_has_them(
     rt: HostRuntime,
 ) -> Result<(), Fail> {
-    Ok(look_at(&rt, rt.alloc(), &ABOUT_THE_CHAIN)?)
+    Ok(look_at(&rt, rt.alloc(), ABOUT_THE_CHAIN)?)
 }
 
-const ABOUT_DUTIES: [Sent; 4] = [
+const ABOUT_DUTIES: &[Sent] = &[
     Sent {
         question: Question::Proposer(3),
         line: "GET /base/eth/v1/validator/duties/proposer/3 HTTP/1.1",
@@ -90,11 +90,11 @@ const ABOUT_DUTIES: [Sent; 4] = [
 
 #[test]
 fn questions_about_duties_are_sent_as_the_beacon_api_has_them(rt: HostRuntime) -> Result<(), Fail> {
-    Ok(look_at(&rt, rt.alloc(), &ABOUT_DUTIES)?)
+    Ok(look_at(&rt, rt.alloc(), ABOUT_DUTIES)?)
 }
 
 /// Two keys, and a reveal with graffiti of 32 zeros.
-const IN_THE_QUERY: [Sent; 2] = [
+const IN_THE_QUERY: &[Sent] = &[
     Sent {
         question: Question::Validators,
         line: "GET /base/eth/v1/beacon/states/head/validators\
@@ -114,7 +114,7 @@ const IN_THE_QUERY: [Sent; 2] = [
 
 #[test]
 fn keys_and_a_reveal_are_sent_in_the_query(rt: HostRuntime) -> Result<(), Fail> {
-    Ok(look_at(&rt, rt.alloc(), &IN_THE_QUERY)?)
+    Ok(look_at(&rt, rt.alloc(), IN_THE_QUERY)?)
 }
 
 /// Allows one key to have something signed that is no message.
@@ -238,7 +238,7 @@ struct Status {
     words: &'static str,
 }
 
-const STATUSES: [Status; 6] = [
+const STATUSES: &[Status] = &[
     Status {
         status: 200,
         words: "taken",
@@ -266,7 +266,7 @@ const STATUSES: [Status; 6] = [
 ];
 
 fn look_at_statuses<T: Abort>(rt: &T, alloc: Global, post: &Post) -> Result<(), AllocError> {
-    for status in &STATUSES {
+    for status in STATUSES {
         look_at_post(rt, alloc, post, status, &VOTE)?;
     }
     Ok(())

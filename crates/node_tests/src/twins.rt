@@ -1,6 +1,7 @@
 //! Twins of links and of beacon nodes, beside what they were made of.
 use crate::bodies;
 use crate::nodes::{node_at, reply_words};
+use beacon_node::BeaconNode;
 use edge_kit::{Link, MemLink, Root};
 use node_calls::{Answer, Ask, MemNode, Node};
 use std::alloc::{AllocError, Global};
@@ -65,14 +66,22 @@ fn a_twin_of_a_node_in_memory_answers_on_where_that_does(rt: HostRuntime) -> Res
     Ok(())
 }
 
+/// Compares what a node answers to the question whether it is syncing.
+fn look_at_syncing<T: Abort>(
+    rt: &T,
+    alloc: Global,
+    node: &mut BeaconNode<MemLink>,
+) -> Result<(), AllocError> {
+    let said = reply_words(alloc, node, &Ask::Syncing)?;
+    assert_eq!(rt; said.as_str(), "syncing true");
+    Ok(())
+}
+
 #[test]
 fn a_twin_of_a_beacon_node_is_answered_as_that_is(rt: HostRuntime) -> Result<(), Fail> {
     let alloc = rt.alloc();
     let mut first = node_at(&rt, alloc, 200, bodies::SYNCING)?;
     let mut twin = first.twin(alloc)?;
-    let said = reply_words(alloc, &mut twin, &Ask::Syncing)?;
-    assert_eq!(rt; said.as_str(), "syncing true");
-    let said = reply_words(alloc, &mut first, &Ask::Syncing)?;
-    assert_eq!(rt; said.as_str(), "syncing true");
-    Ok(())
+    look_at_syncing(&rt, alloc, &mut twin)?;
+    Ok(look_at_syncing(&rt, alloc, &mut first)?)
 }

@@ -24,7 +24,7 @@ const CHUNKS: [Root; 9] = [
 ];
 
 /// The root of so many of them under a limit.
-const ROOTS: [(usize, u64, &str); 10] = [
+const ROOTS: &[(usize, u64, &str)] = &[
     (
         0,
         0,
@@ -87,7 +87,7 @@ fn compare_chunks(rt: &impl Abort, count: usize, limit: u64, text: &str) {
 #[test]
 fn roots_of_chunks(rt: HostRuntime) {
     for (count, limit, text) in ROOTS {
-        compare_chunks(&rt, count, limit, text);
+        compare_chunks(&rt, *count, *limit, text);
     }
     assert_eq!(rt;
         merkleize(&CHUNKS[..3], 2),

@@ -60,7 +60,7 @@ fn vote(source_epoch: u64, target_epoch: u64) -> AttestationData {
 const ZERO_DOMAIN: &str = "0x01000000f5a5fd42d16a20302798ef6ed309979b43003d2320d9f0e8ea9831a9";
 
 /// The domain's kind, its epoch and its bytes, on the chain whose fork is at epoch 10.
-const DOMAINS: [(DomainKind, u64, &str); 7] = [
+const DOMAINS: &[(DomainKind, u64, &str)] = &[
     (
         DomainKind::BeaconProposer,
         9,
@@ -109,7 +109,7 @@ fn domains_by_kind_and_epoch(rt: HostRuntime) {
     let zero = zero_chain().domain(DomainKind::BeaconAttester, 0);
     assert_eq!(rt; zero, bytes_of(&rt, ZERO_DOMAIN));
     for (kind, epoch, text) in DOMAINS {
-        compare_domain(&rt, kind, epoch, text);
+        compare_domain(&rt, *kind, *epoch, text);
     }
 }
 

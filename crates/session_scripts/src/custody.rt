@@ -57,7 +57,7 @@ pub const TAKEN_IN: &str =
 * 0 closed <K1> 0 1"#;
 
 /// Scripts: what each shows in its first line, and then lines as `Session::read` of `run_doubles` has them.
-pub const CUSTODY: [&str; 9] = [
+pub const CUSTODY: &[&str] = &[
     GIVEN_UP,
     TAKEN_IN,
     r#"a keystore is imported once

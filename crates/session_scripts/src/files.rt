@@ -1,7 +1,7 @@
 //! Sessions with interchange files: merged, exported and pruned.
 
 /// Scripts: what each shows in its first line, and then lines as `Session::read` of `run_doubles` has them.
-pub const FILES: [&str; 11] = [
+pub const FILES: &[&str] = &[
     r#"of the floors of merged files the greatest holds, in whichever order they come
 > {"op":"merge","file":"<file>{'pubkey':'<K1>','signed_attestations':[],'signed_blocks':[{'slot':'100'}]}</file>"}
 < {"answer":"merged","keys":"1"}

@@ -1,7 +1,7 @@
 //! Sessions of blocks and votes.
 
 /// Scripts: what each shows in its first line, and then lines as `Session::read` of `run_doubles` has them.
-pub const SIGNING: [&str; 15] = [
+pub const SIGNING: &[&str] = &[
     r#"the same block is signed again with the same signature
 > {"op":"activate","pubkey":"<K1>"}
 < {"answer":"active"}

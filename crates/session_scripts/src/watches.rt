@@ -1,7 +1,7 @@
 //! Sessions whose keys are watched before they sign.
 
 /// Scripts: what each shows in its first line, and then lines as `Session::read` of `run_doubles` has them.
-pub const WATCHES: [&str; 7] = [
+pub const WATCHES: &[&str] = &[
     r#"a key signs once it was told not live in the two epochs after it became active
 > {"epoch":"5","op":"activate","pubkey":"<K1>"}
 < {"answer":"active"}

@@ -142,8 +142,8 @@ fn play_each_compacting<T: Threads + Wait + Sync + Abort>(
 fn a_journal_compacted_after_each_line_answers_as_one_that_is_not(
     rt: HostRuntime,
 ) -> Result<(), Fail> {
-    play_each_compacting(&rt, rt.alloc(), &SIGNING)?;
-    play_each_compacting(&rt, rt.alloc(), &FILES)?;
+    play_each_compacting(&rt, rt.alloc(), SIGNING)?;
+    play_each_compacting(&rt, rt.alloc(), FILES)?;
     Ok(())
 }
 

@@ -15,7 +15,7 @@ use validator_cli::Status;
 
 #[test]
 fn sessions_with_custody_of_keys_answer_line_by_line(rt: HostRuntime) -> Result<(), Fail> {
-    play_each(&rt, rt.alloc(), SESSION, &CUSTODY)?;
+    play_each(&rt, rt.alloc(), SESSION, CUSTODY)?;
     Ok(())
 }
 
@@ -75,14 +75,14 @@ fn play_stopped<T: Threads + Wait + Sync + Abort>(
 }
 
 /// Scripts with the number of their requests. Each has one grant, which is the first of its run wherever it is cut.
-const CUT: [(&str, usize); 2] = [(GIVEN_UP, 10), (TAKEN_IN, 6)];
+const CUT: &[(&str, usize)] = &[(GIVEN_UP, 10), (TAKEN_IN, 6)];
 
 #[test]
 fn a_session_that_is_stopped_between_requests_and_begun_again_answers_as_one(
     rt: HostRuntime,
 ) -> Result<(), Fail> {
     for (script, requests) in CUT {
-        play_stopped(&rt, rt.alloc(), script, requests)?;
+        play_stopped(&rt, rt.alloc(), script, *requests)?;
     }
     Ok(())
 }

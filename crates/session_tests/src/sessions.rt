@@ -135,13 +135,13 @@ pub fn play_each<T: Threads + Wait + Sync + Abort>(
 
 #[test]
 fn signing_sessions_answer_line_by_line(rt: HostRuntime) -> Result<(), Fail> {
-    play_each(&rt, rt.alloc(), SESSION, &SIGNING)?;
+    play_each(&rt, rt.alloc(), SESSION, SIGNING)?;
     Ok(())
 }
 
 #[test]
 fn sessions_with_files_answer_line_by_line(rt: HostRuntime) -> Result<(), Fail> {
-    play_each(&rt, rt.alloc(), SESSION, &FILES)?;
+    play_each(&rt, rt.alloc(), SESSION, FILES)?;
     Ok(())
 }
 
@@ -215,8 +215,8 @@ fn play_each_in_two<T: Threads + Wait + Sync + Abort>(
 
 #[test]
 fn two_runs_over_the_same_disks_answer_as_one(rt: HostRuntime) -> Result<(), Fail> {
-    play_each_in_two(&rt, rt.alloc(), &SIGNING)?;
-    play_each_in_two(&rt, rt.alloc(), &FILES)?;
+    play_each_in_two(&rt, rt.alloc(), SIGNING)?;
+    play_each_in_two(&rt, rt.alloc(), FILES)?;
     Ok(())
 }
 

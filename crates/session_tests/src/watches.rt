@@ -9,7 +9,7 @@ const WATCHED: &str = "validator session --genesis <G0> --watch";
 
 #[test]
 fn watched_sessions_answer_line_by_line(rt: HostRuntime) -> Result<(), Fail> {
-    play_each(&rt, rt.alloc(), WATCHED, &WATCHES)?;
+    play_each(&rt, rt.alloc(), WATCHED, WATCHES)?;
     Ok(())
 }
 

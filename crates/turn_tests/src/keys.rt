@@ -12,7 +12,7 @@ use std::test::Fail;
 use std::thread::Threads;
 
 /// Turns of slots 33 and 34, of which neither is an epoch's first: `SECOND` becomes active between them.
-const TWO_KEYS: Run = Run {
+const TWO_KEYS: &Run = &Run {
     start: AT_32 + 12,
     said: &[
         Said::Synced,
@@ -75,7 +75,7 @@ fn take_both<T: Abort + Threads + Wait + Sync>(rt: &T, alloc: Global, stage: &mu
     turn(rt, alloc, &setup, &mut held, stage);
 }
 
-const LINES: [Line; 2] = [
+const LINES: &[Line] = &[
     Line::Vote(33, "sent"),
     Line::VoteOf(34, SECOND, "nodata none"),
 ];
@@ -88,7 +88,7 @@ const LANE_ASKED: &str = "syncing data vote@33 syncing data";
 #[test]
 fn a_key_that_became_active_is_asked_for(rt: HostRuntime) -> Result<(), Fail> {
     let alloc = rt.alloc();
-    let mut stage = stage_of(&rt, alloc, &TWO_KEYS)?;
+    let mut stage = stage_of(&rt, alloc, TWO_KEYS)?;
     take_both(&rt, alloc, &mut stage);
-    Ok(look_at_end(&rt, alloc, stage, &LINES, ASKED, LANE_ASKED)?)
+    Ok(look_at_end(&rt, alloc, stage, LINES, ASKED, LANE_ASKED)?)
 }

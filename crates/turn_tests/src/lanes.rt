@@ -7,7 +7,7 @@ use std::process::Abort;
 use std::test::Fail;
 
 /// A block and two votes in slot 32, at the places 0, 1 and 2, with the first of two lanes.
-const THREE_DUTIES: Run = Run {
+const THREE_DUTIES: &Run = &Run {
     said: &[
         Said::Synced,
         Said::Fork,
@@ -20,27 +20,27 @@ const THREE_DUTIES: Run = Run {
 };
 
 /// The second lane.
-const SECOND_LANE: Run = Run {
+const SECOND_LANE: &Run = &Run {
     lane_said: &[Said::Synced, Said::Details(32)],
     ..ONE_TURN
 };
 
 /// Puts the second lane beside the first.
 fn add_second<T: Abort>(rt: &T, alloc: Global, stage: &mut Stage) -> Result<(), AllocError> {
-    let second = lane_of(rt, alloc, &SECOND_LANE)?;
+    let second = lane_of(rt, alloc, SECOND_LANE)?;
     stage.lanes.push(second)?;
     Ok(())
 }
 
 /// Two lanes, and both keys active.
 fn stage_of_two<T: Abort>(rt: &T, alloc: Global) -> Result<Stage, AllocError> {
-    let mut stage = stage_of(rt, alloc, &THREE_DUTIES)?;
+    let mut stage = stage_of(rt, alloc, THREE_DUTIES)?;
     add_second(rt, alloc, &mut stage)?;
     activate_second(rt, &mut stage);
     Ok(stage)
 }
 
-const LINES: [Line; 3] = [
+const LINES: &[Line] = &[
     Line::Block(32, "sent"),
     Line::Vote(32, "sent"),
     Line::VoteOf(32, SECOND, "sent"),
@@ -54,6 +54,6 @@ const LANE_ASKED: &str = "syncing block block@32 data vote@32* | syncing data vo
 fn the_duties_of_a_slot_are_dealt_to_the_lanes(rt: HostRuntime) -> Result<(), Fail> {
     let alloc = rt.alloc();
     let mut stage = stage_of_two(&rt, alloc)?;
-    take_turns(&rt, alloc, &THREE_DUTIES, &mut stage);
-    Ok(look_at_end(&rt, alloc, stage, &LINES, ASKED, LANE_ASKED)?)
+    take_turns(&rt, alloc, THREE_DUTIES, &mut stage);
+    Ok(look_at_end(&rt, alloc, stage, LINES, ASKED, LANE_ASKED)?)
 }

@@ -16,7 +16,7 @@ const ONE_VOTE: Run = Run {
     ..ONE_TURN
 };
 
-const VOTES: [Case; 6] = [
+const VOTES: &[Case] = &[
     // another vote of the same epoch, after a reorganisation
     Case {
         run: Run {
@@ -114,7 +114,7 @@ const ONE_BLOCK: Run = Run {
     ..ONE_TURN
 };
 
-const BLOCKS: [Case; 6] = [
+const BLOCKS: &[Case] = &[
     // no block is asked for without its reveal
     Case {
         run: Run {
@@ -181,10 +181,10 @@ const BLOCKS: [Case; 6] = [
 
 #[test]
 fn each_vote_ends_by_its_first_call_that_failed(rt: HostRuntime) -> Result<(), Fail> {
-    look_at(&rt, rt.alloc(), &VOTES)
+    look_at(&rt, rt.alloc(), VOTES)
 }
 
 #[test]
 fn each_block_ends_by_its_first_call_that_failed(rt: HostRuntime) -> Result<(), Fail> {
-    look_at(&rt, rt.alloc(), &BLOCKS)
+    look_at(&rt, rt.alloc(), BLOCKS)
 }

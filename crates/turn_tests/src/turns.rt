@@ -26,7 +26,7 @@ const TWO_TURNS: Run = Run {
     ..ONE_TURN
 };
 
-const TURNS: [Case; 5] = [
+const TURNS: &[Case] = &[
     // fork and indices are asked for in the epoch's first slot alone
     Case {
         run: TWO_TURNS,
@@ -120,5 +120,5 @@ const TURNS: [Case; 5] = [
 
 #[test]
 fn each_turn_is_taken_at_its_time(rt: HostRuntime) -> Result<(), Fail> {
-    look_at(&rt, rt.alloc(), &TURNS)
+    look_at(&rt, rt.alloc(), TURNS)
 }

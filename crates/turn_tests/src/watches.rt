@@ -44,7 +44,7 @@ fn watch_of<T: Abort>(rt: &T, desk: &mut Desk<MemDisk>) -> WatchState {
 }
 
 /// Runs, and how the watch of `KEY` stands behind each at the loop's desk.
-const WATCHES: [(Case, WatchState); 4] = [
+const WATCHES: &[(Case, WatchState)] = &[
     (
         Case {
             run: WATCHED,
@@ -141,7 +141,7 @@ fn look_at_watch<T: Abort + Threads + Wait + Sync>(
 
 #[test]
 fn watches_are_asked_about_and_nodes_may_be_down(rt: HostRuntime) -> Result<(), Fail> {
-    for (case, watch) in &WATCHES {
+    for (case, watch) in WATCHES {
         look_at_watch(&rt, rt.alloc(), case, *watch)?;
     }
     Ok(())

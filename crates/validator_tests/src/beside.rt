@@ -18,7 +18,7 @@ use std::test::Fail;
 use std::thread::Threads;
 
 /// Two votes in a slot, in a lane each.
-const TWO_LANES: Run = Run {
+const TWO_LANES: &Run = &Run {
     shows: "a lane signs and posts while another one waits in its signer",
     before: ACTIVATE_BOTH,
     options: "--lanes 2 --slots 1 --connections 0",
@@ -28,7 +28,7 @@ const TWO_LANES: Run = Run {
 };
 
 /// A vote in a slot, and a connection.
-const DUTY_AND_CALLER: Run = Run {
+const DUTY_AND_CALLER: &Run = &Run {
     shows: "a duty is done while a connection waits at the door",
     options: "--slots 1 --connections 1",
     nodes: &[ONE_VOTE],
@@ -161,11 +161,11 @@ fn look_at_lanes<T: Threads + Wait + Clock + Sync + Abort>(
     flags: &Flags,
 ) -> Result<(), Fail> {
     let words = words_of(alloc, TWO_LANES.options)?;
-    let outside = outside_of(rt, alloc, &TWO_LANES, ready_signer(alloc))?;
+    let outside = outside_of(rt, alloc, TWO_LANES, ready_signer(alloc))?;
     let outside = signing_behind_a_post(rt, alloc, outside, flags)?;
     let served = serve(rt, alloc, words.as_slice(), outside);
-    none_late(rt, &TWO_LANES, flags);
-    compare(rt, alloc, &TWO_LANES, without_lanes(alloc, served))
+    none_late(rt, TWO_LANES, flags);
+    compare(rt, alloc, TWO_LANES, without_lanes(alloc, served))
 }
 
 /// A vote is cast and a connection served, and the first signing and the first connection wait for each other.
@@ -175,11 +175,11 @@ fn look_at_loops<T: Threads + Wait + Clock + Sync + Abort>(
     flags: &Flags,
 ) -> Result<(), Fail> {
     let words = words_of(alloc, DUTY_AND_CALLER.options)?;
-    let outside = outside_of(rt, alloc, &DUTY_AND_CALLER, ready_signer(alloc))?;
+    let outside = outside_of(rt, alloc, DUTY_AND_CALLER, ready_signer(alloc))?;
     let outside = signing_beside_the_door(rt, outside, flags);
     let served = serve(rt, alloc, words.as_slice(), outside);
-    none_late(rt, &DUTY_AND_CALLER, flags);
-    compare(rt, alloc, &DUTY_AND_CALLER, behind_the_door(served))
+    none_late(rt, DUTY_AND_CALLER, flags);
+    compare(rt, alloc, DUTY_AND_CALLER, behind_the_door(served))
 }
 
 #[test]

@@ -36,7 +36,7 @@ pub const ONE_VOTE: Said = Said {
     ..OF_G0
 };
 
-const DOORS: [Run; 3] = [
+const DOORS: &[Run] = &[
     Run {
         shows: "each connection has its reply",
         options: "--slots 0 --connections 2",
@@ -68,5 +68,5 @@ const DOORS: [Run; 3] = [
 
 #[test]
 fn connections_are_served_beside_the_duties(rt: HostRuntime) -> Result<(), Fail> {
-    look_at(&rt, rt.alloc(), &DOORS)
+    look_at(&rt, rt.alloc(), DOORS)
 }

@@ -24,7 +24,7 @@ const THREE_EPOCHS: Said = Said {
     ..OF_G0
 };
 
-const EPOCHS: [Run; 1] = [Run {
+const EPOCHS: &[Run] = &[Run {
     shows: "each duty of three epochs has its line",
     before: ACTIVATE_BOTH,
     options: "--slots 96 --connections 0",
@@ -46,7 +46,7 @@ const EPOCHS: [Run; 1] = [Run {
 
 #[test]
 fn duties_of_three_epochs_are_done(rt: HostRuntime) -> Result<(), Fail> {
-    look_at(&rt, rt.alloc(), &EPOCHS)
+    look_at(&rt, rt.alloc(), EPOCHS)
 }
 
 /// A vote in each of the first two epochs.
@@ -61,7 +61,7 @@ const TWO_VOTES: Run = Run {
     ..ONE_SLOT
 };
 
-const WATCHES: [Run; 2] = [
+const WATCHES: &[Run] = &[
     TWO_VOTES,
     Run {
         shows: "with a watch it doesn't in its first epochs",
@@ -73,5 +73,5 @@ const WATCHES: [Run; 2] = [
 
 #[test]
 fn a_new_key_is_watched_where_that_is_wanted(rt: HostRuntime) -> Result<(), Fail> {
-    look_at(&rt, rt.alloc(), &WATCHES)
+    look_at(&rt, rt.alloc(), WATCHES)
 }

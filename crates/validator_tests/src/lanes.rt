@@ -16,7 +16,7 @@ pub const BOTH_VOTE: Said = Said {
 };
 
 /// A slot in which both keys are to vote, and a second node beside the first.
-const TWO_VOTES: Run = Run {
+const TWO_VOTES: &Run = &Run {
     before: ACTIVATE_BOTH,
     nodes: &[BOTH_VOTE, OF_G0],
     ..ONE_SLOT
@@ -83,7 +83,7 @@ fn look_at_lanes<T: Threads + Wait + Sync + Abort>(
     wanted: &[Left],
 ) -> Result<(), Fail> {
     let words = words_of(alloc, options)?;
-    let outside = outside_of(rt, alloc, &TWO_VOTES, keeping_signer(alloc))?;
+    let outside = outside_of(rt, alloc, TWO_VOTES, keeping_signer(alloc))?;
     let served = serve(rt, alloc, words.as_slice(), outside);
     let left = left_in_each(alloc, served.lanes)?;
     assert_eq!(rt; left.as_slice(), wanted, "{options}");

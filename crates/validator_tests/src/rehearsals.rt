@@ -11,7 +11,7 @@ use validator_cli::Status;
 
 /// The words of a rehearsal, and what it writes. The counts are those of a program that was written from the rules
 /// alone, and keeps each book apart.
-const COUNTED: [(&str, &str); 3] = [
+const COUNTED: &[(&str, &str)] = &[
     (
         "validator rehearse 1 1 0",
         "steps 0\ngranted 0\nrefused 0\nhandovers 0\nstops 0\nunsafe 0\n",

@@ -44,7 +44,7 @@ pub const ONE_SLOT: Run = Run {
     is_opened: true,
 };
 
-const STARTS: [Run; 4] = [
+const STARTS: &[Run] = &[
     Run {
         shows: "no node answers",
         before: "",
@@ -73,5 +73,5 @@ const STARTS: [Run; 4] = [
 
 #[test]
 fn a_run_begins_where_a_node_of_the_chain_answers(rt: HostRuntime) -> Result<(), Fail> {
-    look_at(&rt, rt.alloc(), &STARTS)
+    look_at(&rt, rt.alloc(), STARTS)
 }

@@ -31,7 +31,7 @@ fn run_words<T: Threads + Wait + Sync>(
 }
 
 /// Words that are no command, and how the one line that is written goes on after `validator: error: `.
-const FAULTY: [(&str, &str); 8] = [
+const FAULTY: &[(&str, &str)] = &[
     ("", ""),
     ("validator", "'validator' requires a subcommand"),
     (
@@ -103,7 +103,7 @@ fn is_one_line(bytes: &[u8]) -> bool {
 }
 
 /// Words that ask for a text, and how it begins.
-const SHOWN: [(&str, &str); 5] = [
+const SHOWN: &[(&str, &str)] = &[
     ("validator --help", HELP),
     ("validator help", HELP),
     ("validator session --help", SESSION_HELP),

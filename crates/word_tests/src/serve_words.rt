@@ -1,6 +1,6 @@
 //! Command lines of `serve`, and the options that they come to.
 use crate::words::{answer, compare, compare_each, outcome, place_words, show, tell};
-use command_line::{ListenAddress, ListenHost, Plan, ServeOptions};
+use command_line::{ListenAddress, ListenHost, Plan, ServeOptions, Usage};
 use std::alloc::{AllocError, Global};
 use std::process::Abort;
 use std::test::Fail;
@@ -33,7 +33,7 @@ pub(crate) fn options_words(alloc: Global, options: &ServeOptions) -> Result<Str
 }
 
 /// Lines of servers, each with its options in words.
-const SERVERS: [(&str, &str); 5] = [
+const SERVERS: &[(&str, &str)] = &[
     (
         PLAIN,
         "serve % at keys signer:9000 127.0.0.1:5062 secret false 18446744073709551615 18446744073709551615 4 node:5052",
@@ -58,17 +58,22 @@ const SERVERS: [(&str, &str); 5] = [
 
 #[test]
 fn servers_have_their_options(rt: HostRuntime) -> Result<(), Fail> {
-    compare_each(&rt, rt.alloc(), &SERVERS)?;
+    compare_each(&rt, rt.alloc(), SERVERS)?;
     Ok(())
+}
+
+/// Where a server answers the Keymanager API, if the plan is one.
+fn listen_in(answer: &Result<Plan, Usage>) -> Option<ListenAddress> {
+    match answer {
+        Ok(Plan::Serve(options)) => Some(options.listen),
+        _ => None,
+    }
 }
 
 /// Where the server that a line is answers the Keymanager API.
 fn listen_of(alloc: Global, line: &str) -> Result<Option<ListenAddress>, AllocError> {
     let answer = answer(alloc, line)?;
-    match &answer {
-        Ok(Plan::Serve(options)) => Ok(Some(options.listen)),
-        _ => Ok(None),
-    }
+    Ok(listen_in(&answer))
 }
 
 #[test]
@@ -106,7 +111,7 @@ fn with_word(alloc: Global, place: usize, word: &str) -> Result<String, AllocErr
 }
 
 /// Places and words that stand there in place of those of a plain server, each with a piece of what is told.
-const FAULTY: [(usize, &str, &str); 29] = [
+const FAULTY: &[(usize, &str, &str)] = &[
     (1, "--genesis=0xab", "value '0xab' for '--genesis <HEX32>'"),
     (2, "--journal=", "value '' for '--journal <PATH>'"),
     (
@@ -180,12 +185,12 @@ fn tell_each_with<T: Abort>(
 
 #[test]
 fn each_option_has_its_fault(rt: HostRuntime) -> Result<(), Fail> {
-    tell_each_with(&rt, rt.alloc(), &FAULTY)?;
+    tell_each_with(&rt, rt.alloc(), FAULTY)?;
     Ok(())
 }
 
 /// Words in front of those of a plain server, each with a piece of what is told.
-const FAULTY_IN_FRONT: [(&str, &str); 13] = [
+const FAULTY_IN_FRONT: &[(&str, &str)] = &[
     ("--fork=a", "unexpected argument '--fork'"),
     ("--watch=no", "unexpected value 'no' for '--watch'"),
     ("--watch|--watch", "cannot be used multiple times"),
@@ -238,7 +243,7 @@ fn tell_each_in_front<T: Abort>(
 
 #[test]
 fn faults_of_other_words_are_told(rt: HostRuntime) -> Result<(), Fail> {
-    tell_each_in_front(&rt, rt.alloc(), &FAULTY_IN_FRONT)?;
+    tell_each_in_front(&rt, rt.alloc(), FAULTY_IN_FRONT)?;
     Ok(())
 }
 
@@ -285,7 +290,7 @@ fn a_token_of_257_characters_is_not_told(rt: HostRuntime) -> Result<(), Fail> {
 }
 
 /// The words of a server with a fault in each value, and in place of each fault a value without one.
-const FAULTS_IN_ORDER: [(&str, &str, &str); 9] = [
+const FAULTS_IN_ORDER: &[(&str, &str, &str)] = &[
     ("--genesis=0x", "--genesis=%", "for '--genesis"),
     ("--journal=", "--journal=keys", "for '--journal"),
     ("--signer=a", "--signer=http://signer", "for '--signer"),
@@ -333,7 +338,7 @@ fn tell_each_mended<T: Abort>(
 
 #[test]
 fn the_first_fault_is_told(rt: HostRuntime) -> Result<(), Fail> {
-    tell_each_mended(&rt, rt.alloc(), &FAULTS_IN_ORDER)?;
+    tell_each_mended(&rt, rt.alloc(), FAULTS_IN_ORDER)?;
     Ok(())
 }
 

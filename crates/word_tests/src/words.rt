@@ -83,13 +83,18 @@ fn plan_words(alloc: Global, plan: &Plan) -> Result<String, AllocError> {
     }
 }
 
-/// What a line comes to, in words.
-pub(crate) fn outcome(alloc: Global, line: &str) -> Result<String, AllocError> {
-    let answer = answer(alloc, line)?;
-    match &answer {
+/// An answer in words.
+fn answer_words(alloc: Global, answer: &Result<Plan, Usage>) -> Result<String, AllocError> {
+    match answer {
         Ok(planned) => plan_words(alloc, planned),
         Err(usage) => format!(in alloc; "usage {}", usage.as_str()),
     }
+}
+
+/// What a line comes to, in words.
+pub(crate) fn outcome(alloc: Global, line: &str) -> Result<String, AllocError> {
+    let answer = answer(alloc, line)?;
+    answer_words(alloc, &answer)
 }
 
 /// Compares what a line comes to with words, in which a `%` stands for the root.
@@ -118,7 +123,7 @@ pub(crate) fn compare_each<T: Abort>(
 }
 
 /// Lines of sessions, each with its chain, its journal, its fork, whether it has a service and whether it has a watch.
-const SESSIONS: [(&str, &str); 5] = [
+const SESSIONS: &[(&str, &str)] = &[
     (
         "session|--genesis|%",
         "session % nowhere 00000000 00000000 0 false false",
@@ -143,12 +148,12 @@ const SESSIONS: [(&str, &str); 5] = [
 
 #[test]
 fn sessions_have_their_genesis_and_fork(rt: HostRuntime) -> Result<(), Fail> {
-    compare_each(&rt, rt.alloc(), &SESSIONS)?;
+    compare_each(&rt, rt.alloc(), SESSIONS)?;
     Ok(())
 }
 
 /// Lines with a watch and without.
-const WATCHES: [(&str, &str); 3] = [
+const WATCHES: &[(&str, &str)] = &[
     (
         "session|--genesis|%",
         "session % nowhere 00000000 00000000 0 false false",
@@ -165,12 +170,12 @@ const WATCHES: [(&str, &str); 3] = [
 
 #[test]
 fn a_session_has_a_watch_where_it_is_asked_for(rt: HostRuntime) -> Result<(), Fail> {
-    compare_each(&rt, rt.alloc(), &WATCHES)?;
+    compare_each(&rt, rt.alloc(), WATCHES)?;
     Ok(())
 }
 
 /// Lines that name a journal, each with its command, its chain and its path.
-const JOURNALS: [(&str, &str); 6] = [
+const JOURNALS: &[(&str, &str)] = &[
     (
         "session|--genesis=%|--journal|keys",
         "session % at keys 00000000 00000000 0 false false",
@@ -187,12 +192,12 @@ const JOURNALS: [(&str, &str); 6] = [
 
 #[test]
 fn journals_have_their_paths(rt: HostRuntime) -> Result<(), Fail> {
-    compare_each(&rt, rt.alloc(), &JOURNALS)?;
+    compare_each(&rt, rt.alloc(), JOURNALS)?;
     Ok(())
 }
 
 /// Lines that are no command, each with a piece of what is told.
-const FAULTY: [(&str, &str); 29] = [
+const FAULTY: &[(&str, &str)] = &[
     ("", "requires a subcommand"),
     ("sign", "unrecognized subcommand 'sign'"),
     ("session", "not provided:\n  --genesis <HEX32>"),
@@ -306,7 +311,7 @@ fn tell_each<T: Abort>(rt: &T, alloc: Global, rows: &[(&str, &str)]) -> Result<(
 
 #[test]
 fn faulty_words_are_usage(rt: HostRuntime) -> Result<(), Fail> {
-    tell_each(&rt, rt.alloc(), &FAULTY)?;
+    tell_each(&rt, rt.alloc(), FAULTY)?;
     Ok(())
 }
 
@@ -430,7 +435,7 @@ fn show_each<T: Abort>(rt: &T, alloc: Global, rows: &[(&str, &str)]) -> Result<(
 }
 
 /// Lines, each with what it shows.
-const SHOWN: [(&str, &str); 9] = [
+const SHOWN: &[(&str, &str)] = &[
     ("--help", SCREEN),
     ("-h", SCREEN),
     ("help", SCREEN),
@@ -444,6 +449,6 @@ const SHOWN: [(&str, &str); 9] = [
 
 #[test]
 fn help_and_version_are_shown(rt: HostRuntime) -> Result<(), Fail> {
-    show_each(&rt, rt.alloc(), &SHOWN)?;
+    show_each(&rt, rt.alloc(), SHOWN)?;
     Ok(())
 }
