@@ -1,0 +1,181 @@
+use edge_kit::{Items, MemSink, PubKey, Root};
+use edge_system::Reading;
+use interchange_io::{FILE_LIMIT, ReadFault, in_written_order, read, write};
+use journal_cases::{adapters, compactions, endings, interchanges, openings};
+use program_end::{close, finish};
+use record_journal::CompactFault;
+use slash_defs::File;
+use std::test::Fail;
+
+#[test]
+fn a_reader_is_a_source(rt: HostRuntime) {
+    let bytes: &[u8] = b"abcdefg";
+    let (step, calls) = (3, 0);
+    let halting = adapters::Halting {
+        inner: bytes,
+        step,
+        calls,
+    };
+    let mut source = Reading::new(halting, &rt);
+    for (answer, front) in adapters::READS {
+        adapters::read_so(&rt, &mut source, answer, front);
+    }
+}
+
+#[test]
+fn a_writer_is_a_sink(rt: HostRuntime) {
+    let mut held = [0; 5];
+    adapters::write_each(&rt, &mut held);
+    assert!(rt; held == *b"abcde");
+}
+
+#[test]
+fn a_journal_is_compacted_and_opened_again(rt: HostRuntime) -> Result<(), Fail> {
+    let disks = compactions::compacted_twice(&rt, rt.alloc())?;
+    compactions::look_at_disks(&rt, &disks);
+    let journal = compactions::opened_again(rt.alloc(), disks)?;
+    compactions::look_at_journal(&rt, &journal)
+}
+
+#[test]
+fn no_generation_stands_behind_the_last(rt: HostRuntime) -> Result<(), Fail> {
+    let refused = Err(CompactFault::LastGeneration);
+    compactions::compact_behind(&rt, rt.alloc(), u64::MAX, refused)?;
+    compactions::compact_behind(&rt, rt.alloc(), u64::MAX - 1, Ok((56, 166)))
+}
+
+// Opening two empty disks makes 9 calls of the first, of which 3 are writes and 4 syncs, and an append 4: a write (9),
+// a sync, the gate's write (11) and its sync.
+#[test]
+fn every_stop_of_an_append_leaves_a_journal(rt: HostRuntime) -> Result<(), Fail> {
+    for call in 0..15u64 {
+        compactions::stop_append_at(&rt, rt.alloc(), call)?;
+    }
+    Ok(())
+}
+
+// Opening makes a sync, a length and a read, and a compaction these again; where the gate isn't closed, or there is no
+// more than a byte, a write (6) and a sync; then a cut, a write and a sync, and the gate's write, of the number in the
+// table, and its sync.
+#[test]
+fn every_stop_of_a_compaction_leaves_a_journal(rt: HostRuntime) -> Result<(), Fail> {
+    for second in compactions::SECONDS {
+        compactions::stop_compactions(&rt, rt.alloc(), second)?;
+    }
+    Ok(())
+}
+
+#[test]
+fn each_line_closes_an_output(rt: HostRuntime) -> Result<(), Fail> {
+    let alloc = rt.alloc();
+    for (place, (code, wanted)) in endings::LINES.iter().enumerate() {
+        let mut out = MemSink::new(alloc, 256, Vec::new(alloc))?;
+        let status = close(alloc, &mut out, &endings::line_at(alloc, place)?);
+        assert_eq!(rt; status.code(), *code);
+        let held = out.into_bytes();
+        assert!(rt; held.as_slice() == wanted.as_bytes(), "at {wanted}");
+    }
+    Ok(())
+}
+
+#[test]
+fn an_output_without_room_holds_a_front(rt: HostRuntime) -> Result<(), Fail> {
+    let alloc = rt.alloc();
+    let mut out = MemSink::new(alloc, 6, Vec::new(alloc))?;
+    assert_eq!(rt; finish(&mut out, "merged 1\n").code(), 4);
+    let held = out.into_bytes();
+    assert!(rt; held.as_slice() == b"merged".as_slice());
+    Ok(())
+}
+
+#[test]
+fn each_text_has_its_outcome(rt: HostRuntime) -> Result<(), Fail> {
+    let alloc = rt.alloc();
+    for (depth, wanted) in [
+        (0, "the file is no JSON value"),
+        (127, "`file` is missing or of another kind"),
+        (128, "the file is no JSON value"),
+    ] {
+        let found = interchanges::outcome(alloc, interchanges::nested(alloc, depth)?.as_bytes())?;
+        assert_eq!(rt; found.as_str(), wanted, "at {depth}");
+    }
+    let found = interchanges::outcome(alloc, b"{\"\xff\":1}")?;
+    assert_eq!(rt; found.as_str(), "the file is no UTF-8 text");
+    let too_long = ReadFault::TooLong(FILE_LIMIT + 1).to_string(alloc)?;
+    assert_eq!(rt;
+        too_long.as_str(),
+        "the file has 268435457 bytes, more than are read"
+    );
+    Ok(())
+}
+
+#[test]
+fn a_file_is_put_in_written_order(rt: HostRuntime) -> Result<(), Fail> {
+    let alloc = rt.alloc();
+    let (early, late) = (PubKey([1; 48]), PubKey([2; 48]));
+    let mut books = Vec::new(alloc);
+    books.push((late, interchanges::book(alloc, &[9])?))?;
+    books.push((early, interchanges::book(alloc, &[7, 3, 7])?))?;
+    let file = File {
+        genesis: Root([5; 32]),
+        books: Items::from_vec(books),
+    };
+    let sorted = in_written_order(alloc, &file)?;
+    let text = write(alloc, &file)?;
+    let Ok(read) = read(alloc, text.as_slice())? else {
+        return Err(Fail::new("what was written is not read"));
+    };
+    for file in [&sorted, &read] {
+        assert_eq!(rt; file.genesis, Root([5; 32]));
+        let [(first, few), (second, one)] = file.books.as_slice() else {
+            return Err(Fail::new("not both keys"));
+        };
+        assert_eq!(rt; *first, early);
+        assert_eq!(rt;
+            few.blocks.as_slice(),
+            interchanges::book(alloc, &[3, 7])?.blocks.as_slice()
+        );
+        assert_eq!(rt; *second, late);
+        assert_eq!(rt;
+            one.blocks.as_slice(),
+            interchanges::book(alloc, &[9])?.blocks.as_slice()
+        );
+    }
+    Ok(())
+}
+
+#[test]
+fn each_way_of_damage_is_named(rt: HostRuntime) -> Result<(), Fail> {
+    openings::open_each(&rt, rt.alloc(), openings::DAMAGED)
+}
+
+#[test]
+fn a_generation_stands_alone_and_first_or_is_damage(rt: HostRuntime) -> Result<(), Fail> {
+    openings::open_each(&rt, rt.alloc(), openings::GENERATIONS)
+}
+
+#[test]
+fn the_fault_of_the_first_file_comes_first(rt: HostRuntime) -> Result<(), Fail> {
+    for pair in openings::PAIRS {
+        let fault = openings::fault_of_pair(rt.alloc(), pair)?;
+        assert_eq!(rt; fault, pair.fault);
+    }
+    Ok(())
+}
+
+#[test]
+fn what_stands_behind_a_closed_gate_is_ignored(rt: HostRuntime) -> Result<(), Fail> {
+    for whole in openings::SHUT {
+        openings::look_at_whole(&rt, rt.alloc(), whole)?;
+    }
+    Ok(())
+}
+
+// The first file has two payloads and the second one.
+#[test]
+fn the_greater_generation_is_current_and_the_first_at_a_tie(rt: HostRuntime) -> Result<(), Fail> {
+    for tie in openings::TIES {
+        openings::look_at_tie(&rt, rt.alloc(), tie)?;
+    }
+    Ok(())
+}

@@ -1,0 +1,22 @@
+//! Tests of the parts below the desk: locks, roots, messages and calls, records, batches, journals, words, nodes and
+//! duties' schedules. Tables, doubles and what compares stand in the crates of cases, a crate for each.
+#![tactic(auto)]
+
+#[cfg(test)]
+mod duties;
+#[cfg(test)]
+mod journals;
+#[cfg(test)]
+mod locks;
+#[cfg(test)]
+mod nodes;
+#[cfg(test)]
+mod records;
+#[cfg(test)]
+mod replays;
+#[cfg(test)]
+mod roots;
+#[cfg(test)]
+mod wires;
+#[cfg(test)]
+mod words;
