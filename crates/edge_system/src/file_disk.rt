@@ -34,6 +34,13 @@ impl<R: Files<File = File> + Eprint + Drop> FileDisk<R> {
             faults: 0,
         }
     }
+
+    /// How many calls have failed.
+    pub fn faults(&self) -> u64
+        ensures { result ≡ self.now.faults }
+    {
+        self.faults
+    }
 }
 
 // Opens a file for reading and writing, creates it where it is absent, locks it, and syncs its directory.
@@ -165,120 +172,5 @@ impl<R: Files<File = File> + Eprint + Drop> Disk for FileDisk<R> {
         let file = self.take()?;
         let done = file.sync_all();
         self.give_back(file, done)
-    }
-}
-
-#[cfg(test)]
-mod tests {
-    use super::*;
-    use std::alloc::{AllocError, Global};
-    use std::fs;
-    use std::process::Abort;
-    use std::test::Fail;
-
-    const NAME: &str = "edge_system_file_disk.tmp";
-
-    /// The disk of a path.
-    fn disk_at<R: Files<File = File> + Eprint + Drop>(
-        alloc: Global,
-        handle: R,
-        path: &str,
-    ) -> Result<FileDisk<R>, AllocError> {
-        let path = String::from_str(alloc, path)?;
-        Ok(FileDisk::new(handle, path))
-    }
-
-    /// Compares what a disk says of its length with this.
-    fn look_at_len<T: Abort, D: Disk>(rt: &T, disk: &mut D, wanted: Result<u64, Failed>) {
-        assert_eq!(rt; disk.len(), wanted);
-    }
-
-    /// Compares what a disk says of a sync with this.
-    fn look_at_sync<T: Abort, D: Disk>(rt: &T, disk: &mut D, wanted: Result<(), Failed>) {
-        assert_eq!(rt; disk.sync(), wanted);
-    }
-
-    /// Writes bytes at a place.
-    fn write_at<T: Abort, D: Disk>(rt: &T, disk: &mut D, at: u64, bytes: &[u8]) {
-        assert_eq!(rt; disk.write_at(at, bytes), Ok(()));
-    }
-
-    /// Reads what was written, with zeros between.
-    fn read_back<T: Abort, D: Disk>(rt: &T, disk: &mut D) {
-        let mut buf = [9u8; 8];
-        assert_eq!(rt; disk.read(0, &mut buf), Ok(6));
-        assert_eq!(rt; buf, [97, 98, 99, 0, 0, 122, 9, 9]);
-    }
-
-    /// Cuts a disk.
-    fn cut<T: Abort, D: Disk>(rt: &T, disk: &mut D) {
-        assert_eq!(rt; disk.cut(2), Ok(()));
-    }
-
-    /// Writes a disk, reads it and cuts it.
-    fn use_disk<T: Abort, D: Disk>(rt: &T, disk: &mut D) {
-        write_at(rt, disk, 0, b"abc");
-        write_at(rt, disk, 5, b"z");
-        look_at_sync(rt, disk, Ok(()));
-        read_back(rt, disk);
-        cut(rt, disk);
-    }
-
-    /// Opens the file again.
-    fn open_again<T: Abort, R: Files<File = File> + Eprint + Drop>(
-        rt: &T,
-        alloc: Global,
-        handle: R,
-    ) -> Result<(), AllocError> {
-        let mut again = disk_at(alloc, handle, NAME)?;
-        look_at_len(rt, &mut again, Ok(2));
-        Ok(())
-    }
-
-    /// Opens the file beside the disk that holds it, and again behind its end.
-    fn open_beside<T: Abort, R: Files<File = File> + Eprint + Copy + Drop>(
-        rt: &T,
-        alloc: Global,
-        handle: R,
-        disk: FileDisk<R>,
-    ) -> Result<(), AllocError> {
-        let mut second = disk_at(alloc, handle, NAME)?;
-        look_at_len(rt, &mut second, Err(Failed));
-        drop(disk);
-        look_at_len(rt, &mut second, Err(Failed));
-        open_again(rt, alloc, handle)
-    }
-
-    /// Opens the file, uses it, and opens it beside and again.
-    fn open<T: Abort, R: Files<File = File> + Eprint + Copy + Drop>(
-        rt: &T,
-        alloc: Global,
-        handle: R,
-    ) -> Result<(), AllocError> {
-        let mut disk = disk_at(alloc, handle, NAME)?;
-        use_disk(rt, &mut disk);
-        open_beside(rt, alloc, handle, disk)
-    }
-
-    /// Opens a file of a directory that isn't there.
-    fn open_absent<T: Abort, R: Files<File = File> + Eprint + Drop>(
-        rt: &T,
-        alloc: Global,
-        handle: R,
-    ) -> Result<(), AllocError> {
-        let mut absent = disk_at(alloc, handle, "no/such/file")?;
-        look_at_sync(rt, &mut absent, Err(Failed));
-        look_at_len(rt, &mut absent, Err(Failed));
-        assert_eq!(rt; absent.faults, 2);
-        Ok(())
-    }
-
-    #[test]
-    fn a_file_is_a_disk(rt: HostRuntime) -> Result<(), Fail> {
-        let _ = fs::remove_file(&rt, NAME);
-        open(&rt, rt.alloc(), &rt)?;
-        fs::remove_file(&rt, NAME)?;
-        open_absent(&rt, rt.alloc(), &rt)?;
-        Ok(())
     }
 }

@@ -5,8 +5,6 @@
 mod adapters;
 mod address;
 mod file_disk;
-#[cfg(test)]
-mod looks;
 mod tcp_door;
 mod tcp_link;
 mod tcp_stream;

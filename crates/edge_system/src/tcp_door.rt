@@ -17,8 +17,8 @@ use std::time::Duration;
 const LIMIT_SECONDS: u64 = 10;
 
 /// A door at an address, or a host's name, and a port, with a count of its failures. It listens from the first
-/// `accept` on. What the system says of a failure is told on standard error. A connection that ends while it is
-/// accepted is passed over.
+/// `listen` or `accept` on. What the system says of a failure is told on standard error. A connection that ends
+/// while it is accepted is passed over.
 #[derive(Drop)]
 pub struct TcpDoor<N: Net + Eprint + Drop> {
     alloc: Global,
@@ -52,17 +52,61 @@ impl<N: Net + Eprint + Drop> TcpDoor<N> {
         }
     }
 
+    /// How many calls have failed.
+    pub fn faults(&self) -> u64
+        ensures { result ≡ self.now.faults }
+    {
+        self.faults
+    }
+
+    /// Listens from now on, where it doesn't yet, so that a port that is taken is known before the first `accept`.
+    /// A failure is counted and told as that of `accept` is.
+    pub fn listen(&mut self) -> Result<(), Failed>
+        ensures cause { HasCause self.old.faults self.new.faults result }
+    {
+        let opened = self.open();
+        self.counted(opened)
+    }
+
+    // Listens from now on.
+    fn open(&mut self) -> io::Result<()>
+        ensures { self.new.faults ≡ self.old.faults }
+    {
+        let listener = self.take()?;
+        self.listener = Some(listener);
+        Ok(())
+    }
+
+    // The listener for one call, which listens where none did yet.
+    fn take(&mut self) -> io::Result<N::Listener>
+        ensures { self.new.faults ≡ self.old.faults }
+    {
+        match self.listener.take() {
+            Some(listener) => Ok(listener),
+            None => TcpListener::bind(&self.handle, (self.host.as_str(), self.port)),
+        }
+    }
+
     // The next connection that didn't end while it was accepted, of the listener, which listens from now on.
     fn next(&mut self) -> io::Result<N::Stream>
         ensures { self.new.faults ≡ self.old.faults }
     {
-        let listener = match self.listener.take() {
-            Some(listener) => listener,
-            None => TcpListener::bind(&self.handle, (self.host.as_str(), self.port))?,
-        };
+        let listener = self.take()?;
         let next = next_of(&listener);
         self.listener = Some(listener);
         next
+    }
+
+    // What the system answered, whose failure is counted and told.
+    fn counted<T>(&mut self, done: io::Result<T>) -> Result<T, Failed>
+        ensures same { result_ok result ≡ result_ok done }
+        ensures cause { HasCause self.old.faults self.new.faults result }
+    {
+        let address = Address {
+            host: &self.host,
+            port: self.port,
+        };
+        counted(done, &self.handle, address, &mut self.faults)
     }
 }
 
@@ -99,11 +143,7 @@ impl<N: Net + Eprint + Drop> Door for TcpDoor<N> {
 
     fn accept(&mut self) -> Result<Option<TcpConn<N::Stream>>, Failed> {
         let next = self.next();
-        let address = Address {
-            host: &self.host,
-            port: self.port,
-        };
-        let stream = counted(next, &self.handle, address, &mut self.faults)?;
+        let stream = self.counted(next)?;
         Ok(Some(TcpConn {
             stream: limited(self.alloc, stream, Duration::from_secs(LIMIT_SECONDS)).ok(),
             faults: 0,
@@ -114,6 +154,13 @@ impl<N: Net + Eprint + Drop> Door for TcpDoor<N> {
 }
 
 impl<S: Read + Write + Drop> TcpConn<S> {
+    /// How many calls have failed.
+    pub fn faults(&self) -> u64
+        ensures { result ≡ self.now.faults }
+    {
+        self.faults
+    }
+
     // What the system answered, whose failure is counted.
     fn counted<T>(&mut self, done: io::Result<T>) -> Result<T, Failed>
         ensures same { result_ok result ≡ result_ok done }
@@ -165,163 +212,5 @@ impl<S: Read + Write + Drop> Link for TcpConn<S> {
             stream: None,
             faults: 0,
         })
-    }
-}
-
-#[cfg(test)]
-mod tests {
-    use super::*;
-    use crate::looks::{look_at_connect, look_at_hang_up, look_at_recv, look_at_send, speak};
-    use std::net::TcpStream;
-    use std::process::Abort;
-    use std::test::Fail;
-
-    /// A door at a port of this machine.
-    fn door_at<N: Net + Eprint + Drop>(
-        alloc: Global,
-        handle: N,
-        port: u16,
-    ) -> Result<TcpDoor<N>, AllocError> {
-        let host = String::from_str(alloc, "127.0.0.1")?;
-        Ok(TcpDoor::new(alloc, handle, host, port))
-    }
-
-    /// A door at the port of a listener.
-    fn door_of<N: Net + Eprint + Drop, L: OpenListener>(
-        alloc: Global,
-        handle: N,
-        listener: &L,
-    ) -> io::Result<TcpDoor<N>> {
-        let port = listener.local_addr()?.port();
-        let door = door_at(alloc, handle, port)?;
-        Ok(door)
-    }
-
-    /// Accepts at a door that can't be opened.
-    fn fail_to_accept<T: Abort, D: Door>(rt: &T, door: &mut D)
-    where
-        D::Conn: Drop,
-    {
-        assert!(rt; door.accept().is_err());
-    }
-
-    /// A door at a port that another listener holds while the door tries to.
-    fn shut_door<T: Abort, N: Net + Eprint + Copy + Drop>(
-        rt: &T,
-        alloc: Global,
-        handle: N,
-    ) -> io::Result<TcpDoor<N>> {
-        let free = TcpListener::bind(&handle, "127.0.0.1:0")?;
-        let mut door = door_of(alloc, handle, &free)?;
-        fail_to_accept(rt, &mut door);
-        Ok(door)
-    }
-
-    /// Listens at the port of that door.
-    fn listen<N: Net + Eprint + Drop>(door: &mut TcpDoor<N>) -> io::Result<()> {
-        let listener = TcpListener::bind(&door.handle, ("127.0.0.1", door.port))?;
-        door.listener = Some(listener);
-        Ok(())
-    }
-
-    /// A peer that connects to a port and says a byte.
-    fn peer_at<N: Net>(handle: &N, port: u16) -> io::Result<N::Stream> {
-        let mut peer = TcpStream::connect(handle, ("127.0.0.1", port))?;
-        peer.write_all(b"a")?;
-        Ok(peer)
-    }
-
-    /// Receives that byte.
-    fn hear<T: Abort, L: Link>(rt: &T, conn: &mut L) {
-        let byte = look_at_recv(rt, conn, Ok(1));
-        assert_eq!(rt; byte, *b"a");
-    }
-
-    /// Tries each call of a connection that is not there.
-    fn try_each<T: Abort, L: Link>(rt: &T, conn: &mut L) {
-        look_at_send(rt, conn, b"z", Err(Failed));
-        let _ = look_at_recv(rt, conn, Err(Failed));
-        look_at_connect(rt, conn, Err(Failed));
-    }
-
-    /// Tries each call of the twin of a connection.
-    fn try_twin<T: Abort, S: Read + Write + Drop>(
-        rt: &T,
-        alloc: Global,
-        conn: &TcpConn<S>,
-    ) -> Result<(), AllocError> {
-        let mut twin = conn.twin(alloc)?;
-        try_each(rt, &mut twin);
-        assert_eq!(rt; twin.faults, 3);
-        Ok(())
-    }
-
-    /// Ends a connection, and tries its calls.
-    fn hang_up<T: Abort, S: Read + Write + Drop>(rt: &T, conn: &mut TcpConn<S>) {
-        look_at_hang_up(rt, conn);
-        look_at_send(rt, conn, b"z", Err(Failed));
-        look_at_connect(rt, conn, Err(Failed));
-        assert_eq!(rt; conn.faults, 2);
-    }
-
-    /// Talks with a peer over a connection.
-    fn talk<T: Abort, S: Read + Write + Drop>(
-        rt: &T,
-        alloc: Global,
-        conn: &mut TcpConn<S>,
-        peer: &mut S,
-    ) -> io::Result<()> {
-        hear(rt, conn);
-        try_twin(rt, alloc, conn)?;
-        speak(rt, conn, peer, *b"z")?;
-        hang_up(rt, conn);
-        Ok(())
-    }
-
-    /// The connection that a door accepts next.
-    fn accepted<T: Abort, D: Door>(rt: &T, door: &mut D) -> Option<D::Conn>
-    where
-        D::Conn: Drop,
-    {
-        let accepted = door.accept();
-        assert!(rt; matches!(accepted, Ok(Some(_))));
-        match accepted {
-            Ok(conn) => conn,
-            Err(Failed) => None,
-        }
-    }
-
-    /// Accepts a connection of a peer, and talks over it.
-    fn serve<T: Abort, N: Net + Eprint + Drop>(
-        rt: &T,
-        alloc: Global,
-        door: &mut TcpDoor<N>,
-        peer: &mut N::Stream,
-    ) -> io::Result<()> {
-        if let Some(mut conn) = accepted(rt, door) {
-            talk(rt, alloc, &mut conn, peer)?;
-            door.finish(conn);
-        }
-        Ok(())
-    }
-
-    /// Opens a door, and accepts a connection of a peer that it has.
-    fn open<T: Abort, N: Net + Eprint + Copy + Drop>(
-        rt: &T,
-        alloc: Global,
-        handle: N,
-        door: &mut TcpDoor<N>,
-    ) -> io::Result<()> {
-        listen(door)?;
-        let mut peer = peer_at(&handle, door.port)?;
-        serve(rt, alloc, door, &mut peer)
-    }
-
-    #[test]
-    fn a_listener_is_a_door(rt: HostRuntime) -> Result<(), Fail> {
-        let mut door = shut_door(&rt, rt.alloc(), &rt)?;
-        open(&rt, rt.alloc(), &rt, &mut door)?;
-        assert_eq!(rt; door.faults, 1);
-        Ok(())
     }
 }
