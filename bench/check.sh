@@ -8,9 +8,9 @@ set -eu
 work=$(mktemp -d)
 trap 'rm -rf "$work"' EXIT
 
-[ -x crates/check_bench/out/check_bench ] || (cd crates/check_bench && rt run <stdin >"$work/build" 2>&1) || { cat "$work/build"; exit 1; }
+[ -x crates/benches/out/benches ] || (cd crates/benches && rt run -- all <stdin >"$work/build" 2>&1) || { cat "$work/build"; exit 1; }
 
-python3 - crates/check_bench/out/check_bench <<'PY'
+python3 - crates/benches/out/benches <<'PY'
 import random, sqlite3, subprocess, sys, time
 program = sys.argv[1]
 CHECKS = 200000
@@ -19,7 +19,7 @@ KEY = b"\x11" * 48
 def program_runs(kept):
     best = None
     for _ in range(3):
-        passed, checking, merging = map(int, subprocess.run([program, str(kept), str(CHECKS)], stdout=subprocess.PIPE, check=True).stdout.split())
+        passed, checking, merging = map(int, subprocess.run([program, "check", str(kept), str(CHECKS)], stdout=subprocess.PIPE, check=True).stdout.split())
         if passed != CHECKS:
             raise SystemExit(f"{passed} of {CHECKS} pass")
         best = (checking, merging) if best is None else (min(best[0], checking), min(best[1], merging))
@@ -55,5 +55,5 @@ for kept in (10, 1000, 1000000):
     checking, merging = program_runs(kept)
     one, all_at_once = sqlite_runs(kept)
     print(f"{kept:>9,} kept votes: {checking:,.0f} ns a check; SQLite {one:,.0f} ns a statement, {all_at_once:,.0f} ns a lookup within one; merging 1,000 more {merging:,.2f} ms")
-print("random records that agree with a plain walk:", subprocess.run([program, "10000"], stdout=subprocess.PIPE, check=True).stdout.decode().strip())
+print("random records that agree with a plain walk:", subprocess.run([program, "check", "10000"], stdout=subprocess.PIPE, check=True).stdout.decode().strip())
 PY

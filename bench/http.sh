@@ -8,9 +8,9 @@ set -eu
 work=$(mktemp -d)
 trap 'rm -rf "$work"' EXIT
 
-[ -x crates/http_bench/out/http_bench ] || (cd crates/http_bench && rt run <stdin >"$work/build" 2>&1) || { cat "$work/build"; exit 1; }
+[ -x crates/benches/out/benches ] || (cd crates/benches && rt run -- all <stdin >"$work/build" 2>&1) || { cat "$work/build"; exit 1; }
 
-python3 - crates/http_bench/out/http_bench <<'PY'
+python3 - crates/benches/out/benches <<'PY'
 import http.client, http.server, io, subprocess, sys, time
 program = sys.argv[1]
 
@@ -70,7 +70,7 @@ def python_seconds(read, rest, times, size):
 def our_seconds(text, times, size):
     best = None
     for _ in range(3):
-        done = subprocess.run([program, str(times)], input=text, capture_output=True, check=True)
+        done = subprocess.run([program, "http", str(times)], input=text, capture_output=True, check=True)
         total, nanos = map(int, done.stdout.split())
         assert total == size * times, (total, size, times)
         took = nanos / 1e9 / times

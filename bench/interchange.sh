@@ -12,8 +12,8 @@ here=$(pwd)
 work=$(mktemp -d)
 trap 'rm -rf "$work"' EXIT
 
-program=crates/interchange_bench/out/interchange_bench
-[ -x "$program" ] || (cd crates/interchange_bench && rt run -- lines <stdin >"$work/build" 2>&1) || { cat "$work/build"; exit 1; }
+program=crates/benches/out/benches
+[ -x "$program" ] || (cd crates/benches && rt run -- all <stdin >"$work/build" 2>&1) || { cat "$work/build"; exit 1; }
 
 cat >"$work/rows.py" <<'PY'
 ROOT, KEY = "0x%064x", "0x%096x"
@@ -71,8 +71,8 @@ measure() {
 for name in many_keys one_key slots; do
     file="$work/$name.json"
     echo "$name: $(($(wc -c <"$file") / 1000000)) MB"
-    measure "$file" "read" sh -c 'exec "$1" read <"$2"' sh "$here/$program" "$file"
-    measure "$file" "read and written back" sh -c 'exec "$1" <"$2"' sh "$here/$program" "$file"
+    measure "$file" "read" sh -c 'exec "$1" interchange read <"$2"' sh "$here/$program" "$file"
+    measure "$file" "read and written back" sh -c 'exec "$1" interchange <"$2"' sh "$here/$program" "$file"
     measure "$file" "python3 json.load" python3 -c 'import json, sys; json.load(open(sys.argv[1]))' "$file"
     if command -v jq >/dev/null; then measure "$file" "jq" jq '.data | length' "$file"; fi
     measure "$file" "sqlite3 inserts" python3 "$work/import.py" "$name" "$part" "$work/$name.db"

@@ -8,9 +8,9 @@
 # Usage: bench/interchange_reference.sh [FILES] [SEED]: so many files (10,000) of random numbers from this seed (1).
 set -eu
 cd "$(dirname "$0")/.."
-program=$PWD/crates/interchange_bench/out/interchange_bench
-[ -x "$program" ] || (cd crates/interchange_bench && rt run -- lines <stdin >/dev/null 2>&1) || true
-[ -x "$program" ] || { echo "the program is not built: run 'rt run' in crates/interchange_bench" >&2; exit 1; }
+program=$PWD/crates/benches/out/benches
+[ -x "$program" ] || (cd crates/benches && rt run -- all <stdin >/dev/null 2>&1) || true
+[ -x "$program" ] || { echo "the program is not built: run 'rt run' in crates/benches" >&2; exit 1; }
 python3 - "$program" "${1:-10000}" "${2:-1}" <<'PY'
 import json, math, random, re, subprocess, sys
 program, count, seed = sys.argv[1], int(sys.argv[2]), int(sys.argv[3])
@@ -242,10 +242,10 @@ for data in files:
         wanted.append(told.encode("utf-8"))
         continue
     if is_read: data = data.replace(b",", b"\n,\n") if b'"' in data and chance(0.5) and outcome(data.replace(b",", b"\n,\n"))[0] == told else data
-    ran = subprocess.run([program], input=data, capture_output=True)
+    ran = subprocess.run([program, "interchange"], input=data, capture_output=True)
     found = (ran.stdout if is_read else ran.stderr).decode("utf-8")
     if ran.returncode != (0 if is_read else 1) or found != (told if is_read else told + "\n"): differs(data, told, found)
-found = subprocess.run([program, "lines"], input=b"\n".join(lines) + b"\n", capture_output=True, check=True).stdout.split(b"\n")[:-1]
+found = subprocess.run([program, "interchange", "lines"], input=b"\n".join(lines) + b"\n", capture_output=True, check=True).stdout.split(b"\n")[:-1]
 for data, told, line in zip(lines, wanted, found):
     if told != line: differs(data, told, line)
 if len(found) != len(wanted): differs(b"", len(wanted), len(found))

@@ -7,9 +7,9 @@ set -eu
 work=$(mktemp -d)
 trap 'rm -rf "$work"' EXIT
 
-[ -x crates/roots_bench/out/roots_bench ] || (cd crates/roots_bench && rt run <stdin >"$work/build" 2>&1) || { cat "$work/build"; exit 1; }
+[ -x crates/benches/out/benches ] || (cd crates/benches && rt run -- all <stdin >"$work/build" 2>&1) || { cat "$work/build"; exit 1; }
 
-python3 - "$work" crates/roots_bench/out/roots_bench <<'PY'
+python3 - "$work" crates/benches/out/benches <<'PY'
 import hashlib, json, subprocess, sys, time
 work, program = sys.argv[1], sys.argv[2]
 TIMES = 100
@@ -92,7 +92,7 @@ text = json.dumps(value).encode()
 
 def run(given):
     began = time.perf_counter()
-    done = subprocess.run([program], input=given, stdout=subprocess.PIPE, check=True)
+    done = subprocess.run([program, "roots"], input=given, stdout=subprocess.PIPE, check=True)
     return time.perf_counter() - began, done.stdout.decode().strip()
 seconds, answer = run(text)
 wanted = json.dumps("0x" + root.hex())

@@ -1,12 +1,11 @@
-//! Reads one request from standard input, over a link in memory, and prints how many bytes its body has. With a number
-//! as its argument it reads the request so many times from one connection, and prints the nanoseconds that it took.
-#![tactic(auto)]
-
+//! Reads one request from the input, over a link in memory, and tells how many bytes its body has. With a number as its
+//! word it reads the request so many times from one connection, and tells the nanoseconds that it took as well.
+use crate::outcome::Outcome;
 use edge_kit::{Link, MemLink};
 use http_wire::read_request;
 use std::alloc::{AllocError, Global};
-use std::env;
-use std::io::Read;
+use std::io;
+use std::rt::Clock;
 use std::time::Instant;
 
 /// A link whose peer says the message so many times.
@@ -34,20 +33,21 @@ fn read_all(alloc: Global, link: &mut MemLink, times: u32) -> u64 {
     total
 }
 
-fn main(rt: HostRuntime) -> anyhow::Result<()> {
-    let alloc = rt.alloc();
-    let mut message = Vec::new(alloc);
-    rt.reader().read_to_end(&mut message)?;
-    let times = env::args(&rt)?
-        .nth(1)
-        .and_then(|word| word.parse::<u32>().ok());
-    let mut link = saying(alloc, message.as_slice(), times.unwrap_or(1))?;
-    let start = Instant::now(&rt)?;
+/// What the words ask for of a request.
+pub fn run<C: Clock>(
+    clock: &C,
+    alloc: Global,
+    words: &[String],
+    message: &[u8],
+) -> io::Result<Outcome> {
+    let times = words.first().and_then(|word| word.parse::<u32>().ok());
+    let mut link = saying(alloc, message, times.unwrap_or(1))?;
+    let start = Instant::now(clock)?;
     let total = read_all(alloc, &mut link, times.unwrap_or(1));
-    let nanos = start.elapsed(&rt)?.as_nanos();
-    match times {
-        Some(_) => println!(rt; "{total} {nanos}")?,
-        None => println!(rt; "{total}")?,
-    }
-    Ok(())
+    let nanos = start.elapsed(clock)?.as_nanos();
+    let text = match times {
+        Some(_) => format!(in alloc; "{total} {nanos}\n")?,
+        None => format!(in alloc; "{total}\n")?,
+    };
+    Ok(Outcome::Text(text.into_bytes()))
 }
