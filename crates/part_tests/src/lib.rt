@@ -1,4 +1,4 @@
-//! Tests of the parts below the desk: locks, roots, messages and calls, records, batches, journals, words, nodes and
+//! Tests of the parts below the desk: files and sockets, locks, roots, messages and calls, records, batches, journals, words, nodes and
 //! duties' schedules. Tables, doubles and what compares stand in the crates of cases, a crate for each.
 #![tactic(auto)]
 
@@ -16,6 +16,8 @@ mod records;
 mod replays;
 #[cfg(test)]
 mod roots;
+#[cfg(test)]
+mod systems;
 #[cfg(test)]
 mod wires;
 #[cfg(test)]
