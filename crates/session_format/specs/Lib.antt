@@ -3,4 +3,5 @@ pub mod Steps
 pub mod Objects
 pub mod Requests
 pub mod Causes
+pub mod Building
 pub mod Answers

@@ -7,8 +7,8 @@ use crate::cause::Cause;
 use crate::member::Member;
 use crate::request::Keys;
 use crate::values::{
-    compacted, exported, fault_value, full, genesis_differs, live, merged, signed, too_many_keys,
-    verdict_value, watching, with_name,
+    compacted, done_value, exported, fault_value, full, genesis_differs, live, merged, refused,
+    signed, too_many_keys, verdict_value, watching, with_name,
 };
 use custody_format::{busy_value, deleted_value, imported_value, listed_value, not_closing_value};
 use edge_kit::{Root, Sig};
@@ -16,7 +16,7 @@ use interchange_io::ReadFault;
 use key_custody::KeyStatuses;
 use protect_record::Verdict;
 use record_replay::KeyState;
-use serde_json::{Value, json};
+use serde_json::Value;
 use slash_defs::File;
 use std::alloc::{AllocError, Global};
 
@@ -96,28 +96,26 @@ impl Answer {
     {
         match self {
             Answer::Merged { keys } => merged(alloc, *keys),
-            Answer::Active => json!(in alloc; {"answer": "active"}),
+            Answer::Active => done_value(alloc, "active"),
             Answer::Imported { statuses } => imported_value(alloc, statuses.as_slice()),
             Answer::Deleted { statuses, file } => deleted_value(alloc, statuses.as_slice(), file),
             Answer::Listed { keys } => listed_value(alloc, keys.as_slice()),
             Answer::Signed { signature, root } => signed(alloc, signature, root),
             Answer::Unsigned(cause) => cause.value(alloc),
             Answer::Exported(file) => exported(alloc, file),
-            Answer::Pruned => json!(in alloc; {"answer": "pruned"}),
-            Answer::Noted => json!(in alloc; {"answer": "noted"}),
+            Answer::Pruned => done_value(alloc, "pruned"),
+            Answer::Noted => done_value(alloc, "noted"),
             Answer::Compacted { before, after } => compacted(alloc, *before, *after),
             Answer::BadRequest(member) => with_name(alloc, member.name(), "bad_request"),
             Answer::BadFile(fault) => fault_value(alloc, fault),
             Answer::GenesisDiffers { kept, given } => genesis_differs(alloc, kept, given),
             Answer::TooManyKeys { have, new } => too_many_keys(alloc, *have, *new),
             Answer::Full { size, wanted } => full(alloc, *size, *wanted),
-            Answer::LastGeneration => {
-                json!(in alloc; {"answer": "refused", "reason": "last_generation"})
-            }
-            Answer::Disk => json!(in alloc; {"answer": "refused", "reason": "disk"}),
-            Answer::Unknown => json!(in alloc; {"answer": "refused", "reason": "unknown"}),
-            Answer::NotActive => json!(in alloc; {"answer": "refused", "reason": "not_active"}),
-            Answer::Closing => json!(in alloc; {"answer": "refused", "reason": "closing"}),
+            Answer::LastGeneration => refused(alloc, "last_generation"),
+            Answer::Disk => refused(alloc, "disk"),
+            Answer::Unknown => refused(alloc, "unknown"),
+            Answer::NotActive => refused(alloc, "not_active"),
+            Answer::Closing => refused(alloc, "closing"),
             Answer::NotClosing { state } => not_closing_value(alloc, *state),
             Answer::Busy { grants } => busy_value(alloc, *grants),
             Answer::Live { epoch } => live(alloc, *epoch),

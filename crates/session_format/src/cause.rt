@@ -1,10 +1,12 @@
 //! Why a granted proposal has no signature.
 ghost use Rattle.std.specs.Prelude.{◌≡◌, IfOk};
+ghost use Rattle.serde_json.specs.Data.{no_members};
 ghost use Rattle.serde_json.specs.View.{view};
-ghost use Rattle.session_format.specs.Causes.{cause_data, shown_bytes};
+ghost use Rattle.session_format.specs.Causes.{cause_data, shown_bytes, unsigned_for};
 
+use crate::building::Object;
 use edge_kit::Items;
-use serde_json::{Value, json};
+use serde_json::Value;
 use std::alloc::{AllocError, Global};
 
 /// How many bytes of a body that is no answer are shown.
@@ -29,28 +31,46 @@ impl Cause {
         ensures { IfOk result (λ v. view v ≡ cause_data self.now) }
     {
         match self {
-            Cause::NoKey => json!(in alloc; {"answer": "unsigned", "cause": "no_key"}),
+            Cause::NoKey => unsigned(alloc, "no_key"),
             Cause::Denied { status } => denied(alloc, *status),
-            Cause::Fault => json!(in alloc; {"answer": "unsigned", "cause": "fault"}),
+            Cause::Fault => unsigned(alloc, "fault"),
             Cause::BadAnswer { body } => bad_answer(alloc, body.as_slice()),
         }
     }
+}
+
+/// Unsigned for this cause, with nothing more to say.
+fn unsigned(alloc: Global, cause: &str) -> Result<Value, AllocError>
+    ensures { IfOk result (λ v. view v ≡ unsigned_for cause.now no_members) }
+{
+    let object = Object::new(alloc)
+        .with_text(alloc, "answer", "unsigned")?
+        .with_text(alloc, "cause", cause)?;
+    Ok(object.value())
 }
 
 /// The signer refused.
 fn denied(alloc: Global, status: u16) -> Result<Value, AllocError>
     ensures { IfOk result (λ v. view v ≡ cause_data (Cause.Denied status)) }
 {
-    let status = status.to_string(alloc)?;
-    json!(in alloc; {"answer": "unsigned", "cause": "denied", "status": status.as_str()})
+    let status = Value::String(status.to_string(alloc)?);
+    let object = Object::new(alloc)
+        .with_value(alloc, "status", status)?
+        .with_text(alloc, "answer", "unsigned")?
+        .with_text(alloc, "cause", "denied")?;
+    Ok(object.value())
 }
 
 /// The signer answered with something else.
 fn bad_answer(alloc: Global, body: &[u8]) -> Result<Value, AllocError>
     ensures { IfOk result (λ v. view v ≡ cause_data (Cause.BadAnswer body.now)) }
 {
-    let digits = hex::encode(alloc, front(body))?;
-    json!(in alloc; {"answer": "unsigned", "body": digits.as_str(), "cause": "bad_answer"})
+    let digits = Value::String(hex::encode(alloc, front(body))?);
+    let object = Object::new(alloc)
+        .with_value(alloc, "body", digits)?
+        .with_text(alloc, "answer", "unsigned")?
+        .with_text(alloc, "cause", "bad_answer")?;
+    Ok(object.value())
 }
 
 /// The bytes of a body that are shown.

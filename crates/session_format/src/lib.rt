@@ -2,6 +2,7 @@
 #![tactic(auto)]
 
 mod answer;
+mod building;
 mod cause;
 mod member;
 mod objects;

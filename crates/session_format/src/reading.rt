@@ -107,30 +107,19 @@ fn op_of(alloc: Global, domains: &Domains, value: &Value) -> Result<Op, Unread>
     let Some(op) = text_of(value, "op") else {
         return Err(Unread::Member(Member::Op));
     };
-    if op == "merge" {
-        merge_of(alloc, value)
-    } else if op == "activate" {
-        activate_of(value)
-    } else if op == "import" {
-        import_of(alloc, value)
-    } else if op == "delete" {
-        delete_of(alloc, value)
-    } else if op == "list" {
-        Ok(Op::List)
-    } else if op == "block" {
-        block_of(alloc, domains, value)
-    } else if op == "vote" {
-        vote_of(alloc, domains, value)
-    } else if op == "export" {
-        export_of(alloc, value)
-    } else if op == "prune" {
-        prune_of(value)
-    } else if op == "live" {
-        live_of(value)
-    } else if op == "compact" {
-        Ok(Op::Compact)
-    } else {
-        Err(Unread::Member(Member::Op))
+    match op {
+        "merge" => merge_of(alloc, value),
+        "activate" => activate_of(value),
+        "import" => import_of(alloc, value),
+        "delete" => delete_of(alloc, value),
+        "list" => Ok(Op::List),
+        "block" => block_of(alloc, domains, value),
+        "vote" => vote_of(alloc, domains, value),
+        "export" => export_of(alloc, value),
+        "prune" => prune_of(value),
+        "live" => live_of(value),
+        "compact" => Ok(Op::Compact),
+        _ => Err(Unread::Member(Member::Op)),
     }
 }
 
