@@ -3,5 +3,4 @@ pub mod Steps
 pub mod Objects
 pub mod Requests
 pub mod Causes
-pub mod Building
 pub mod Answers

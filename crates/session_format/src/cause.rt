@@ -4,8 +4,8 @@ ghost use Rattle.serde_json.specs.Data.{no_members};
 ghost use Rattle.serde_json.specs.View.{view};
 ghost use Rattle.session_format.specs.Causes.{cause_data, shown_bytes, unsigned_for};
 
-use crate::building::Object;
 use edge_kit::Items;
+use json_members::Object;
 use serde_json::Value;
 use std::alloc::{AllocError, Global};
 

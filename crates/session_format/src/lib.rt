@@ -2,7 +2,6 @@
 #![tactic(auto)]
 
 mod answer;
-mod building;
 mod cause;
 mod member;
 mod objects;

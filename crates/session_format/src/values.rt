@@ -5,9 +5,9 @@ ghost use Rattle.serde_json.specs.View.{view};
 ghost use Rattle.session_format.specs.Answers.{answer_data, block_data, done, fault_data, missing_epochs, verdict_data, vote_data, with_entry, with_floor, with_member, with_reason, with_root};
 
 use crate::answer::Answer;
-use crate::building::Object;
 use edge_kit::{Root, Sig};
 use interchange_io::{ReadFault, write_text};
+use json_members::Object;
 use protect_record::Verdict;
 use serde_json::{Value, json};
 use slash_defs::{BlockEntry, File, VoteEntry};

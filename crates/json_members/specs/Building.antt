@@ -1,7 +1,7 @@
--- The members of an object that is being built.
+-- The members of a JSON object that is being built, in the order of their names (RFC 8259).
 use Rattle.serde_json.specs.Data.{Members}
 use Rattle.serde_json.specs.View.{members_view}
-use Rattle.session_format.specs.declared.building.Object.{Object}
+use Rattle.json_members.specs.declared.object.Object.{Object}
 
 abbrev pub built : Object → Members
 built o = members_view o.members.entries
