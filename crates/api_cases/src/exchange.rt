@@ -1,11 +1,11 @@
 //! Exchanges one after another, as scripts tell them.
 use crate::outside::{ROOM, Stage, did, in_lines, is_untouched, serve, stage_of};
+use assertions::Asserts;
 use check_sign::Desk;
 use edge_kit::MemDisk;
 use keymanager_api::Served;
 use signer_link::Signer;
 use std::alloc::{AllocError, Global};
-use std::process::Abort;
 use std::test::Fail;
 use test_texts::filled;
 
@@ -100,8 +100,8 @@ fn ask<S: Signer>(
 }
 
 /// Compares the last reply with a line of a script.
-fn compare<T: Abort>(
-    rt: &T,
+fn compare<T: Asserts>(
+    seen: &T,
     alloc: Global,
     line: &str,
     text: &str,
@@ -109,13 +109,13 @@ fn compare<T: Abort>(
 ) -> Result<(), Fail> {
     let (sign, _) = line.split_once(' ').unwrap_or((line, ""));
     let is_so = is_reply(alloc, sign, text, talk.sent.as_slice())?;
-    assert!(rt; is_so, "{}\n{line}", talk.asked.as_str());
+    seen.holds_at(is_so, format_args!("{}\n{line}", talk.asked.as_str()));
     Ok(())
 }
 
 /// Plays one line of a script.
-fn play_line<T: Abort, S: Signer>(
-    rt: &T,
+fn play_line<T: Asserts, S: Signer>(
+    seen: &T,
     alloc: Global,
     line: &str,
     talk: &mut Talk,
@@ -126,15 +126,15 @@ fn play_line<T: Abort, S: Signer>(
     let text = filled(alloc, text)?;
     match said_in(alloc, sign, text.as_str())? {
         Some(said) => ask(alloc, said, talk, desk, signer),
-        None => compare(rt, alloc, line, text.as_str(), talk),
+        None => compare(seen, alloc, line, text.as_str(), talk),
     }
 }
 
 /// Plays the lines of a script, whose marks are filled in. `>` begins the bytes of a request and `+` its method and its
 /// body, of a request of the keystores with the token; `=` begins the bytes of the reply, `<` its status and its body,
 /// and `!` its status and its message. In bytes each `|` stands for the end of a line.
-pub fn play<T: Abort, S: Signer>(
-    rt: &T,
+pub fn play<T: Asserts, S: Signer>(
+    seen: &T,
     alloc: Global,
     script: &str,
     desk: &mut Desk<MemDisk>,
@@ -145,46 +145,46 @@ pub fn play<T: Abort, S: Signer>(
         sent: Vec::new(alloc),
     };
     for line in script.lines() {
-        play_line(rt, alloc, line, &mut talk, desk, signer)?;
+        play_line(seen, alloc, line, &mut talk, desk, signer)?;
     }
     Ok(())
 }
 
 /// Plays a script over a stage.
-pub fn play_on<T: Abort, S: Signer>(
-    rt: &T,
+pub fn play_on<T: Asserts, S: Signer>(
+    seen: &T,
     alloc: Global,
     script: &str,
     stage: &mut Stage<S>,
 ) -> Result<(), Fail> {
-    play(rt, alloc, script, &mut stage.desk, &mut stage.signer)
+    play(seen, alloc, script, &mut stage.desk, &mut stage.signer)
 }
 
 /// Plays a script over a stage, and compares the events of the desk.
-pub fn play_to<T: Abort, S: Signer>(
-    rt: &T,
+pub fn play_to<T: Asserts, S: Signer>(
+    seen: &T,
     alloc: Global,
     script: &str,
     events: &str,
     stage: &mut Stage<S>,
 ) -> Result<(), Fail> {
-    play_on(rt, alloc, script, stage)?;
+    play_on(seen, alloc, script, stage)?;
     let is_done = did(alloc, &stage.desk, events)?;
-    assert!(rt; is_done, "{events}");
+    seen.holds_at(is_done, format_args!("{events}"));
     Ok(())
 }
 
 /// Plays a script over a desk that keeps no key and a signer whose call of this number fails, if one is given, and
 /// compares the events of the desk.
-pub fn run<T: Abort>(
-    rt: &T,
+pub fn run<T: Asserts>(
+    seen: &T,
     alloc: Global,
     failing: Option<u64>,
     script: &str,
     events: &str,
 ) -> Result<(), Fail> {
-    let mut stage = stage_of(rt, alloc, None, failing)?;
-    play_to(rt, alloc, script, events, stage.as_mut())
+    let mut stage = stage_of(seen, alloc, None, failing)?;
+    play_to(seen, alloc, script, events, stage.as_mut())
 }
 
 /// What makes the first call of the signer, which fails.
@@ -192,10 +192,10 @@ const FIRST_CALL: &str = r#"+ POST {"keystores":["{'pubkey':'<K2>'}"],"passwords
 < 200 OK|{"data":[{"message":"signer: fault","status":"error"}]}"#;
 
 /// Plays a script of requests that are refused, over one desk and one signer, which are as before then.
-pub fn refuse<T: Abort>(rt: &T, alloc: Global, script: &str) -> Result<(), Fail> {
-    let mut stage = stage_of(rt, alloc, None, Some(0))?;
-    play_on(rt, alloc, script, stage.as_mut())?;
-    play_on(rt, alloc, FIRST_CALL, stage.as_mut())?;
-    assert!(rt; is_untouched(stage));
+pub fn refuse<T: Asserts>(seen: &T, alloc: Global, script: &str) -> Result<(), Fail> {
+    let mut stage = stage_of(seen, alloc, None, Some(0))?;
+    play_on(seen, alloc, script, stage.as_mut())?;
+    play_on(seen, alloc, FIRST_CALL, stage.as_mut())?;
+    seen.holds(is_untouched(stage));
     Ok(())
 }

@@ -1,8 +1,8 @@
 //! Keys that are taken in, listed and given up.
 use crate::exchange::play_on;
 use crate::outside::{OPENING, stage_of};
+use assertions::Asserts;
 use std::alloc::Global;
-use std::process::Abort;
 use std::test::Fail;
 
 /// The exchanges that the page on formats shows, one after another.
@@ -79,10 +79,10 @@ const DISK: &str =
 < 200 OK|{"data":[]}"#;
 
 /// Plays that script over a disk that stops at so many calls behind the desk's opening.
-pub fn fail_in_the_merge<T: Abort>(rt: &T, alloc: Global, call: u64) -> Result<(), Fail> {
-    let mut stage = stage_of(rt, alloc, Some(OPENING.saturating_add(call)), Some(0))?;
-    play_on(rt, alloc, DISK, stage.as_mut())?;
-    assert!(rt; stage.desk.failed() && stage.desk.events().is_empty());
+pub fn fail_in_the_merge<T: Asserts>(seen: &T, alloc: Global, call: u64) -> Result<(), Fail> {
+    let mut stage = stage_of(seen, alloc, Some(OPENING.saturating_add(call)), Some(0))?;
+    play_on(seen, alloc, DISK, stage.as_mut())?;
+    seen.holds(stage.desk.failed() && stage.desk.events().is_empty());
     Ok(())
 }
 

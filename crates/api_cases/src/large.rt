@@ -1,9 +1,9 @@
 //! Requests that are large.
 use crate::exchange::{refusal, request};
 use crate::outside::{ROOM, Stage, is_untouched, serve_on, stage_of};
+use assertions::Asserts;
 use signer_link::MemSigner;
 use std::alloc::{AllocError, Global};
-use std::process::Abort;
 use std::test::Fail;
 
 /// The text, and behind it so many times the piece.
@@ -28,11 +28,16 @@ fn reply_to(alloc: Global, text: &str, stage: &mut Stage<MemSigner>) -> Result<V
 }
 
 /// Sends this request of the keystores, and compares the reply, which is a refusal; the desk has done nothing then.
-pub fn refuse_large<T: Abort>(rt: &T, alloc: Global, text: &str, wanted: &str) -> Result<(), Fail> {
+pub fn refuse_large<T: Asserts>(
+    seen: &T,
+    alloc: Global,
+    text: &str,
+    wanted: &str,
+) -> Result<(), Fail> {
     let wanted = refusal(alloc, wanted)?;
-    let mut stage = stage_of(rt, alloc, None, None)?;
+    let mut stage = stage_of(seen, alloc, None, None)?;
     let sent = reply_to(alloc, text, stage.as_mut())?;
-    assert_eq!(rt; sent.as_slice(), wanted.as_bytes());
-    assert!(rt; is_untouched(stage));
+    seen.same(&sent.as_slice(), &wanted.as_bytes());
+    seen.holds(is_untouched(stage));
     Ok(())
 }

@@ -1,12 +1,12 @@
 //! Links that fail, and requests that come over none.
 use crate::exchange::{exchange, reply, request};
 use crate::outside::{NOW, Stage, TOKEN, did, is_untouched, serve_on, stage_of};
+use assertions::Asserts;
 use http::Method;
 use http_wire::{Field, Request, Response};
 use keymanager_api::{Served, answer};
 use signer_link::MemSigner;
 use std::alloc::{AllocError, Global};
-use std::process::Abort;
 use std::test::Fail;
 use test_texts::filled;
 
@@ -32,19 +32,19 @@ fn list(
 }
 
 /// Asks so for the keys of a desk that keeps none, and compares what was sent and what became of the connection.
-pub fn end_so<T: Abort>(
-    rt: &T,
+pub fn end_so<T: Asserts>(
+    seen: &T,
     alloc: Global,
     room: usize,
     call: u64,
     wanted: &str,
     ending: Served,
 ) -> Result<(), Fail> {
-    let mut stage = stage_of(rt, alloc, None, Some(0))?;
+    let mut stage = stage_of(seen, alloc, None, Some(0))?;
     let (sent, served) = list(alloc, room, call, stage.as_mut())?;
-    assert_eq!(rt; sent.as_slice(), wanted.as_bytes());
-    assert_eq!(rt; served, ending);
-    assert!(rt; is_untouched(stage));
+    seen.same(&sent.as_slice(), &wanted.as_bytes());
+    seen.same(&served, &ending);
+    seen.holds(is_untouched(stage));
     Ok(())
 }
 
@@ -55,38 +55,38 @@ fn import(alloc: Global) -> Result<String, AllocError> {
 }
 
 /// Sends a request whose reply finds no room.
-fn lose_reply<T: Abort>(
-    rt: &T,
+fn lose_reply<T: Asserts>(
+    seen: &T,
     alloc: Global,
     said: &str,
     stage: &mut Stage<MemSigner>,
 ) -> Result<(), Fail> {
     let (sent, served) = serve_on(alloc, said.as_bytes(), 0, None, stage)?;
-    assert!(rt; sent.is_empty() && served == Served::Dropped);
+    seen.holds(sent.is_empty() && served == Served::Dropped);
     Ok(())
 }
 
 /// Sends a request, and compares the reply.
-fn send_again<T: Abort>(
-    rt: &T,
+fn send_again<T: Asserts>(
+    seen: &T,
     alloc: Global,
     said: &str,
     stage: &mut Stage<MemSigner>,
 ) -> Result<(), Fail> {
     let again = exchange(alloc, said, &mut stage.desk, &mut stage.signer)?;
     let wanted = reply(alloc, DUPLICATE)?;
-    assert_eq!(rt; again.as_slice(), wanted.as_bytes());
+    seen.same(&again.as_slice(), &wanted.as_bytes());
     Ok(())
 }
 
 /// Sends an import whose reply finds no room, and then again, as a client does that got no reply.
-pub fn import_twice<T: Abort>(rt: &T, alloc: Global) -> Result<(), Fail> {
+pub fn import_twice<T: Asserts>(seen: &T, alloc: Global) -> Result<(), Fail> {
     let said = import(alloc)?;
-    let mut stage = stage_of(rt, alloc, None, None)?;
-    lose_reply(rt, alloc, said.as_str(), stage.as_mut())?;
-    send_again(rt, alloc, said.as_str(), stage.as_mut())?;
+    let mut stage = stage_of(seen, alloc, None, None)?;
+    lose_reply(seen, alloc, said.as_str(), stage.as_mut())?;
+    send_again(seen, alloc, said.as_str(), stage.as_mut())?;
     let is_done = did(alloc, &stage.desk, "7 activated <K1>|")?;
-    assert!(rt; is_done);
+    seen.holds(is_done);
     Ok(())
 }
 
@@ -125,17 +125,17 @@ fn answer_bearing(
 }
 
 /// Compares the response to such a request.
-pub fn answer_so<T: Abort>(
-    rt: &T,
+pub fn answer_so<T: Asserts>(
+    seen: &T,
     alloc: Global,
     token: &str,
     status: u16,
     body: &str,
 ) -> Result<(), Fail> {
-    let mut stage = stage_of(rt, alloc, None, None)?;
+    let mut stage = stage_of(seen, alloc, None, None)?;
     let response = answer_bearing(alloc, token, stage.as_mut())?;
-    assert_eq!(rt; response.status, status);
-    assert!(rt; response.fields.is_empty());
-    assert_eq!(rt; response.body.as_slice(), body.as_bytes());
+    seen.same(&response.status, &status);
+    seen.holds(response.fields.is_empty());
+    seen.same(&response.body.as_slice(), &body.as_bytes());
     Ok(())
 }

@@ -1,13 +1,13 @@
 //! Replies where memory runs out in what is done.
 use crate::exchange::play;
 use crate::outside::Stage;
+use assertions::Asserts;
 use edge_kit::PubKey;
 use signer_link::{
     DeleteReply, ImportReply, MemSigner, PlainRequest, SignReply, SignRequest, Signer,
 };
 use slash_defs::Granted;
 use std::alloc::{AllocError, Global};
-use std::process::Abort;
 use std::test::Fail;
 
 /// A signer that wants memory at each call.
@@ -69,11 +69,11 @@ pub const GIVEN_UP_AGAIN: &str = r#"+ DELETE {"pubkeys":["<K1>"]}
 < 200 OK|{"data":[{"message":"","status":"deleted"}],"slashing_protection":"<file>{'pubkey':'<K1>','signed_attestations':[],'signed_blocks':[{'slot':'5'}]}</file>"}"#;
 
 /// Plays a script over the desk of a stage and the signer that wants memory.
-pub fn play_exhausted<T: Abort>(
-    rt: &T,
+pub fn play_exhausted<T: Asserts>(
+    seen: &T,
     alloc: Global,
     script: &str,
     stage: &mut Stage<MemSigner>,
 ) -> Result<(), Fail> {
-    play(rt, alloc, script, &mut stage.desk, &mut Exhausted)
+    play(seen, alloc, script, &mut stage.desk, &mut Exhausted)
 }

@@ -1,7 +1,7 @@
 //! The door in memory, on which the tests of connections stand.
+use assertions::Asserts;
 use edge_kit::{Door, Link, MemDoor, MemLink};
 use std::alloc::{AllocError, Global};
-use std::process::Abort;
 
 /// A connected link of this room, whose peer says nothing.
 fn link_of(alloc: Global, room: usize) -> Result<MemLink, AllocError> {
@@ -18,24 +18,24 @@ pub fn door_of_one(alloc: Global) -> Result<MemDoor, AllocError> {
 }
 
 /// Takes the connection of a door, which has no other, sends over it and gives it back.
-pub fn use_connection<T: Abort>(rt: &T, door: &mut MemDoor) {
+pub fn use_connection<T: Asserts>(seen: &T, door: &mut MemDoor) {
     let Ok(Some(mut conn)) = door.accept() else {
-        return rt.panic("no connection");
+        return seen.panic("no connection");
     };
-    assert!(rt; matches!(door.accept(), Ok(None)));
-    assert_eq!(rt; conn.send(b"ab"), Ok(1));
+    seen.holds(matches!(door.accept(), Ok(None)));
+    seen.same(&conn.send(b"ab"), &Ok(1));
     door.finish(conn);
 }
 
 /// Compares what was sent over a connection with the one byte that it had room for.
-fn look_at_sent<T: Abort>(rt: &T, conn: MemLink) {
-    assert_eq!(rt; conn.into_sent().as_slice(), b"a".as_slice());
+fn look_at_sent<T: Asserts>(seen: &T, conn: MemLink) {
+    seen.same(&conn.into_sent().as_slice(), &b"a".as_slice());
 }
 
 /// Looks whether one connection came back, and what was sent over it.
-pub fn look_at_finished<T: Abort>(rt: &T, finished: Vec<MemLink>) {
-    assert_eq!(rt; finished.len(), 1);
+pub fn look_at_finished<T: Asserts>(seen: &T, finished: Vec<MemLink>) {
+    seen.same(&finished.len(), &1);
     for conn in finished {
-        look_at_sent(rt, conn);
+        look_at_sent(seen, conn);
     }
 }

@@ -1,10 +1,10 @@
 //! What stands for the outside of a key manager.
+use assertions::Asserts;
 use check_sign::Desk;
 use edge_kit::{Disks, Link, MemDisk, MemLink, Root};
 use keymanager_api::{Served, serve_connection};
 use signer_link::{MemSigner, Signer};
 use std::alloc::{AllocError, Global};
-use std::process::Abort;
 use std::test::Fail;
 use test_texts::{is_text, words_of};
 
@@ -33,8 +33,8 @@ fn disk(alloc: Global, stop: Option<u64>) -> Result<MemDisk, AllocError> {
 }
 
 /// A desk that keeps no key, whose first disk stops at a call, if one is given.
-pub fn desk<T: Abort>(
-    rt: &T,
+pub fn desk<T: Asserts>(
+    seen: &T,
     alloc: Global,
     stop: Option<u64>,
 ) -> Result<Desk<MemDisk>, AllocError> {
@@ -42,7 +42,7 @@ pub fn desk<T: Abort>(
     let second = disk(alloc, None)?;
     match Desk::open(alloc, Disks { first, second }, Root([0; 32]), false, 0) {
         Ok(desk) => Ok(desk),
-        Err(_) => rt.panic("not opened"),
+        Err(_) => seen.panic("not opened"),
     }
 }
 
@@ -76,26 +76,26 @@ fn calls(alloc: Global, failing: Option<u64>) -> Result<Vec<u64>, AllocError> {
 }
 
 /// A desk that keeps no key, whose disk stops at a call, if one is given, beside a signer.
-pub fn stage_over<T: Abort, S: Drop>(
-    rt: &T,
+pub fn stage_over<T: Asserts, S: Drop>(
+    seen: &T,
     alloc: Global,
     stop: Option<u64>,
     signer: S,
 ) -> Result<Box<Stage<S>>, AllocError> {
-    let desk = desk(rt, alloc, stop)?;
+    let desk = desk(seen, alloc, stop)?;
     Ok(Box::new(alloc, Stage { desk, signer })?)
 }
 
 /// Such a desk beside a signer that holds every key, whose call of this number fails, if one is given.
-pub fn stage_of<T: Abort>(
-    rt: &T,
+pub fn stage_of<T: Asserts>(
+    seen: &T,
     alloc: Global,
     stop: Option<u64>,
     failing: Option<u64>,
 ) -> Result<Box<Stage<MemSigner>>, AllocError> {
     let failing = calls(alloc, failing)?;
     let signer = MemSigner::new(alloc, Vec::new(alloc), failing);
-    stage_over(rt, alloc, stop, signer)
+    stage_over(seen, alloc, stop, signer)
 }
 
 /// The text with this end in the place of each `|`.

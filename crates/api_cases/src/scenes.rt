@@ -1,11 +1,11 @@
 //! Connections that come in at a door, and what is expected of them.
+use assertions::Asserts;
 use check_sign::Desk;
 use edge_clock::MemClock;
 use edge_kit::{Disks, Link, MemDisk, MemDoor, MemLink, Root};
 use keymanager_api::{Connections, ConnectionsEnd, serve_connections};
 use signer_link::MemSigner;
 use std::alloc::{AllocError, Global};
-use std::process::Abort;
 use std::test::Fail;
 use test_texts::{filled, is_text, words_of};
 
@@ -66,14 +66,18 @@ fn door(alloc: Global, scene: &Scene) -> Result<MemDoor, Fail> {
 }
 
 /// A desk that keeps no key, whose disk stops at a call, if one is given.
-fn desk<T: Abort>(rt: &T, alloc: Global, stop: Option<u64>) -> Result<Desk<MemDisk>, AllocError> {
+fn desk<T: Asserts>(
+    seen: &T,
+    alloc: Global,
+    stop: Option<u64>,
+) -> Result<Desk<MemDisk>, AllocError> {
     let disks = Disks {
         first: MemDisk::new(alloc, Vec::new(alloc), Vec::new(alloc), stop)?,
         second: MemDisk::new(alloc, Vec::new(alloc), Vec::new(alloc), None)?,
     };
     match Desk::open(alloc, disks, Root([0; 32]), false, 0) {
         Ok(desk) => Ok(desk),
-        Err(_) => rt.panic("not opened"),
+        Err(_) => seen.panic("not opened"),
     }
 }
 
@@ -95,13 +99,13 @@ fn serve(
 }
 
 /// Serves what comes in at the door over a new desk, and gives how the loop ended, with the desk's events in words.
-fn serve_scene<T: Abort>(
-    rt: &T,
+fn serve_scene<T: Asserts>(
+    seen: &T,
     alloc: Global,
     scene: &Scene,
     door: &mut MemDoor,
 ) -> Result<(Result<(), ConnectionsEnd>, String), AllocError> {
-    let mut desk = desk(rt, alloc, scene.disk_stops)?;
+    let mut desk = desk(seen, alloc, scene.disk_stops)?;
     let ended = serve(alloc, scene.count, &mut desk, door);
     let events = words_of(alloc, desk.events())?;
     Ok((ended, events))
@@ -128,29 +132,27 @@ fn ended_texts(alloc: Global, texts: &[&str]) -> Result<String, AllocError> {
 }
 
 /// Plays a scene, and compares what is expected of it.
-fn play<T: Abort>(rt: &T, alloc: Global, scene: &Scene) -> Result<(), Fail> {
+fn play<T: Asserts>(seen: &T, alloc: Global, scene: &Scene) -> Result<(), Fail> {
     let mut door = door(alloc, scene)?;
-    let (ended, events) = serve_scene(rt, alloc, scene, &mut door)?;
+    let (ended, events) = serve_scene(seen, alloc, scene, &mut door)?;
     let sent = sent_over(alloc, door.into_finished())?;
     let wanted = ended_texts(alloc, scene.sent)?;
-    assert!(rt;
+    seen.holds_at(
         is_text(alloc, sent.as_slice(), wanted.as_str())?,
-        "{}",
-        scene.name
+        format_args!("{}", scene.name),
     );
-    assert_eq!(rt; ended, scene.ended, "{}", scene.name);
-    assert!(rt;
+    seen.same_at(&ended, &scene.ended, format_args!("{}", scene.name));
+    seen.holds_at(
         is_text(alloc, events.as_bytes(), scene.events)?,
-        "{}",
-        scene.name
+        format_args!("{}", scene.name),
     );
     Ok(())
 }
 
 /// Plays each scene.
-pub fn play_all<T: Abort>(rt: &T, alloc: Global, scenes: &[Scene]) -> Result<(), Fail> {
+pub fn play_all<T: Asserts>(seen: &T, alloc: Global, scenes: &[Scene]) -> Result<(), Fail> {
     for scene in scenes {
-        play(rt, alloc, scene)?;
+        play(seen, alloc, scene)?;
     }
     Ok(())
 }

@@ -2,11 +2,11 @@
 use crate::stages::{
     GENESIS, K1, K2, K3, K4, Stage, compare_statuses, delete, stage_of_three, stage_over,
 };
+use assertions::Asserts;
 use edge_kit::{Items, PubKey, Root};
 use key_custody::{DeskRefusal, ImportEnd, import_keys, key_of_keystore, list_keys};
 use slash_defs::File;
 use std::alloc::{AllocError, Global};
-use std::process::Abort;
 
 /// Numbers of the signer's calls that fail, and what becomes of the keys that it is called for.
 struct Case {
@@ -49,14 +49,14 @@ fn keystore_text(alloc: Global, keystore: &Keystore) -> Result<String, AllocErro
 }
 
 /// Compares the active keys with what is expected.
-fn compare_active<T: Abort>(
-    rt: &T,
+fn compare_active<T: Asserts>(
+    seen: &T,
     alloc: Global,
     stage: &mut Stage,
     keys: &[PubKey],
 ) -> Result<(), AllocError> {
     let active = list_keys(alloc, &mut stage.desk)?;
-    assert_eq!(rt; active.as_slice(), keys);
+    seen.same(&active.as_slice(), &keys);
     Ok(())
 }
 
@@ -154,51 +154,51 @@ fn import(alloc: Global, brought: &Brought, stage: &mut Stage) -> Result<ImportE
 }
 
 /// Takes keys in, and compares what becomes of them.
-fn take_in<T: Abort>(
-    rt: &T,
+fn take_in<T: Asserts>(
+    seen: &T,
     alloc: Global,
     brought: &Brought,
     stage: &mut Stage,
     statuses: &[&str],
 ) -> Result<(), AllocError> {
     match import(alloc, brought, stage)? {
-        ImportEnd::Treated(treated) => compare_statuses(rt, treated.as_slice(), statuses),
-        ImportEnd::MergeRefused(_) => rt.panic("merge refused"),
+        ImportEnd::Treated(treated) => compare_statuses(seen, treated.as_slice(), statuses),
+        ImportEnd::MergeRefused(_) => seen.panic("merge refused"),
     }
     Ok(())
 }
 
 /// Takes the keys in, and looks at what becomes of them and which are active then.
-fn take_both_in<T: Abort>(
-    rt: &T,
+fn take_both_in<T: Asserts>(
+    seen: &T,
     alloc: Global,
     brought: &Brought,
     stage: &mut Stage,
     statuses: &[&str],
 ) -> Result<(), AllocError> {
-    take_in(rt, alloc, brought, stage, statuses)?;
-    compare_active(rt, alloc, stage, &[K1, K2])
+    take_in(seen, alloc, brought, stage, statuses)?;
+    compare_active(seen, alloc, stage, &[K1, K2])
 }
 
 /// Takes the keys in with a signer, and looks at what becomes of them.
-fn look_at_import<T: Abort>(
-    rt: &T,
+fn look_at_import<T: Asserts>(
+    seen: &T,
     alloc: Global,
     brought: &Brought,
     case: &Case,
 ) -> Result<(), AllocError> {
-    let mut stage = stage_of_three(rt, alloc, case.failing)?;
-    take_both_in(rt, alloc, brought, &mut stage, case.statuses)
+    let mut stage = stage_of_three(seen, alloc, case.failing)?;
+    take_both_in(seen, alloc, brought, &mut stage, case.statuses)
 }
 
 /// Looks at what `keys_are_taken_in_one_by_one` says.
-pub fn look_at_imports<T: Abort>(
-    rt: &T,
+pub fn look_at_imports<T: Asserts>(
+    seen: &T,
     alloc: Global,
     brought: &Brought,
 ) -> Result<(), AllocError> {
     for case in IMPORTS {
-        look_at_import(rt, alloc, brought, case)?;
+        look_at_import(seen, alloc, brought, case)?;
     }
     Ok(())
 }
@@ -238,46 +238,46 @@ const DELETIONS: &[Case] = &[
 ];
 
 /// Gives the keys up, and compares what becomes of them.
-fn give_up<T: Abort>(
-    rt: &T,
+fn give_up<T: Asserts>(
+    seen: &T,
     alloc: Global,
     stage: &mut Stage,
     statuses: &[&str],
 ) -> Result<(), AllocError> {
     let deletion = delete(alloc, stage, &[K1, K2, K3, K4, K1])?;
-    compare_statuses(rt, deletion.statuses.as_slice(), statuses);
+    compare_statuses(seen, deletion.statuses.as_slice(), statuses);
     Ok(())
 }
 
 /// Gives the keys up that were given up before, and counts those in the file.
-fn give_up_again<T: Abort>(rt: &T, alloc: Global, stage: &mut Stage) -> Result<(), AllocError> {
+fn give_up_again<T: Asserts>(seen: &T, alloc: Global, stage: &mut Stage) -> Result<(), AllocError> {
     let deletion = delete(alloc, stage, &[K1, K2, K3, K4])?;
-    assert_eq!(rt; deletion.file.books.len(), 3);
+    seen.same(&deletion.file.books.len(), &3);
     Ok(())
 }
 
 /// Gives the keys up twice, and looks at what becomes of them and that none is active then.
-fn give_up_twice<T: Abort>(
-    rt: &T,
+fn give_up_twice<T: Asserts>(
+    seen: &T,
     alloc: Global,
     stage: &mut Stage,
     statuses: &[&str],
 ) -> Result<(), AllocError> {
-    give_up(rt, alloc, stage, statuses)?;
-    give_up_again(rt, alloc, stage)?;
-    compare_active(rt, alloc, stage, &[])
+    give_up(seen, alloc, stage, statuses)?;
+    give_up_again(seen, alloc, stage)?;
+    compare_active(seen, alloc, stage, &[])
 }
 
 /// Gives the keys up twice with a signer, and looks at what becomes of them.
-fn look_at_deletion<T: Abort>(rt: &T, alloc: Global, case: &Case) -> Result<(), AllocError> {
-    let mut stage = stage_of_three(rt, alloc, case.failing)?;
-    give_up_twice(rt, alloc, &mut stage, case.statuses)
+fn look_at_deletion<T: Asserts>(seen: &T, alloc: Global, case: &Case) -> Result<(), AllocError> {
+    let mut stage = stage_of_three(seen, alloc, case.failing)?;
+    give_up_twice(seen, alloc, &mut stage, case.statuses)
 }
 
 /// Looks at what `keys_are_given_up_one_by_one` says.
-pub fn look_at_deletions<T: Abort>(rt: &T, alloc: Global) -> Result<(), AllocError> {
+pub fn look_at_deletions<T: Asserts>(seen: &T, alloc: Global) -> Result<(), AllocError> {
     for case in DELETIONS {
-        look_at_deletion(rt, alloc, case)?;
+        look_at_deletion(seen, alloc, case)?;
     }
     Ok(())
 }
@@ -317,17 +317,21 @@ fn merge_refusal(alloc: Global, stage: &mut Stage) -> Result<Option<DeskRefusal>
 }
 
 /// Why a file of another chain is not merged at a desk without keys, if it is not.
-pub fn refusal_at_empty<T: Abort>(
-    rt: &T,
+pub fn refusal_at_empty<T: Asserts>(
+    seen: &T,
     alloc: Global,
 ) -> Result<Option<DeskRefusal>, AllocError> {
-    let mut stage = stage_over(rt, alloc, &[], None)?;
+    let mut stage = stage_over(seen, alloc, &[], None)?;
     merge_refusal(alloc, &mut stage)
 }
 
 /// Looks at what `a_refused_merge_ends_the_import` says.
-pub fn compare_refusals<T: Abort>(rt: &T, found: Option<DeskRefusal>, wanted: Option<DeskRefusal>) {
-    assert_eq!(rt; found, wanted);
+pub fn compare_refusals<T: Asserts>(
+    seen: &T,
+    found: Option<DeskRefusal>,
+    wanted: Option<DeskRefusal>,
+) {
+    seen.same(&found, &wanted);
 }
 
 /// A keystore, and its key if it has one.
@@ -372,32 +376,36 @@ fn key_in(alloc: Global, keystore: &Keystore) -> Result<Option<PubKey>, AllocErr
     key_of_keystore(alloc, text.as_str())
 }
 
-fn look_at_member<T: Abort>(rt: &T, alloc: Global, member: &Member) -> Result<(), AllocError> {
+fn look_at_member<T: Asserts>(seen: &T, alloc: Global, member: &Member) -> Result<(), AllocError> {
     let mark = member.keystore.mark;
     let key = key_in(alloc, &member.keystore)?;
-    assert_eq!(rt; key, member.key, "{mark}");
+    seen.same_at(&key, &member.key, format_args!("{mark}"));
     Ok(())
 }
 
 /// Looks at what `the_key_of_a_keystore_is_its_member` says.
-pub fn look_at_members<T: Abort>(rt: &T, alloc: Global) -> Result<(), AllocError> {
+pub fn look_at_members<T: Asserts>(seen: &T, alloc: Global) -> Result<(), AllocError> {
     for member in MEMBERS {
-        look_at_member(rt, alloc, member)?;
+        look_at_member(seen, alloc, member)?;
     }
     Ok(())
 }
 
 /// Compares that a text is no keystore with a key.
-fn look_at_other<T: Abort>(rt: &T, alloc: Global, text: &str) -> Result<(), AllocError> {
+fn look_at_other<T: Asserts>(seen: &T, alloc: Global, text: &str) -> Result<(), AllocError> {
     let key = key_of_keystore(alloc, text)?;
-    assert_eq!(rt; key, None, "{text}");
+    seen.same_at(&key, &None, format_args!("{text}"));
     Ok(())
 }
 
 /// Looks at what `the_key_of_a_keystore_is_its_member` says.
-pub fn look_at_others<T: Abort>(rt: &T, alloc: Global, texts: &[&str]) -> Result<(), AllocError> {
+pub fn look_at_others<T: Asserts>(
+    seen: &T,
+    alloc: Global,
+    texts: &[&str],
+) -> Result<(), AllocError> {
     for text in texts {
-        look_at_other(rt, alloc, text)?;
+        look_at_other(seen, alloc, text)?;
     }
     Ok(())
 }

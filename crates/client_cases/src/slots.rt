@@ -1,4 +1,5 @@
 //! The duties of one slot: each result, by the first call that failed.
+use assertions::Asserts;
 use check_sign::{Desk, DeskReply};
 use duty_schedule::Duty;
 use duty_workers::{DutyResult, DutySetup, run_slot};
@@ -10,7 +11,6 @@ use phase0_types::{AttestationData, BoundedList, Checkpoint, Eth1Data, Fork};
 use sign_roots::Domains;
 use signer_link::MemSigner;
 use std::alloc::{AllocError, Global};
-use std::process::Abort;
 
 const KEY: PubKey = PubKey([0x11; 48]);
 
@@ -194,33 +194,33 @@ fn empty_disks(alloc: Global) -> Result<Disks<MemDisk>, AllocError> {
 }
 
 /// A desk that keeps no key.
-fn empty_desk<T: Abort>(rt: &T, alloc: Global) -> Result<Desk<MemDisk>, AllocError> {
+fn empty_desk<T: Asserts>(seen: &T, alloc: Global) -> Result<Desk<MemDisk>, AllocError> {
     let disks = empty_disks(alloc)?;
     match Desk::open(alloc, disks, SETUP.genesis, false, 0) {
         Ok(desk) => Ok(desk),
-        Err(_) => rt.panic("not opened"),
+        Err(_) => seen.panic("not opened"),
     }
 }
 
 /// Makes a key active.
-fn activate<T: Abort>(rt: &T, desk: &mut Desk<MemDisk>) {
+fn activate<T: Asserts>(seen: &T, desk: &mut Desk<MemDisk>) {
     match desk.activate(KEY, 0) {
         DeskReply::Active => {}
-        _ => rt.panic("not activated"),
+        _ => seen.panic("not activated"),
     }
 }
 
 /// A desk with one active key, a signer and a node.
-fn stage_of<T: Abort>(
-    rt: &T,
+fn stage_of<T: Asserts>(
+    seen: &T,
     alloc: Global,
     outside: &Outside,
     blocks: bool,
 ) -> Result<Stage, AllocError> {
     let signer = signer_of(alloc, outside)?;
     let nodes = nodes_of(alloc, outside, blocks)?;
-    let mut desk = empty_desk(rt, alloc)?;
-    activate(rt, &mut desk);
+    let mut desk = empty_desk(seen, alloc)?;
+    activate(seen, &mut desk);
     Ok(Stage {
         desk,
         signer,
@@ -316,8 +316,8 @@ fn write_ended(
 }
 
 /// Compares the results, and the numbers of posts and of events, with what is expected.
-fn compare<T: Abort>(
-    rt: &T,
+fn compare<T: Asserts>(
+    seen: &T,
     alloc: Global,
     results: &[DutyResult],
     counts: (usize, usize),
@@ -325,32 +325,32 @@ fn compare<T: Abort>(
 ) -> Result<(), AllocError> {
     let mut text = String::new(alloc);
     write_ended(&mut text, results, counts)?;
-    assert_eq!(rt; text.as_str(), ended);
+    seen.same(&text.as_str(), &ended);
     Ok(())
 }
 
 /// Does the votes or the blocks of the slot, and looks at what becomes of them.
-fn look_at_slot<T: Abort>(
-    rt: &T,
+fn look_at_slot<T: Asserts>(
+    seen: &T,
     alloc: Global,
     case: &Case,
     blocks: bool,
 ) -> Result<(), AllocError> {
-    let mut stage = stage_of(rt, alloc, &case.outside, blocks)?;
+    let mut stage = stage_of(seen, alloc, &case.outside, blocks)?;
     let results = take_slot(alloc, blocks, &mut stage)?;
     let counts = counts_of(stage);
-    compare(rt, alloc, results.as_slice(), counts, case.ended)
+    compare(seen, alloc, results.as_slice(), counts, case.ended)
 }
 
 /// Looks at each slot.
-pub fn look_at<T: Abort>(
-    rt: &T,
+pub fn look_at<T: Asserts>(
+    seen: &T,
     alloc: Global,
     cases: &[Case],
     blocks: bool,
 ) -> Result<(), AllocError> {
     for case in cases {
-        look_at_slot(rt, alloc, case, blocks)?;
+        look_at_slot(seen, alloc, case, blocks)?;
     }
     Ok(())
 }

@@ -1,10 +1,10 @@
 //! A desk and a signer, and what becomes of keys in words.
+use assertions::Asserts;
 use check_sign::{Desk, DeskReply};
 use edge_kit::{Disks, MemDisk, PubKey, Root};
 use key_custody::{Deletion, DeskRefusal, KeyStatus, Reason, delete_keys};
 use signer_link::MemSigner;
 use std::alloc::{AllocError, Global};
-use std::process::Abort;
 
 /// The first key.
 pub const K1: PubKey = PubKey([0x11; 48]);
@@ -59,20 +59,20 @@ fn refusal_word(refusal: &DeskRefusal) -> &'static str {
 }
 
 /// Compares how many there are.
-fn compare_counts<T: Abort>(rt: &T, found: usize, wanted: usize) {
-    assert_eq!(rt; found, wanted);
+fn compare_counts<T: Asserts>(seen: &T, found: usize, wanted: usize) {
+    seen.same(&found, &wanted);
 }
 
 /// Compares what became of one key.
-fn compare_status<T: Abort>(rt: &T, status: &KeyStatus, wanted: &str) {
-    assert_eq!(rt; word(status), wanted);
+fn compare_status<T: Asserts>(seen: &T, status: &KeyStatus, wanted: &str) {
+    seen.same(&word(status), &wanted);
 }
 
 /// Compares what became of keys with what is expected.
-pub fn compare_statuses<T: Abort>(rt: &T, statuses: &[KeyStatus], wanted: &[&str]) {
-    compare_counts(rt, statuses.len(), wanted.len());
+pub fn compare_statuses<T: Asserts>(seen: &T, statuses: &[KeyStatus], wanted: &[&str]) {
+    compare_counts(seen, statuses.len(), wanted.len());
     for (status, wanted) in statuses.iter().zip(wanted) {
-        compare_status(rt, status, wanted);
+        compare_status(seen, status, wanted);
     }
 }
 
@@ -90,8 +90,8 @@ fn disks_of(alloc: Global, bytes: &[u8], stop: Option<u64>) -> Result<Disks<MemD
 }
 
 /// Opens a desk over disks of which the first has these bytes and stops at a call, if one is given.
-pub fn desk_over<T: Abort>(
-    rt: &T,
+pub fn desk_over<T: Asserts>(
+    seen: &T,
     alloc: Global,
     bytes: &[u8],
     stop: Option<u64>,
@@ -99,7 +99,7 @@ pub fn desk_over<T: Abort>(
     let disks = disks_of(alloc, bytes, stop)?;
     match Desk::open(alloc, disks, GENESIS, false, 0) {
         Ok(desk) => Ok(desk),
-        Err(_) => rt.panic("not opened"),
+        Err(_) => seen.panic("not opened"),
     }
 }
 
@@ -110,13 +110,13 @@ fn signer_of(alloc: Global, failing: &[u64]) -> Result<MemSigner, AllocError> {
 }
 
 /// A desk over disks of which the first has these bytes and stops at a call, if one is given.
-pub fn stage_over<T: Abort>(
-    rt: &T,
+pub fn stage_over<T: Asserts>(
+    seen: &T,
     alloc: Global,
     bytes: &[u8],
     stop: Option<u64>,
 ) -> Result<Stage, AllocError> {
-    let desk = desk_over(rt, alloc, bytes, stop)?;
+    let desk = desk_over(seen, alloc, bytes, stop)?;
     let signer = MemSigner::new(alloc, Vec::new(alloc), Vec::new(alloc));
     Ok(Stage { desk, signer })
 }
@@ -127,48 +127,48 @@ pub fn delete(alloc: Global, stage: &mut Stage, keys: &[PubKey]) -> Result<Delet
 }
 
 /// Makes a key active.
-pub fn activate<T: Abort>(rt: &T, desk: &mut Desk<MemDisk>, key: PubKey) {
+pub fn activate<T: Asserts>(seen: &T, desk: &mut Desk<MemDisk>, key: PubKey) {
     match desk.activate(key, 0) {
         DeskReply::Active => {}
-        _ => rt.panic("not activated"),
+        _ => seen.panic("not activated"),
     }
 }
 
 /// Begins to close a key.
-fn begin_close<T: Abort>(rt: &T, desk: &mut Desk<MemDisk>, key: PubKey) {
+fn begin_close<T: Asserts>(seen: &T, desk: &mut Desk<MemDisk>, key: PubKey) {
     match desk.begin_close(key) {
         DeskReply::CloseBegun => {}
-        _ => rt.panic("the close is not begun"),
+        _ => seen.panic("the close is not begun"),
     }
 }
 
 /// Closes a key.
-fn close<T: Abort>(rt: &T, desk: &mut Desk<MemDisk>, key: PubKey) {
-    begin_close(rt, desk, key);
+fn close<T: Asserts>(seen: &T, desk: &mut Desk<MemDisk>, key: PubKey) {
+    begin_close(seen, desk, key);
     match desk.finish_close(key) {
         DeskReply::Closed(_book) => {}
-        _ => rt.panic("not closed"),
+        _ => seen.panic("not closed"),
     }
 }
 
 /// Makes three keys active, and closes the second and begins to close the third.
-fn keep_three<T: Abort>(rt: &T, desk: &mut Desk<MemDisk>) {
-    activate(rt, desk, K1);
-    activate(rt, desk, K2);
-    close(rt, desk, K2);
-    activate(rt, desk, K3);
-    begin_close(rt, desk, K3);
+fn keep_three<T: Asserts>(seen: &T, desk: &mut Desk<MemDisk>) {
+    activate(seen, desk, K1);
+    activate(seen, desk, K2);
+    close(seen, desk, K2);
+    activate(seen, desk, K3);
+    begin_close(seen, desk, K3);
 }
 
 /// A desk that keeps one active key, one that is closed and one that is being closed, and a signer whose calls of these
 /// numbers fail.
-pub fn stage_of_three<T: Abort>(
-    rt: &T,
+pub fn stage_of_three<T: Asserts>(
+    seen: &T,
     alloc: Global,
     failing: &[u64],
 ) -> Result<Stage, AllocError> {
     let signer = signer_of(alloc, failing)?;
-    let mut desk = desk_over(rt, alloc, &[], None)?;
-    keep_three(rt, &mut desk);
+    let mut desk = desk_over(seen, alloc, &[], None)?;
+    keep_three(seen, &mut desk);
     Ok(Stage { desk, signer })
 }

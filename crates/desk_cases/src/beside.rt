@@ -9,12 +9,12 @@ ghost use Rattle.desk_seat.specs.Seats.{IsDeskPass};
 
 use crate::did::{is_activation, is_close, is_closing, is_granting, is_settling};
 use crate::lent::{PROPOSE, activate, back_from_two, begin_close, close, lent, settle};
+use assertions::Asserts;
 use check_sign::{Desk, DeskCalls, DeskEvent, DeskReply};
 use desk_lock::{Pass, Shared};
 use desk_seat::{LentDesk, Seated};
 use edge_kit::{Disk, MemDisk};
 use std::alloc::{AllocError, Global};
-use std::process::Abort;
 use std::rt::Clock;
 use std::sync::Wait;
 use std::sync::atomic::{AtomicBool, AtomicU64, Ordering};
@@ -62,7 +62,7 @@ impl Flags {
 }
 
 /// Holds a grant until the other side has begun the close, and a while longer.
-fn hold<K: DeskCalls, T: Clock + Abort>(rt: &T, desk: &mut K, flags: &Flags)
+fn hold<K: DeskCalls, T: Clock, J: Asserts>(rt: &T, seen: &J, desk: &mut K, flags: &Flags)
     requires ready { K.ready desk.old }
     ensures ready { K.ready desk.new }
     ensures led { (made : List (DeskCall × DeskReply)) × K.leads desk.old made desk.new }
@@ -72,27 +72,28 @@ fn hold<K: DeskCalls, T: Clock + Abort>(rt: &T, desk: &mut K, flags: &Flags)
             flags.is_granted.store(true, Ordering::SeqCst);
             flags.wait(rt, &flags.has_begun);
             thread::sleep(rt, Duration::from_millis(HELD));
-            settle(rt, desk, grant)
+            settle(seen, desk, grant)
         }
-        _ => rt.panic("not granted"),
+        _ => seen.panic("not granted"),
     }
 }
 
 /// Closes the key once the other side has its grant.
-fn close_behind<K: DeskCalls, T: Clock + Abort>(rt: &T, desk: &mut K, flags: &Flags)
+fn close_behind<K: DeskCalls, T: Clock, J: Asserts>(rt: &T, seen: &J, desk: &mut K, flags: &Flags)
     requires ready { K.ready desk.old }
     ensures ready { K.ready desk.new }
     ensures led { (made : List (DeskCall × DeskReply)) × K.leads desk.old made desk.new }
 {
     flags.wait(rt, &flags.is_granted);
-    begin_close(rt, desk);
+    begin_close(seen, desk);
     flags.has_begun.store(true, Ordering::SeqCst);
-    close(rt, desk)
+    close(seen, desk)
 }
 
 /// One side holds a grant while the other one closes the key.
-fn hold_and_close<T: Threads + Clock + Sync + Abort, K: DeskCalls + Send>(
+fn hold_and_close<T: Threads + Clock + Sync, K: DeskCalls + Send, J: Asserts + Sync>(
     rt: &T,
+    seen: &J,
     one: &mut K,
     other: &mut K,
     flags: &Flags,
@@ -107,17 +108,18 @@ fn hold_and_close<T: Threads + Clock + Sync + Abort, K: DeskCalls + Send>(
         &mut || -> ()
             requires { K.ready one.now }
             ensures { K.ready one.exit.now × ((made : List (DeskCall × DeskReply)) × K.leads one.entry.now made one.exit.now) }
-        { hold(rt, one, flags) },
+        { hold(rt, seen, one, flags) },
         &mut || -> ()
             requires { K.ready other.now }
             ensures { K.ready other.exit.now × ((made : List (DeskCall × DeskReply)) × K.leads other.entry.now made other.exit.now) }
-        { close_behind(rt, other, flags) },
+        { close_behind(rt, seen, other, flags) },
     );
 }
 
 /// Makes the key active by one pass, whose seat holds a grant while the seat of the other one closes the key.
-fn close_over_seats<T: Threads + Wait + Clock + Sync + Abort, D: Disk + Send>(
+fn close_over_seats<T: Threads + Wait + Clock + Sync, D: Disk + Send, J: Asserts + Sync>(
     rt: &T,
+    seen: &J,
     shared: &Shared<LentDesk<D>>,
     mut one: Pass<LentDesk<D>>,
     other: Pass<LentDesk<D>>,
@@ -129,23 +131,24 @@ fn close_over_seats<T: Threads + Wait + Clock + Sync + Abort, D: Disk + Send>(
     ensures other { IsDeskPass D.moment D.leaves D.faults shared.now result.1 }
     ensures numbers { (number result.0 ≡ number one) × (number result.1 ≡ number other) }
 {
-    activate(rt, shared, &mut one);
+    activate(rt, seen, shared, &mut one);
     let mut one = Seated::new(rt, shared, one);
     let mut other = Seated::new(rt, shared, other);
-    hold_and_close(rt, &mut one, &mut other, flags);
+    hold_and_close(rt, seen, &mut one, &mut other, flags);
     (one.into_pass(), other.into_pass())
 }
 
 /// A desk of which one pass holds a grant while the other one closes the key.
-pub fn closed_beside<T: Threads + Wait + Clock + Sync + Abort>(
+pub fn closed_beside<T: Threads + Wait + Clock + Sync, J: Asserts + Sync>(
     rt: &T,
+    seen: &J,
     alloc: Global,
     flags: &Flags,
 ) -> Result<Desk<MemDisk>, AllocError> {
-    let mut owner = lent(rt, alloc, 2)?;
+    let mut owner = lent(seen, alloc, 2)?;
     let one = owner.pass().unwrap();
     let other = owner.pass().unwrap();
-    let (one, other) = close_over_seats(rt, &owner.shared, one, other, flags);
+    let (one, other) = close_over_seats(rt, seen, &owner.shared, one, other, flags);
     back_from_two(alloc, owner, one, other)
 }
 

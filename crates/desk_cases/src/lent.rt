@@ -8,13 +8,13 @@ ghost use Rattle.desk_seat.specs.Seats.{IsDeskPass};
 
 use crate::desks::{KEY, RA, begun};
 use crate::did::has_the_vote;
+use assertions::Asserts;
 use check_sign::{Desk, DeskCall, DeskCalls, DeskReply, Grant, Outcome};
 use desk_lock::{Owner, Pass, Shared};
 use desk_seat::{LentDesk, lend, take_back};
 use edge_kit::{Disk, MemDisk};
 use slash_defs::Message;
 use std::alloc::{AllocError, Global};
-use std::process::Abort;
 use std::sync::Wait;
 
 /// The vote of the key.
@@ -25,13 +25,17 @@ pub const VOTE: Message = Message::Vote {
 };
 
 /// A desk over empty disks, lent to so many passes.
-pub fn lent<T: Abort>(rt: &T, alloc: Global, n: u64) -> Result<Owner<LentDesk<MemDisk>>, AllocError>
+pub fn lent<T: Asserts>(
+    seen: &T,
+    alloc: Global,
+    n: u64,
+) -> Result<Owner<LentDesk<MemDisk>>, AllocError>
     requires { (1 ≤ n) × (n ≤ 66) }
     ensures { IfOk result (λ owner. (passes_of owner ≡ n) × (given_of owner ≡ 0)) }
 {
-    match lend(alloc, begun(rt, alloc)?, n) {
+    match lend(alloc, begun(seen, alloc)?, n) {
         Ok(owner) => Ok(owner),
-        Err(_) => rt.panic("not lent"),
+        Err(_) => seen.panic("not lent"),
     }
 }
 
@@ -67,8 +71,9 @@ pub fn back_from_two<D: Disk + Drop>(
 }
 
 /// Makes the key active by a turn.
-pub fn activate<D: Disk, T: Wait + Abort>(
+pub fn activate<D: Disk, T: Wait, J: Asserts>(
     rt: &T,
+    seen: &J,
     shared: &Shared<LentDesk<D>>,
     pass: &mut Pass<LentDesk<D>>,
 )
@@ -78,12 +83,12 @@ pub fn activate<D: Disk, T: Wait + Abort>(
 {
     match shared.turn(rt, pass, DeskCall::Activate { key: KEY, now: 2 }) {
         DeskReply::Active => {}
-        _ => rt.panic("not activated"),
+        _ => seen.panic("not activated"),
     }
 }
 
 /// Spends a grant, as sent.
-pub fn settle<K: DeskCalls, T: Abort>(rt: &T, desk: &mut K, grant: Grant)
+pub fn settle<K: DeskCalls, T: Asserts>(seen: &T, desk: &mut K, grant: Grant)
     requires ready { K.ready desk.old }
     requires settles { K.allows desk.old (DeskCall.Settle grant Outcome.Sent) }
     ensures ready { K.ready desk.new }
@@ -92,7 +97,7 @@ pub fn settle<K: DeskCalls, T: Abort>(rt: &T, desk: &mut K, grant: Grant)
     let outcome = Outcome::Sent;
     match desk.call(DeskCall::Settle { grant, outcome }) {
         DeskReply::Settled => {}
-        _ => rt.panic("not settled"),
+        _ => seen.panic("not settled"),
     }
 }
 
@@ -104,37 +109,37 @@ pub const PROPOSE: DeskCall = DeskCall::Propose {
 };
 
 /// Asks for leave to sign the vote, which is given, and spends the grant.
-pub fn sign<K: DeskCalls, T: Abort>(rt: &T, desk: &mut K)
+pub fn sign<K: DeskCalls, T: Asserts>(seen: &T, desk: &mut K)
     requires ready { K.ready desk.old }
     ensures ready { K.ready desk.new }
     ensures led { (made : List (DeskCall × DeskReply)) × K.leads desk.old made desk.new }
 {
     match desk.call(PROPOSE) {
-        DeskReply::Granted(grant) => settle(rt, desk, grant),
-        _ => rt.panic("not granted"),
+        DeskReply::Granted(grant) => settle(seen, desk, grant),
+        _ => seen.panic("not granted"),
     }
 }
 
 /// Begins to close the key.
-pub fn begin_close<K: DeskCalls, T: Abort>(rt: &T, desk: &mut K)
+pub fn begin_close<K: DeskCalls, T: Asserts>(seen: &T, desk: &mut K)
     requires ready { K.ready desk.old }
     ensures ready { K.ready desk.new }
     ensures led { (made : List (DeskCall × DeskReply)) × K.leads desk.old made desk.new }
 {
     match desk.call(DeskCall::BeginClose { key: KEY }) {
         DeskReply::CloseBegun => {}
-        _ => rt.panic("the close is not begun"),
+        _ => seen.panic("the close is not begun"),
     }
 }
 
 /// Closes the key. The vote is handed over.
-pub fn close<K: DeskCalls, T: Abort>(rt: &T, desk: &mut K)
+pub fn close<K: DeskCalls, T: Asserts>(seen: &T, desk: &mut K)
     requires ready { K.ready desk.old }
     ensures ready { K.ready desk.new }
     ensures led { (made : List (DeskCall × DeskReply)) × K.leads desk.old made desk.new }
 {
     match desk.close_idle(&KEY) {
-        DeskReply::Closed(book) => assert!(rt; has_the_vote(&book)),
-        _ => rt.panic("not closed"),
+        DeskReply::Closed(book) => seen.holds(has_the_vote(&book)),
+        _ => seen.panic("not closed"),
     }
 }

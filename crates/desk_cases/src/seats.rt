@@ -7,32 +7,33 @@ ghost use Rattle.desk_seat.specs.Seats.{IsDeskPass};
 
 use crate::did::{is_activation, is_close, is_closing, is_granting, is_settling};
 use crate::lent::{activate, back_from_one, begin_close, close, lent, sign};
+use assertions::Asserts;
 use check_sign::{Desk, DeskCalls, DeskEvent, DeskReply};
 use desk_lock::{Pass, Shared};
 use desk_seat::{LentDesk, Seated};
 use edge_kit::{Disk, MemDisk, PubKey};
 use std::alloc::{AllocError, Global};
-use std::process::Abort;
 use std::sync::Wait;
 
 /// A key of which nothing is kept.
 const K2: PubKey = PubKey([0x22; 48]);
 
 /// Closes a key of which nothing is kept.
-fn close_unknown<K: DeskCalls, T: Abort>(rt: &T, desk: &mut K)
+fn close_unknown<K: DeskCalls, T: Asserts>(seen: &T, desk: &mut K)
     requires ready { K.ready desk.old }
     ensures ready { K.ready desk.new }
     ensures led { (made : List (DeskCall × DeskReply)) × K.leads desk.old made desk.new }
 {
     match desk.close_idle(&K2) {
         DeskReply::Unknown => {}
-        _ => rt.panic("not unknown"),
+        _ => seen.panic("not unknown"),
     }
 }
 
 /// Makes the key active by a pass, and signs the vote and closes the key and an unknown one over a seat.
-fn sign_and_close<D: Disk, T: Wait + Abort>(
+fn sign_and_close<D: Disk, T: Wait, J: Asserts>(
     rt: &T,
+    seen: &J,
     shared: &Shared<LentDesk<D>>,
     mut pass: Pass<LentDesk<D>>,
 ) -> Pass<LentDesk<D>>
@@ -40,20 +41,24 @@ fn sign_and_close<D: Disk, T: Wait + Abort>(
     ensures pass { IsDeskPass D.moment D.leaves D.faults shared.now result }
     ensures number { number result ≡ number pass }
 {
-    activate(rt, shared, &mut pass);
+    activate(rt, seen, shared, &mut pass);
     let mut seat = Seated::new(rt, shared, pass);
-    sign(rt, &mut seat);
-    begin_close(rt, &mut seat);
-    close_unknown(rt, &mut seat);
-    close(rt, &mut seat);
+    sign(seen, &mut seat);
+    begin_close(seen, &mut seat);
+    close_unknown(seen, &mut seat);
+    close(seen, &mut seat);
     seat.into_pass()
 }
 
 /// A desk at which the key is active and signs the vote and is closed, by one pass.
-pub fn closed<T: Wait + Abort>(rt: &T, alloc: Global) -> Result<Desk<MemDisk>, AllocError> {
-    let mut owner = lent(rt, alloc, 1)?;
+pub fn closed<T: Wait, J: Asserts>(
+    rt: &T,
+    seen: &J,
+    alloc: Global,
+) -> Result<Desk<MemDisk>, AllocError> {
+    let mut owner = lent(seen, alloc, 1)?;
     let pass = owner.pass().unwrap();
-    let pass = sign_and_close(rt, &owner.shared, pass);
+    let pass = sign_and_close(rt, seen, &owner.shared, pass);
     back_from_one(alloc, owner, pass)
 }
 

@@ -1,7 +1,7 @@
 //! Clocks in memory, and the system's.
+use assertions::Asserts;
 use edge_clock::{Clock, Delay, MemClock};
 use std::alloc::Global;
-use std::process::Abort;
 use std::sync::Wait;
 use std::test::Fail;
 
@@ -63,10 +63,19 @@ pub const ROWS: &[Row] = &[
 ];
 
 /// Looks what a clock that starts at second 50 shows, and when its wait is over.
-pub fn wait_so<T: Abort + Wait>(rt: &T, alloc: Global, row: &Row) -> Result<(), Fail> {
+pub fn wait_so<T: Wait, J: Asserts>(
+    rt: &T,
+    seen: &J,
+    alloc: Global,
+    row: &Row,
+) -> Result<(), Fail> {
     let clock = MemClock::new(50, Vec::from_slice(alloc, row.delays)?);
     let moment = row.moment;
-    assert_eq!(rt; clock.now(), 50);
-    assert_eq!(rt; clock.wait_until(rt, moment), row.reached, "{moment}");
+    seen.same(&clock.now(), &50);
+    seen.same_at(
+        &clock.wait_until(rt, moment),
+        &row.reached,
+        format_args!("{moment}"),
+    );
     Ok(())
 }

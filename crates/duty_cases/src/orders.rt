@@ -1,4 +1,5 @@
 //! The order in which nodes are asked, and what comes of their answers.
+use assertions::Asserts;
 use edge_kit::{PubKey, Root, Sig};
 use node_calls::{Answer, Ask, MemNode, NodeCall, Post, aggregation_bits};
 use node_fallback::{Cause, NoAnswer, Nodes};
@@ -6,7 +7,6 @@ use phase0_blocks::Attestation;
 use phase0_types::{AttestationData, Checkpoint};
 use slash_defs::{Granted, Message};
 use std::alloc::{AllocError, Global};
-use std::process::Abort;
 use std::test::Fail;
 
 /// Allows one message to be signed by one key.
@@ -238,19 +238,19 @@ fn had_by(alloc: Global, nodes: Nodes<MemNode>) -> Result<String, AllocError> {
 }
 
 /// Does what a case says, and compares what comes of it.
-fn look_at_one<T: Abort>(rt: &T, alloc: Global, case: &Case) -> Result<(), Fail> {
+fn look_at_one<T: Asserts>(seen: &T, alloc: Global, case: &Case) -> Result<(), Fail> {
     let mut nodes = nodes_of(alloc, &case.nodes)?;
     let words = words_of(alloc, case.does, &mut nodes)?;
     let had = had_by(alloc, nodes)?;
-    assert_eq!(rt; words.as_str(), case.words);
-    assert_eq!(rt; had.as_str(), case.had);
+    seen.same(&words.as_str(), &case.words);
+    seen.same(&had.as_str(), &case.had);
     Ok(())
 }
 
 /// Asks the nodes of each case, and compares what comes of it.
-pub fn look_at<T: Abort>(rt: &T, alloc: Global, cases: &[Case]) -> Result<(), Fail> {
+pub fn look_at<T: Asserts>(seen: &T, alloc: Global, cases: &[Case]) -> Result<(), Fail> {
     for case in cases {
-        look_at_one(rt, alloc, case)?;
+        look_at_one(seen, alloc, case)?;
     }
     Ok(())
 }
@@ -412,8 +412,8 @@ pub const POSTED: &[Case] = &[
 ];
 
 /// Compares the name of a cause.
-pub fn name_so<T: Abort>(rt: &T, alloc: Global, cause: &Cause, text: &str) -> Result<(), Fail> {
+pub fn name_so<T: Asserts>(seen: &T, alloc: Global, cause: &Cause, text: &str) -> Result<(), Fail> {
     let named = cause.to_string(alloc)?;
-    assert_eq!(rt; named.as_str(), text);
+    seen.same(&named.as_str(), &text);
     Ok(())
 }

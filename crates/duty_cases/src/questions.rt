@@ -1,8 +1,8 @@
 //! What fits a question about duties.
+use assertions::Asserts;
 use edge_kit::{Items, PubKey, Root};
 use node_calls::{Answer, Ask, AttesterRow, ProposerRow, aggregation_bits};
 use std::alloc::{AllocError, Global};
-use std::process::Abort;
 use std::test::Fail;
 
 /// The key of these cases.
@@ -187,9 +187,9 @@ pub const MEMBERS: &[Member] = &[
 ];
 
 /// Compares the bits of a member's vote.
-pub fn vote_so<T: Abort>(rt: &T, alloc: Global, member: &Member) -> Result<(), Fail> {
-    assert!(rt; member.place < member.length && member.length <= 2048);
+pub fn vote_so<T: Asserts>(seen: &T, alloc: Global, member: &Member) -> Result<(), Fail> {
+    seen.holds(member.place < member.length && member.length <= 2048);
     let bits = aggregation_bits(alloc, member.place, member.length)?;
-    assert_eq!(rt; bits.as_slice(), member.bits);
+    seen.same(&bits.as_slice(), &member.bits);
     Ok(())
 }

@@ -1,10 +1,10 @@
 //! Slots, what is due in them, and data of attestations.
+use assertions::Asserts;
 use duty_schedule::{BeforeGenesis, DataDiffers, Duty, DutyRows, Schedule, Taken, check_data};
 use edge_kit::{Items, PubKey, Root};
 use node_calls::{AttesterRow, ProposerRow};
 use phase0_types::{AttestationData, Checkpoint};
 use std::alloc::{AllocError, Global};
-use std::process::Abort;
 use std::test::Fail;
 
 const FIRST: PubKey = PubKey([0x11; 48]);
@@ -142,10 +142,10 @@ fn words(alloc: Global, checked: Result<(), DataDiffers>) -> Result<String, Allo
 }
 
 /// Compares what is found to differ.
-pub fn differ_so<T: Abort>(rt: &T, alloc: Global, row: &Data) -> Result<(), Fail> {
+pub fn differ_so<T: Asserts>(seen: &T, alloc: Global, row: &Data) -> Result<(), Fail> {
     let checked = check_data(&vote(FIRST, 33, 2), &details(row));
     let text = words(alloc, checked)?;
-    assert_eq!(rt; text.as_str(), row.found);
+    seen.same(&text.as_str(), &row.found);
     Ok(())
 }
 
@@ -247,12 +247,12 @@ fn voting(schedule: &Schedule) -> Result<Option<u64>, AllocError> {
 }
 
 /// Takes each answer, and compares what becomes of it and what is due then.
-pub fn take_each<T: Abort>(rt: &T, alloc: Global, schedule: &mut Schedule) -> Result<(), Fail> {
+pub fn take_each<T: Asserts>(seen: &T, alloc: Global, schedule: &mut Schedule) -> Result<(), Fail> {
     for row in ANSWERS {
         let outcome = take(alloc, row, schedule)?;
-        assert_eq!(rt; outcome, row.taken);
+        seen.same(&outcome, &row.taken);
         let due = voting(schedule)?;
-        assert_eq!(rt; due, row.due);
+        seen.same(&due, &row.due);
     }
     Ok(())
 }
@@ -290,7 +290,11 @@ fn take_block(alloc: Global, schedule: &mut Schedule) -> Result<(), AllocError> 
 }
 
 /// Takes the votes and the block, and compares what is due at slot 96 for two of the keys, and for none.
-pub fn look_at_due<T: Abort>(rt: &T, alloc: Global, schedule: &mut Schedule) -> Result<(), Fail> {
+pub fn look_at_due<T: Asserts>(
+    seen: &T,
+    alloc: Global,
+    schedule: &mut Schedule,
+) -> Result<(), Fail> {
     take_votes(alloc, schedule)?;
     take_block(alloc, schedule)?;
     let duties = schedule.due(96, &[SECOND, FIRST, SECOND])?;
@@ -300,8 +304,8 @@ pub fn look_at_due<T: Abort>(rt: &T, alloc: Global, schedule: &mut Schedule) -> 
         Duty::Vote(vote(FIRST, 96, 4)),
         Duty::Vote(vote(SECOND, 96, 1)),
     ];
-    assert_eq!(rt; duties.as_slice(), expected.as_slice());
+    seen.same(&duties.as_slice(), &expected.as_slice());
     let without_keys = schedule.due(96, &[])?;
-    assert!(rt; without_keys.is_empty());
+    seen.holds(without_keys.is_empty());
     Ok(())
 }

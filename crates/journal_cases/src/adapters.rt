@@ -1,9 +1,9 @@
 //! Readers as sources, and writers as sinks.
+use assertions::Asserts;
 use edge_kit::{Failed, Sink, Source};
 use edge_system::Writing;
 use std::io;
 use std::io::{Eprint, Read, Write};
-use std::process::Abort;
 
 /// Takes or gives at most so many bytes at a call, and fails at every third.
 #[derive(Drop)]
@@ -51,15 +51,15 @@ pub const READS: [(Result<usize, Failed>, &[u8]); 5] = [
 ];
 
 /// Reads a piece of at most four bytes, and compares it.
-pub fn read_so<T: Abort, S: Source>(
-    rt: &T,
+pub fn read_so<T: Asserts, S: Source>(
+    seen: &T,
     source: &mut S,
     answer: Result<usize, Failed>,
     front: &[u8],
 ) {
     let mut piece = [0; 4];
-    assert!(rt; source.read(&mut piece) == answer);
-    assert!(rt; piece.starts_with(front));
+    seen.holds(source.read(&mut piece) == answer);
+    seen.holds(piece.starts_with(front));
 }
 
 /// What each write to a sink of five bytes is answered.
@@ -73,7 +73,7 @@ const WRITES: [(&[u8], Result<usize, Failed>); 6] = [
 ];
 
 /// Writes each piece to a sink over these bytes, and compares what is answered.
-pub fn write_each<T: Abort + Eprint>(rt: &T, held: &mut [u8]) {
+pub fn write_each<T: Eprint, J: Asserts>(rt: &T, seen: &J, held: &mut [u8]) {
     let halting = Halting {
         inner: held,
         step: 3,
@@ -81,6 +81,6 @@ pub fn write_each<T: Abort + Eprint>(rt: &T, held: &mut [u8]) {
     };
     let mut sink = Writing::new(halting, rt);
     for (piece, answer) in WRITES {
-        assert!(rt; sink.write(piece) == answer);
+        seen.holds(sink.write(piece) == answer);
     }
 }

@@ -7,11 +7,11 @@ use crate::files::{
     BEGUN, HEADER, KEY, ROOT, disk_of, disks_of, file_of, file_of_generation, images, joined,
     opened,
 };
+use assertions::Asserts;
 use edge_kit::{Crash, Disks, MemDisk};
 use record_codec::{JournalItem, check_batch, encode};
 use record_journal::{AppendFault, CompactFault, Journal};
 use std::alloc::{AllocError, Global};
-use std::process::Abort;
 use std::test::Fail;
 
 const ACTIVATE: JournalItem = JournalItem::Activate { key: KEY };
@@ -69,39 +69,39 @@ fn compact(
 }
 
 /// Appends an item.
-fn append_well<T: Abort>(
-    rt: &T,
+fn append_well<T: Asserts>(
+    seen: &T,
     alloc: Global,
     journal: &mut Journal<MemDisk>,
     item: JournalItem,
 ) -> Result<(), AllocError> {
     let answer = append(alloc, journal, item)?;
-    assert_eq!(rt; answer, Ok(()));
+    seen.same(&answer, &Ok(()));
     Ok(())
 }
 
 /// Compares what a compaction answers with this.
-fn compact_so<T: Abort>(
-    rt: &T,
+fn compact_so<T: Asserts>(
+    seen: &T,
     alloc: Global,
     journal: &mut Journal<MemDisk>,
     wanted: Result<(u64, u64), CompactFault>,
 ) -> Result<(), Fail> {
     let answer = compact(alloc, journal)?;
-    assert_eq!(rt; answer, wanted);
+    seen.same(&answer, &wanted);
     Ok(())
 }
 
 /// Compacts an empty journal twice, between two appends.
-fn compact_twice<T: Abort>(
-    rt: &T,
+fn compact_twice<T: Asserts>(
+    seen: &T,
     alloc: Global,
     journal: &mut Journal<MemDisk>,
 ) -> Result<(), Fail> {
-    append_well(rt, alloc, journal, ACTIVATE)?;
-    compact_so(rt, alloc, journal, Ok((96, 166)))?;
-    compact_so(rt, alloc, journal, Ok((166, 166)))?;
-    append_well(rt, alloc, journal, CLOSE)?;
+    append_well(seen, alloc, journal, ACTIVATE)?;
+    compact_so(seen, alloc, journal, Ok((96, 166)))?;
+    compact_so(seen, alloc, journal, Ok((166, 166)))?;
+    append_well(seen, alloc, journal, CLOSE)?;
     Ok(())
 }
 
@@ -112,16 +112,16 @@ fn opened_empty(alloc: Global) -> Result<Journal<MemDisk>, Fail> {
 }
 
 /// The disks of a journal that was compacted twice.
-pub fn compacted_twice<T: Abort>(rt: &T, alloc: Global) -> Result<Disks<MemDisk>, Fail> {
+pub fn compacted_twice<T: Asserts>(seen: &T, alloc: Global) -> Result<Disks<MemDisk>, Fail> {
     let mut journal = opened_empty(alloc)?;
-    compact_twice(rt, alloc, &mut journal)?;
+    compact_twice(seen, alloc, &mut journal)?;
     Ok(journal.end())
 }
 
 /// Compares the lengths of these disks with what was written.
-pub fn look_at_disks<T: Abort>(rt: &T, disks: &Disks<MemDisk>) {
-    assert_eq!(rt; disks.first.bytes().len(), 220);
-    assert_eq!(rt; disks.second.bytes().len(), 166);
+pub fn look_at_disks<T: Asserts>(seen: &T, disks: &Disks<MemDisk>) {
+    seen.same(&disks.first.bytes().len(), &220);
+    seen.same(&disks.second.bytes().len(), &166);
 }
 
 /// The journal of these disks.
@@ -133,19 +133,19 @@ pub fn opened_again(alloc: Global, disks: Disks<MemDisk>) -> Result<Journal<MemD
 }
 
 /// Compares the first payload of a journal with that of generation 2.
-fn look_at_first<T: Abort>(rt: &T, journal: &Journal<MemDisk>) -> Result<(), Fail> {
+fn look_at_first<T: Asserts>(seen: &T, journal: &Journal<MemDisk>) -> Result<(), Fail> {
     let Some(first) = journal.payloads().first() else {
         return Err(Fail::from("no payload"));
     };
-    assert_eq!(rt; first.as_slice(), [6, 2, 0, 0, 0, 0, 0, 0, 0].as_slice());
+    seen.same(&first.as_slice(), &[6, 2, 0, 0, 0, 0, 0, 0, 0].as_slice());
     Ok(())
 }
 
 /// Compares a journal with what was written.
-pub fn look_at_journal<T: Abort>(rt: &T, journal: &Journal<MemDisk>) -> Result<(), Fail> {
-    assert_eq!(rt; journal.payloads().len(), 4);
-    look_at_first(rt, journal)?;
-    assert_eq!(rt; journal.size(), 220);
+pub fn look_at_journal<T: Asserts>(seen: &T, journal: &Journal<MemDisk>) -> Result<(), Fail> {
+    seen.same(&journal.payloads().len(), &4);
+    look_at_first(seen, journal)?;
+    seen.same(&journal.size(), &220);
     Ok(())
 }
 
@@ -157,15 +157,15 @@ fn opened_generation(alloc: Global, number: u64) -> Result<Journal<MemDisk>, Fai
 }
 
 /// Compares what a compaction of that journal answers with this.
-pub fn compact_behind<T: Abort>(
-    rt: &T,
+pub fn compact_behind<T: Asserts>(
+    seen: &T,
     alloc: Global,
     number: u64,
     wanted: Result<(u64, u64), CompactFault>,
 ) -> Result<(), Fail> {
     let mut journal = opened_generation(alloc, number)?;
-    compact_so(rt, alloc, &mut journal, wanted)?;
-    assert_eq!(rt; journal.failed(), false);
+    compact_so(seen, alloc, &mut journal, wanted)?;
+    seen.same(&journal.failed(), &false);
     Ok(())
 }
 
@@ -197,19 +197,23 @@ struct Extent {
 }
 
 /// Compares a journal with its extent.
-fn look_at_extent<T: Abort>(rt: &T, journal: &Journal<MemDisk>, extent: Extent, stop: &Stop) {
+fn look_at_extent<T: Asserts>(seen: &T, journal: &Journal<MemDisk>, extent: Extent, stop: &Stop) {
     let (call, crash) = (stop.call, stop.crash);
-    assert_eq!(rt;
-        journal.payloads().len(),
-        extent.count,
-        "stop {call}, {crash:?}"
+    seen.same_at(
+        &journal.payloads().len(),
+        &extent.count,
+        format_args!("stop {call}, {crash:?}"),
     );
-    assert_eq!(rt; journal.size(), extent.size, "stop {call}, {crash:?}");
+    seen.same_at(
+        &journal.size(),
+        &extent.size,
+        format_args!("stop {call}, {crash:?}"),
+    );
 }
 
 /// Compares the journal that a crash now leaves with its extent.
-fn look_behind<T: Abort>(
-    rt: &T,
+fn look_behind<T: Asserts>(
+    seen: &T,
     alloc: Global,
     disks: &Disks<MemDisk>,
     extent: Extent,
@@ -217,7 +221,7 @@ fn look_behind<T: Abort>(
 ) -> Result<(), Fail> {
     let images = images(alloc, disks, stop.crash)?;
     let journal = opened(alloc, images)?;
-    look_at_extent(rt, &journal, extent, stop);
+    look_at_extent(seen, &journal, extent, stop);
     Ok(())
 }
 
@@ -262,19 +266,23 @@ fn appended(alloc: Global, stop: u64) -> Result<Left, AllocError> {
 }
 
 /// Stops an append, and opens what a crash then leaves.
-fn stop_append<T: Abort>(rt: &T, alloc: Global, stop: &Stop) -> Result<(), Fail> {
+fn stop_append<T: Asserts>(seen: &T, alloc: Global, stop: &Stop) -> Result<(), Fail> {
     let left = appended(alloc, stop.call)?;
-    assert_eq!(rt; left.is_done, stop.is_done(), "stop {}", stop.call);
+    seen.same_at(
+        &left.is_done,
+        &stop.is_done(),
+        format_args!("stop {}", stop.call),
+    );
     let count = if stop.is_old() { 0 } else { 1 };
     let size = if stop.is_old() { 42 } else { 96 };
-    look_behind(rt, alloc, &left.disks, Extent { count, size }, stop)
+    look_behind(seen, alloc, &left.disks, Extent { count, size }, stop)
 }
 
 /// Stops an append at a call, and opens what each crash then leaves.
-pub fn stop_append_at<T: Abort>(rt: &T, alloc: Global, call: u64) -> Result<(), Fail> {
+pub fn stop_append_at<T: Asserts>(seen: &T, alloc: Global, call: u64) -> Result<(), Fail> {
     let gate = 11;
     for crash in CRASHES {
-        stop_append(rt, alloc, &Stop { call, gate, crash })?;
+        stop_append(seen, alloc, &Stop { call, gate, crash })?;
     }
     Ok(())
 }
@@ -351,44 +359,48 @@ pub const SECONDS: &[Second] = &[
 ];
 
 /// Compares what a compaction answered with what it has to.
-fn look_at_answer<T: Abort>(rt: &T, left: &Left, stop: &Stop) {
+fn look_at_answer<T: Asserts>(seen: &T, left: &Left, stop: &Stop) {
     let call = stop.call;
-    assert_eq!(rt; left.is_done, stop.is_done(), "stop {call}");
-    assert_eq!(rt; left.is_failed, !left.is_done, "stop {call}");
+    seen.same_at(&left.is_done, &stop.is_done(), format_args!("stop {call}"));
+    seen.same_at(
+        &left.is_failed,
+        &(!left.is_done),
+        format_args!("stop {call}"),
+    );
 }
 
 /// Stops a compaction into a second file of these parts, and opens what a crash then leaves.
-fn stop_compaction<T: Abort>(
-    rt: &T,
+fn stop_compaction<T: Asserts>(
+    seen: &T,
     alloc: Global,
     second: &[&[u8]],
     stop: &Stop,
 ) -> Result<(), Fail> {
     let left = compacted(alloc, second, stop.call)?;
-    look_at_answer(rt, &left, stop);
+    look_at_answer(seen, &left, stop);
     let count = if stop.is_old() { 1 } else { 3 };
     let size = if stop.is_old() { 96 } else { 166 };
-    look_behind(rt, alloc, &left.disks, Extent { count, size }, stop)
+    look_behind(seen, alloc, &left.disks, Extent { count, size }, stop)
 }
 
 /// Stops a compaction into this second file at a call, and opens what each crash then leaves.
-fn stop_compaction_at<T: Abort>(
-    rt: &T,
+fn stop_compaction_at<T: Asserts>(
+    seen: &T,
     alloc: Global,
     second: &Second,
     call: u64,
 ) -> Result<(), Fail> {
     let gate = second.gate;
     for crash in CRASHES {
-        stop_compaction(rt, alloc, second.parts, &Stop { call, gate, crash })?;
+        stop_compaction(seen, alloc, second.parts, &Stop { call, gate, crash })?;
     }
     Ok(())
 }
 
 /// Stops a compaction into this second file at each call.
-pub fn stop_compactions<T: Abort>(rt: &T, alloc: Global, second: &Second) -> Result<(), Fail> {
+pub fn stop_compactions<T: Asserts>(seen: &T, alloc: Global, second: &Second) -> Result<(), Fail> {
     for call in 3..15u64 {
-        stop_compaction_at(rt, alloc, second, call)?;
+        stop_compaction_at(seen, alloc, second, call)?;
     }
     Ok(())
 }

@@ -1,9 +1,9 @@
 //! What two files open to.
 use crate::files::{BEGUN, HEADER, ROOT, disks_of, file_of, file_of_generation, joined, opened};
+use assertions::Asserts;
 use edge_kit::{Disks, MemDisk, Root};
 use record_journal::{Journal, OpenFault, Place};
 use std::alloc::{AllocError, Global};
-use std::process::Abort;
 use std::test::Fail;
 
 const OTHER: Root = Root([0x33; 32]);
@@ -38,29 +38,29 @@ impl Damage {
 }
 
 /// Opens bytes as the first file and as the second, and compares the faults with the damage.
-fn look_at_damage<T: Abort>(
-    rt: &T,
+fn look_at_damage<T: Asserts>(
+    seen: &T,
     alloc: Global,
     damage: &Damage,
     bytes: &[u8],
 ) -> Result<(), Fail> {
     let first = fault_of(alloc, bytes, &[])?;
-    assert_eq!(rt; first, damage.fault(Place::First));
+    seen.same(&first, &damage.fault(Place::First));
     let second = fault_of(alloc, &[], bytes)?;
-    assert_eq!(rt; second, damage.fault(Place::Second));
+    seen.same(&second, &damage.fault(Place::Second));
     Ok(())
 }
 
 /// Opens a damaged file as either.
-fn open_damaged<T: Abort>(rt: &T, alloc: Global, damage: &Damage) -> Result<(), Fail> {
+fn open_damaged<T: Asserts>(seen: &T, alloc: Global, damage: &Damage) -> Result<(), Fail> {
     let bytes = file_of(alloc, damage.front, damage.rest)?;
-    look_at_damage(rt, alloc, damage, &bytes)
+    look_at_damage(seen, alloc, damage, &bytes)
 }
 
 /// Opens each of these damaged files as either.
-pub fn open_each<T: Abort>(rt: &T, alloc: Global, table: &[Damage]) -> Result<(), Fail> {
+pub fn open_each<T: Asserts>(seen: &T, alloc: Global, table: &[Damage]) -> Result<(), Fail> {
     for damage in table {
-        open_damaged(rt, alloc, damage)?;
+        open_damaged(seen, alloc, damage)?;
     }
     Ok(())
 }
@@ -317,10 +317,10 @@ fn opened_whole(alloc: Global, whole: &Whole) -> Result<Journal<MemDisk>, Fail> 
 }
 
 /// Compares that journal with its count of payloads and its size.
-pub fn look_at_whole<T: Abort>(rt: &T, alloc: Global, whole: &Whole) -> Result<(), Fail> {
+pub fn look_at_whole<T: Asserts>(seen: &T, alloc: Global, whole: &Whole) -> Result<(), Fail> {
     let journal = opened_whole(alloc, whole)?;
-    assert_eq!(rt; journal.payloads().len(), whole.count);
-    assert_eq!(rt; journal.size(), whole.size);
+    seen.same(&journal.payloads().len(), &whole.count);
+    seen.same(&journal.size(), &whole.size);
     Ok(())
 }
 
@@ -372,10 +372,14 @@ fn disks_of_tie(alloc: Global, tie: &Tie) -> Result<Disks<MemDisk>, AllocError> 
 }
 
 /// Compares the journal of these with its count of payloads.
-pub fn look_at_tie<T: Abort>(rt: &T, alloc: Global, tie: &Tie) -> Result<(), Fail> {
+pub fn look_at_tie<T: Asserts>(seen: &T, alloc: Global, tie: &Tie) -> Result<(), Fail> {
     let (one, other) = (tie.one, tie.other);
     let disks = disks_of_tie(alloc, tie)?;
     let journal = opened(alloc, disks)?;
-    assert_eq!(rt; journal.payloads().len(), tie.count, "{one}, {other}");
+    seen.same_at(
+        &journal.payloads().len(),
+        &tie.count,
+        format_args!("{one}, {other}"),
+    );
     Ok(())
 }

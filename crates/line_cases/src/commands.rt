@@ -1,10 +1,10 @@
 //! The commands over disks in memory.
+use assertions::Asserts;
 use command_line::{PathText, Plan};
 use edge_kit::{Disks, MemDisk, MemSink, MemSource, Root};
 use journal_commands::{run_merge, run_show};
 use program_end::Status;
 use std::alloc::Global;
-use std::process::Abort;
 use std::test::Fail;
 
 /// An interchange file.
@@ -73,14 +73,17 @@ fn merge_text(
 }
 
 /// Compares what an output holds.
-pub fn compare_output<T: Abort>(rt: &T, out: MemSink, wanted: &str) {
+pub fn compare_output<T: Asserts>(seen: &T, out: MemSink, wanted: &str) {
     let told = out.into_bytes();
-    assert!(rt; told.as_slice() == wanted.as_bytes(), "{wanted}");
+    seen.holds_at(
+        told.as_slice() == wanted.as_bytes(),
+        format_args!("{wanted}"),
+    );
 }
 
 /// Merges a text over empty disks, compares the status and the output, and gives the disks.
-pub fn merge_so<T: Abort>(
-    rt: &T,
+pub fn merge_so<T: Asserts>(
+    seen: &T,
     alloc: Global,
     text: &str,
     wanted: Status,
@@ -88,8 +91,8 @@ pub fn merge_so<T: Abort>(
 ) -> Result<Disks<MemDisk>, Fail> {
     let mut out = output(alloc)?;
     let (status, disks) = merge_text(alloc, text, &mut out)?;
-    assert_eq!(rt; status, wanted);
-    compare_output(rt, out, told);
+    seen.same(&status, &wanted);
+    compare_output(seen, out, told);
     Ok(disks)
 }
 

@@ -1,11 +1,11 @@
 //! Lines of keys, and inputs that are read whole.
+use assertions::Asserts;
 use edge_kit::{MemSource, PubKey};
 use journal_commands::{WholeFault, key_line, read_whole};
 use protect_record::{Floors, Record};
 use record_replay::KeyState;
 use slash_defs::{BlockEntry, VoteEntry};
 use std::alloc::Global;
-use std::process::Abort;
 use std::test::Fail;
 
 const KEY: &str =
@@ -54,8 +54,8 @@ pub fn kept(alloc: Global) -> Result<Record, Fail> {
 }
 
 /// Compares the line of a key in a state, with this word in it.
-pub fn compare_line<T: Abort>(
-    rt: &T,
+pub fn compare_line<T: Asserts>(
+    seen: &T,
     alloc: Global,
     state: KeyState,
     kept: &Record,
@@ -64,7 +64,10 @@ pub fn compare_line<T: Abort>(
     let rest = format!(in alloc;
         " {word} blocks 1 votes 2 floor_slot 100 floor_source 7 floor_target 9\n"
     )?;
-    assert!(rt; is_line(alloc, state, kept, rest.as_str())?, "{word}");
+    seen.holds_at(
+        is_line(alloc, state, kept, rest.as_str())?,
+        format_args!("{word}"),
+    );
     Ok(())
 }
 
@@ -107,10 +110,10 @@ fn read_len(
 }
 
 /// Compares how many bytes of each input are read.
-pub fn read_each<T: Abort>(rt: &T, alloc: Global, rows: &[Reading]) -> Result<(), Fail> {
+pub fn read_each<T: Asserts>(seen: &T, alloc: Global, rows: &[Reading]) -> Result<(), Fail> {
     for (len, failing, limit, wanted) in rows {
         let found = read_len(alloc, *len, *failing, *limit)?;
-        assert_eq!(rt; found, *wanted, "{len} of {limit}");
+        seen.same_at(&found, wanted, format_args!("{len} of {limit}"));
     }
     Ok(())
 }

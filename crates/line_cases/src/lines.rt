@@ -1,4 +1,5 @@
 //! Lines and their requests, and answers and their lines.
+use assertions::Asserts;
 use edge_kit::{Items, PubKey, Root, Sig};
 use interchange_io::{ReadFault, VersionText};
 use key_custody::{DeskRefusal, KeyStatus, KeyStatuses, Reason};
@@ -9,7 +10,6 @@ use sign_roots::{Domains, Fork};
 use signer_link::SignObject;
 use slash_defs::{BlockEntry, Book, File, Message, VoteEntry};
 use std::alloc::{AllocError, Global};
-use std::process::Abort;
 
 const KEY: &str =
     "0x111111111111111111111111111111111111111111111111111111111111111111111111111111111111111111111111";
@@ -296,26 +296,26 @@ pub const OUTCOMES: &[(&str, &str)] = &[
 ];
 
 /// Compares what a line with marks comes to.
-fn compare_outcome<T: Abort>(
-    rt: &T,
+fn compare_outcome<T: Asserts>(
+    seen: &T,
     alloc: Global,
     marked: &str,
     wanted: &str,
 ) -> Result<(), AllocError> {
     let line = filled(alloc, marked)?;
     let found = outcome(alloc, line.as_bytes())?;
-    assert_eq!(rt; found.as_str(), wanted, "at {marked}");
+    seen.same_at(&found.as_str(), &wanted, format_args!("at {marked}"));
     Ok(())
 }
 
 /// Compares so what each line comes to.
-pub fn compare_each<T: Abort>(
-    rt: &T,
+pub fn compare_each<T: Asserts>(
+    seen: &T,
     alloc: Global,
     rows: &[(&str, &str)],
 ) -> Result<(), AllocError> {
     for (marked, wanted) in rows {
-        compare_outcome(rt, alloc, marked, wanted)?;
+        compare_outcome(seen, alloc, marked, wanted)?;
     }
     Ok(())
 }
@@ -549,8 +549,8 @@ fn line_at(alloc: Global, place: usize) -> Result<String, AllocError> {
 }
 
 /// Compares the line at a place of `LINES`.
-fn compare_line<T: Abort>(
-    rt: &T,
+fn compare_line<T: Asserts>(
+    seen: &T,
     alloc: Global,
     place: usize,
     marked: &str,
@@ -558,14 +558,18 @@ fn compare_line<T: Abort>(
     let found = line_at(alloc, place)?;
     let wanted = with_bytes(alloc, marked)?;
     let found = found.as_str().strip_suffix('\n').unwrap_or("");
-    assert_eq!(rt; found, wanted.as_str());
+    seen.same(&found, &wanted.as_str());
     Ok(())
 }
 
 /// Compares each line.
-pub fn compare_lines<T: Abort>(rt: &T, alloc: Global, lines: &[&str]) -> Result<(), AllocError> {
+pub fn compare_lines<T: Asserts>(
+    seen: &T,
+    alloc: Global,
+    lines: &[&str],
+) -> Result<(), AllocError> {
     for (place, marked) in lines.iter().enumerate() {
-        compare_line(rt, alloc, place, marked)?;
+        compare_line(seen, alloc, place, marked)?;
     }
     Ok(())
 }

@@ -1,10 +1,10 @@
 //! Several nodes, and the schedule that takes their answers.
+use assertions::Asserts;
 use duty_schedule::{DutyRows, Schedule, Taken};
 use edge_kit::{Items, PubKey, Root};
 use node_calls::{Answer, Ask, AttesterRow, MemNode};
 use node_fallback::{Cause, NoAnswer, Nodes};
 use std::alloc::{AllocError, Global};
-use std::process::Abort;
 
 const KEY: PubKey = PubKey([0x11; 48]);
 
@@ -112,18 +112,18 @@ fn write_causes(text: &mut String, causes: &[Cause]) -> Result<(), AllocError> {
 }
 
 /// Why there is no answer.
-fn no_answer<T: Abort>(rt: &T, alloc: Global, why: &NoAnswer) -> Result<String, AllocError> {
+fn no_answer<T: Asserts>(seen: &T, alloc: Global, why: &NoAnswer) -> Result<String, AllocError> {
     let mut text = String::from_str(alloc, "no node:")?;
     match why {
         NoAnswer::NoNode(causes) => write_causes(&mut text, causes.as_slice())?,
-        NoAnswer::OutOfMemory => rt.panic("no memory"),
+        NoAnswer::OutOfMemory => seen.panic("no memory"),
     }
     Ok(text)
 }
 
 /// What becomes of an answer, in a word.
-fn take<T: Abort>(
-    rt: &T,
+fn take<T: Asserts>(
+    seen: &T,
     alloc: Global,
     schedule: &mut Schedule,
     answer: Answer,
@@ -134,7 +134,7 @@ fn take<T: Abort>(
         rows,
     } = answer
     else {
-        return rt.panic("another answer");
+        return seen.panic("another answer");
     };
     match schedule.take_answer(3, asked, dependent_root, DutyRows::Attester(rows)) {
         Taken::Replaced => Ok("replaced"),
@@ -143,13 +143,13 @@ fn take<T: Abort>(
 }
 
 /// What the nodes answer to the question for epoch 3, taken by the schedule, in a word.
-fn taken<T: Abort>(rt: &T, alloc: Global, stage: &mut Stage) -> Result<String, AllocError> {
+fn taken<T: Asserts>(seen: &T, alloc: Global, stage: &mut Stage) -> Result<String, AllocError> {
     match asked(alloc, &mut stage.nodes)? {
         Ok(answer) => {
-            let word = take(rt, alloc, &mut stage.schedule, answer)?;
+            let word = take(seen, alloc, &mut stage.schedule, answer)?;
             String::from_str(alloc, word)
         }
-        Err(why) => no_answer(rt, alloc, &why),
+        Err(why) => no_answer(seen, alloc, &why),
     }
 }
 
@@ -158,26 +158,26 @@ fn due(stage: &Stage, slot: u64) -> Result<usize, AllocError> {
     Ok(stage.schedule.due(slot, &[KEY])?.len())
 }
 
-fn compare_taken<T: Abort>(
-    rt: &T,
+fn compare_taken<T: Asserts>(
+    seen: &T,
     alloc: Global,
     stage: &mut Stage,
     word: &str,
 ) -> Result<(), AllocError> {
-    let said = taken(rt, alloc, stage)?;
-    assert_eq!(rt; said.as_str(), word);
+    let said = taken(seen, alloc, stage)?;
+    seen.same(&said.as_str(), &word);
     Ok(())
 }
 
-fn look_at_turn<T: Abort>(
-    rt: &T,
+fn look_at_turn<T: Asserts>(
+    seen: &T,
     alloc: Global,
     stage: &mut Stage,
     turn: &Turn,
 ) -> Result<(), AllocError> {
-    compare_taken(rt, alloc, stage, turn.word)?;
-    assert_eq!(rt; due(stage, 96)?, turn.first);
-    assert_eq!(rt; due(stage, 97)?, turn.second);
+    compare_taken(seen, alloc, stage, turn.word)?;
+    seen.same(&due(stage, 96)?, &turn.first);
+    seen.same(&due(stage, 97)?, &turn.second);
     Ok(())
 }
 
@@ -205,9 +205,13 @@ const TURNS: &[Turn] = &[
 ];
 
 /// Asks for the duties again and again, and compares what each turn holds.
-pub fn look_at_turns<T: Abort>(rt: &T, alloc: Global, stage: &mut Stage) -> Result<(), AllocError> {
+pub fn look_at_turns<T: Asserts>(
+    seen: &T,
+    alloc: Global,
+    stage: &mut Stage,
+) -> Result<(), AllocError> {
     for turn in TURNS {
-        look_at_turn(rt, alloc, stage, turn)?;
+        look_at_turn(seen, alloc, stage, turn)?;
     }
     Ok(())
 }
@@ -231,7 +235,7 @@ fn twin_of(alloc: Global, stage: &Stage) -> Result<Stage, AllocError> {
 }
 
 /// Looks at the turns of the nodes' twins.
-pub fn look_at_twins<T: Abort>(rt: &T, alloc: Global, stage: &Stage) -> Result<(), AllocError> {
+pub fn look_at_twins<T: Asserts>(seen: &T, alloc: Global, stage: &Stage) -> Result<(), AllocError> {
     let mut twin = twin_of(alloc, stage)?;
-    look_at_turns(rt, alloc, &mut twin)
+    look_at_turns(seen, alloc, &mut twin)
 }

@@ -1,10 +1,10 @@
 //! Questions, a beacon node over a link in memory, and what it replies in a few words.
+use assertions::Asserts;
 use beacon_node::BeaconNode;
 use edge_kit::{Items, MemLink, PubKey, Sig};
 use node_calls::{Answer, Ask, Node, NodeFault, ValidatorRow};
 use service_url::ServiceUrl;
 use std::alloc::{AllocError, Global};
-use std::process::Abort;
 
 /// A question.
 #[derive(Clone, Copy)]
@@ -81,10 +81,10 @@ pub fn response(alloc: Global, status: u16, body: &str) -> Result<Vec<u8>, Alloc
     Ok(text.into_bytes())
 }
 
-fn url<T: Abort>(rt: &T, alloc: Global) -> Result<ServiceUrl, AllocError> {
+fn url<T: Asserts>(seen: &T, alloc: Global) -> Result<ServiceUrl, AllocError> {
     match ServiceUrl::read(alloc, "http://node:5052/base/")? {
         Some(url) => Ok(url),
-        None => rt.panic("no address"),
+        None => seen.panic("no address"),
     }
 }
 
@@ -96,26 +96,26 @@ fn link(alloc: Global, said: Vec<u8>, failing: &[u64]) -> Result<MemLink, AllocE
 }
 
 /// A node that says these bytes, and whose link fails at these calls.
-pub fn node<T: Abort>(
-    rt: &T,
+pub fn node<T: Asserts>(
+    seen: &T,
     alloc: Global,
     said: Vec<u8>,
     failing: &[u64],
 ) -> Result<BeaconNode<MemLink>, AllocError> {
     let link = link(alloc, said, failing)?;
-    let url = url(rt, alloc)?;
+    let url = url(seen, alloc)?;
     Ok(BeaconNode::telling(link, url))
 }
 
 /// A node that replies this status and this body.
-pub fn node_at<T: Abort>(
-    rt: &T,
+pub fn node_at<T: Asserts>(
+    seen: &T,
     alloc: Global,
     status: u16,
     body: &str,
 ) -> Result<BeaconNode<MemLink>, AllocError> {
     let said = response(alloc, status, body)?;
-    node(rt, alloc, said, &[])
+    node(seen, alloc, said, &[])
 }
 
 /// Puts a word and two numbers behind a text.

@@ -1,9 +1,9 @@
 //! What answers of a beacon node mean.
 use crate::bodies;
 use crate::nodes::{Question, ask_of, node, node_at, reply_words, response};
+use assertions::Asserts;
 use node_calls::Ask;
 use std::alloc::{AllocError, Global};
-use std::process::Abort;
 
 /// A question, the body of its answer, and what that says.
 pub struct Answered {
@@ -13,54 +13,58 @@ pub struct Answered {
 }
 
 /// What is replied to a question at a status and a body.
-fn said_at<T: Abort>(
-    rt: &T,
+fn said_at<T: Asserts>(
+    seen: &T,
     alloc: Global,
     ask: &Ask,
     status: u16,
     body: &str,
 ) -> Result<String, AllocError> {
-    let mut node = node_at(rt, alloc, status, body)?;
+    let mut node = node_at(seen, alloc, status, body)?;
     reply_words(alloc, &mut node, ask)
 }
 
-fn compare<T: Abort>(
-    rt: &T,
+fn compare<T: Asserts>(
+    seen: &T,
     alloc: Global,
     ask: &Ask,
     status: u16,
     body: &str,
     words: &str,
 ) -> Result<(), AllocError> {
-    let said = said_at(rt, alloc, ask, status, body)?;
-    assert_eq!(rt; said.as_str(), words);
+    let said = said_at(seen, alloc, ask, status, body)?;
+    seen.same(&said.as_str(), &words);
     Ok(())
 }
 
 /// Compares that a question has this answer by this body at a status of success, and each other reply.
-fn compare_replies<T: Abort>(
-    rt: &T,
+fn compare_replies<T: Asserts>(
+    seen: &T,
     alloc: Global,
     ask: &Ask,
     answered: &Answered,
 ) -> Result<(), AllocError> {
-    compare(rt, alloc, ask, 200, answered.body, answered.words)?;
-    compare(rt, alloc, ask, 299, answered.body, answered.words)?;
-    compare(rt, alloc, ask, 503, answered.body, "status 503")?;
-    compare(rt, alloc, ask, 404, answered.body, "status 404")?;
-    compare(rt, alloc, ask, 200, "{}", "unreadable {}")?;
-    compare(rt, alloc, ask, 200, "no", "unreadable no")
+    compare(seen, alloc, ask, 200, answered.body, answered.words)?;
+    compare(seen, alloc, ask, 299, answered.body, answered.words)?;
+    compare(seen, alloc, ask, 503, answered.body, "status 503")?;
+    compare(seen, alloc, ask, 404, answered.body, "status 404")?;
+    compare(seen, alloc, ask, 200, "{}", "unreadable {}")?;
+    compare(seen, alloc, ask, 200, "no", "unreadable no")
 }
 
-fn look_at_answer<T: Abort>(rt: &T, alloc: Global, answered: &Answered) -> Result<(), AllocError> {
+fn look_at_answer<T: Asserts>(
+    seen: &T,
+    alloc: Global,
+    answered: &Answered,
+) -> Result<(), AllocError> {
     let ask = ask_of(alloc, answered.question)?;
-    compare_replies(rt, alloc, &ask, answered)
+    compare_replies(seen, alloc, &ask, answered)
 }
 
 /// Compares each answer with what is read of it.
-pub fn look_at<T: Abort>(rt: &T, alloc: Global, all: &[Answered]) -> Result<(), AllocError> {
+pub fn look_at<T: Asserts>(seen: &T, alloc: Global, all: &[Answered]) -> Result<(), AllocError> {
     for answered in all {
-        look_at_answer(rt, alloc, answered)?;
+        look_at_answer(seen, alloc, answered)?;
     }
     Ok(())
 }
@@ -133,24 +137,24 @@ pub struct Unread {
     body: &'static str,
 }
 
-fn look_at_unread<T: Abort>(rt: &T, alloc: Global, unread: &Unread) -> Result<(), AllocError> {
+fn look_at_unread<T: Asserts>(seen: &T, alloc: Global, unread: &Unread) -> Result<(), AllocError> {
     let ask = ask_of(alloc, unread.question)?;
-    let said = said_at(rt, alloc, &ask, 200, unread.body)?;
-    assert_eq!(rt;
-        said.as_str().strip_prefix("unreadable "),
-        Some(unread.body)
+    let said = said_at(seen, alloc, &ask, 200, unread.body)?;
+    seen.same(
+        &said.as_str().strip_prefix("unreadable "),
+        &Some(unread.body),
     );
     Ok(())
 }
 
 /// Looks at what `duties_that_do_not_fit_cannot_be_read` and `members_of_another_form_cannot_be_read` say.
-pub fn look_at_all_unread<T: Abort>(
-    rt: &T,
+pub fn look_at_all_unread<T: Asserts>(
+    seen: &T,
     alloc: Global,
     all: &[Unread],
 ) -> Result<(), AllocError> {
     for unread in all {
-        look_at_unread(rt, alloc, unread)?;
+        look_at_unread(seen, alloc, unread)?;
     }
     Ok(())
 }
@@ -196,13 +200,13 @@ pub const OTHER_FORMS: &[Unread] = &[
 ];
 
 /// What is replied to the question of genesis where the peer says these bytes and the link fails at these calls.
-fn said_by<T: Abort>(
-    rt: &T,
+fn said_by<T: Asserts>(
+    seen: &T,
     alloc: Global,
     said: Vec<u8>,
     failing: &[u64],
 ) -> Result<String, AllocError> {
-    let mut node = node(rt, alloc, said, failing)?;
+    let mut node = node(seen, alloc, said, failing)?;
     reply_words(alloc, &mut node, &Ask::Genesis)
 }
 
@@ -210,24 +214,24 @@ fn said_by<T: Abort>(
 const SHORT: &[u8] = b"HTTP/1.1 200 X\r\nContent-Length: 9\r\n\r\nshort";
 
 /// Looks at what `a_link_that_fails_is_a_fault_and_what_is_no_response_unreadable` says.
-pub fn look_at_short<T: Abort>(rt: &T, alloc: Global) -> Result<(), AllocError> {
+pub fn look_at_short<T: Asserts>(seen: &T, alloc: Global) -> Result<(), AllocError> {
     let short = SHORT.to_vec(alloc)?;
-    let said = said_by(rt, alloc, short, &[])?;
-    assert_eq!(rt; said.as_str(), "unreadable ");
+    let said = said_by(seen, alloc, short, &[])?;
+    seen.same(&said.as_str(), &"unreadable ");
     Ok(())
 }
 
 /// Whether the question of genesis is a fault where the link fails at a call.
-fn is_fault_at<T: Abort>(rt: &T, alloc: Global, call: u64) -> Result<bool, AllocError> {
+fn is_fault_at<T: Asserts>(seen: &T, alloc: Global, call: u64) -> Result<bool, AllocError> {
     let answer = response(alloc, 200, bodies::GENESIS)?;
-    let said = said_by(rt, alloc, answer, &[call])?;
+    let said = said_by(seen, alloc, answer, &[call])?;
     Ok(said.as_str() == "fault")
 }
 
 /// How many calls of the link there are of which each makes the question of genesis a fault.
-pub fn failing_calls<T: Abort>(rt: &T, alloc: Global) -> Result<u64, AllocError> {
+pub fn failing_calls<T: Asserts>(seen: &T, alloc: Global) -> Result<u64, AllocError> {
     for call in 0..100 {
-        if !is_fault_at(rt, alloc, call)? {
+        if !is_fault_at(seen, alloc, call)? {
             return Ok(call);
         }
     }

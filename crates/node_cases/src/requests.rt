@@ -1,6 +1,7 @@
 //! What is sent to a beacon node.
 use crate::bodies;
 use crate::nodes::{Question, ask_of, body_of, line_of, node, node_at, sent_text, write_fault};
+use assertions::Asserts;
 use beacon_node::BeaconNode;
 use edge_kit::{MemLink, PubKey, Root, Sig};
 use node_calls::{Answer, Ask, Node, NodeFault, Post, aggregation_bits};
@@ -8,7 +9,6 @@ use phase0_blocks::{Attestation, BeaconBlock, Signed};
 use phase0_types::{AttestationData, Checkpoint};
 use slash_defs::{Granted, Message};
 use std::alloc::{AllocError, Global};
-use std::process::Abort;
 
 /// A question, and the line and the body by which it is sent.
 pub struct Sent {
@@ -18,24 +18,24 @@ pub struct Sent {
 }
 
 /// What a node is sent for a question.
-fn sent_for<T: Abort>(rt: &T, alloc: Global, ask: &Ask) -> Result<String, AllocError> {
-    let mut node = node(rt, alloc, Vec::new(alloc), &[])?;
+fn sent_for<T: Asserts>(seen: &T, alloc: Global, ask: &Ask) -> Result<String, AllocError> {
+    let mut node = node(seen, alloc, Vec::new(alloc), &[])?;
     let _ = node.ask(ask);
     sent_text(alloc, node)
 }
 
-fn look_at_sent<T: Abort>(rt: &T, alloc: Global, sent: &Sent) -> Result<(), AllocError> {
+fn look_at_sent<T: Asserts>(seen: &T, alloc: Global, sent: &Sent) -> Result<(), AllocError> {
     let ask = ask_of(alloc, sent.question)?;
-    let text = sent_for(rt, alloc, &ask)?;
-    assert_eq!(rt; line_of(text.as_str()), sent.line);
-    assert_eq!(rt; body_of(text.as_str()), sent.body);
+    let text = sent_for(seen, alloc, &ask)?;
+    seen.same(&line_of(text.as_str()), &sent.line);
+    seen.same(&body_of(text.as_str()), &sent.body);
     Ok(())
 }
 
 /// Compares each request with its bytes.
-pub fn look_at<T: Abort>(rt: &T, alloc: Global, all: &[Sent]) -> Result<(), AllocError> {
+pub fn look_at<T: Asserts>(seen: &T, alloc: Global, all: &[Sent]) -> Result<(), AllocError> {
     for sent in all {
-        look_at_sent(rt, alloc, sent)?;
+        look_at_sent(seen, alloc, sent)?;
     }
     Ok(())
 }
@@ -147,8 +147,8 @@ fn write_taken(
 }
 
 /// Posts, and compares what is replied.
-fn compare_reply<T: Abort>(
-    rt: &T,
+fn compare_reply<T: Asserts>(
+    seen: &T,
     alloc: Global,
     node: &mut BeaconNode<MemLink>,
     post: &Post,
@@ -157,35 +157,35 @@ fn compare_reply<T: Abort>(
     let mut text = String::new(alloc);
     let reply = node.post(&PERMIT, post);
     write_taken(alloc, &mut text, &reply)?;
-    assert_eq!(rt; text.as_str(), words);
+    seen.same(&text.as_str(), &words);
     Ok(())
 }
 
 /// Compares what a node was sent.
-fn compare_sent<T: Abort>(
-    rt: &T,
+fn compare_sent<T: Asserts>(
+    seen: &T,
     alloc: Global,
     node: BeaconNode<MemLink>,
     posted: &Posted,
 ) -> Result<(), AllocError> {
     let text = sent_text(alloc, node)?;
-    assert_eq!(rt; line_of(text.as_str()), posted.line);
-    assert!(rt; body_of(text.as_str()).starts_with(posted.front));
-    assert!(rt; body_of(text.as_str()).ends_with(posted.back));
+    seen.same(&line_of(text.as_str()), &posted.line);
+    seen.holds(body_of(text.as_str()).starts_with(posted.front));
+    seen.holds(body_of(text.as_str()).ends_with(posted.back));
     Ok(())
 }
 
 /// Posts to a node that replies this status, and looks at what is replied and sent.
-pub fn look_at_post<T: Abort>(
-    rt: &T,
+pub fn look_at_post<T: Asserts>(
+    seen: &T,
     alloc: Global,
     post: &Post,
     status: &Status,
     posted: &Posted,
 ) -> Result<(), AllocError> {
-    let mut node = node_at(rt, alloc, status.status, "")?;
-    compare_reply(rt, alloc, &mut node, post, status.words)?;
-    compare_sent(rt, alloc, node, posted)
+    let mut node = node_at(seen, alloc, status.status, "")?;
+    compare_reply(seen, alloc, &mut node, post, status.words)?;
+    compare_sent(seen, alloc, node, posted)
 }
 
 const CHECKPOINT: Checkpoint = Checkpoint {
@@ -251,28 +251,32 @@ const STATUSES: &[Status] = &[
 ];
 
 /// Looks at what `a_vote_is_a_list_of_one_and_taken_by_its_status` says.
-pub fn look_at_statuses<T: Abort>(rt: &T, alloc: Global, post: &Post) -> Result<(), AllocError> {
+pub fn look_at_statuses<T: Asserts>(
+    seen: &T,
+    alloc: Global,
+    post: &Post,
+) -> Result<(), AllocError> {
     for status in STATUSES {
-        look_at_post(rt, alloc, post, status, &VOTE)?;
+        look_at_post(seen, alloc, post, status, &VOTE)?;
     }
     Ok(())
 }
 
 /// The block in an answer.
-fn block_in<T: Abort>(rt: &T, answer: Answer) -> BeaconBlock {
+fn block_in<T: Asserts>(seen: &T, answer: Answer) -> BeaconBlock {
     match answer {
         Answer::Block(block) => block,
-        _ => rt.panic("no block"),
+        _ => seen.panic("no block"),
     }
 }
 
 /// The block that a node gives.
-pub fn given_block<T: Abort>(rt: &T, alloc: Global) -> Result<BeaconBlock, AllocError> {
+pub fn given_block<T: Asserts>(seen: &T, alloc: Global) -> Result<BeaconBlock, AllocError> {
     let ask = ask_of(alloc, Question::Block)?;
-    let mut node = node_at(rt, alloc, 200, bodies::BLOCK)?;
+    let mut node = node_at(seen, alloc, 200, bodies::BLOCK)?;
     match node.ask(&ask) {
-        Ok(answer) => Ok(block_in(rt, answer)),
-        Err(_) => rt.panic("no answer"),
+        Ok(answer) => Ok(block_in(seen, answer)),
+        Err(_) => seen.panic("no answer"),
     }
 }
 

@@ -1,3 +1,4 @@
+use crate::asserting::Asserting;
 use duty_cases::{clocks, orders, questions, schedules, watches};
 use duty_schedule::{Schedule, slot_at};
 use edge_clock::{Clock, SystemClock};
@@ -9,8 +10,9 @@ use std::test::Fail;
 fn a_clock_in_memory_shows_its_start_and_waits_as_long_as_its_delays_say(
     rt: HostRuntime,
 ) -> Result<(), Fail> {
+    let seen = Asserting(&rt);
     for row in clocks::ROWS {
-        clocks::wait_so(&rt, rt.alloc(), row)?;
+        clocks::wait_so(&rt, &seen, rt.alloc(), row)?;
     }
     Ok(())
 }
@@ -26,31 +28,35 @@ fn the_systems_clock_does_not_wait_for_what_is_past(rt: HostRuntime) {
 
 #[test]
 fn the_first_readable_answer_is_taken(rt: HostRuntime) -> Result<(), Fail> {
-    orders::look_at(&rt, rt.alloc(), orders::ANSWERED)
+    let seen = Asserting(&rt);
+    orders::look_at(&seen, rt.alloc(), orders::ANSWERED)
 }
 
 #[test]
 fn a_node_that_is_catching_up_is_passed_over(rt: HostRuntime) -> Result<(), Fail> {
-    orders::look_at(&rt, rt.alloc(), orders::REFRESHED)
+    let seen = Asserting(&rt);
+    orders::look_at(&seen, rt.alloc(), orders::REFRESHED)
 }
 
 #[test]
 fn what_is_signed_goes_to_the_first_that_takes_it(rt: HostRuntime) -> Result<(), Fail> {
-    orders::look_at(&rt, rt.alloc(), orders::POSTED)
+    let seen = Asserting(&rt);
+    orders::look_at(&seen, rt.alloc(), orders::POSTED)
 }
 
 #[test]
 fn a_cause_is_named(rt: HostRuntime) -> Result<(), Fail> {
+    let seen = Asserting(&rt);
     let alloc = rt.alloc();
-    orders::name_so(&rt, alloc, &Cause::Fault, "fault")?;
-    orders::name_so(&rt, alloc, &Cause::Status(503), "status 503")?;
+    orders::name_so(&seen, alloc, &Cause::Fault, "fault")?;
+    orders::name_so(&seen, alloc, &Cause::Status(503), "status 503")?;
     orders::name_so(
-        &rt,
+        &seen,
         alloc,
         &Cause::Unreadable(Items::new(alloc)),
         "unreadable",
     )?;
-    orders::name_so(&rt, alloc, &Cause::Syncing, "syncing")
+    orders::name_so(&seen, alloc, &Cause::Syncing, "syncing")
 }
 
 #[test]
@@ -94,8 +100,9 @@ fn no_two_blocks_are_for_one_slot(rt: HostRuntime) -> Result<(), Fail> {
 
 #[test]
 fn one_member_votes(rt: HostRuntime) -> Result<(), Fail> {
+    let seen = Asserting(&rt);
     for member in questions::MEMBERS {
-        questions::vote_so(&rt, rt.alloc(), member)?;
+        questions::vote_so(&seen, rt.alloc(), member)?;
     }
     Ok(())
 }
@@ -109,22 +116,25 @@ fn a_slot_is_twelve_seconds(rt: HostRuntime) {
 
 #[test]
 fn the_first_member_that_differs_is_named(rt: HostRuntime) -> Result<(), Fail> {
+    let seen = Asserting(&rt);
     for row in schedules::DATA {
-        schedules::differ_so(&rt, rt.alloc(), row)?;
+        schedules::differ_so(&seen, rt.alloc(), row)?;
     }
     Ok(())
 }
 
 #[test]
 fn an_answer_that_rests_on_the_same_changes_nothing(rt: HostRuntime) -> Result<(), Fail> {
+    let seen = Asserting(&rt);
     let mut schedule = Schedule::new(rt.alloc());
-    schedules::take_each(&rt, rt.alloc(), &mut schedule)
+    schedules::take_each(&seen, rt.alloc(), &mut schedule)
 }
 
 #[test]
 fn blocks_come_first_and_keys_in_order(rt: HostRuntime) -> Result<(), Fail> {
+    let seen = Asserting(&rt);
     let mut schedule = Schedule::new(rt.alloc());
-    schedules::look_at_due(&rt, rt.alloc(), &mut schedule)
+    schedules::look_at_due(&seen, rt.alloc(), &mut schedule)
 }
 
 #[test]

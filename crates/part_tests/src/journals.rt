@@ -1,3 +1,4 @@
+use crate::asserting::Asserting;
 use edge_kit::{Items, MemSink, PubKey, Root};
 use edge_system::Reading;
 use interchange_io::{FILE_LIMIT, ReadFault, in_written_order, read, write};
@@ -9,6 +10,7 @@ use std::test::Fail;
 
 #[test]
 fn a_reader_is_a_source(rt: HostRuntime) {
+    let seen = Asserting(&rt);
     let bytes: &[u8] = b"abcdefg";
     let (step, calls) = (3, 0);
     let halting = adapters::Halting {
@@ -18,38 +20,42 @@ fn a_reader_is_a_source(rt: HostRuntime) {
     };
     let mut source = Reading::new(halting, &rt);
     for (answer, front) in adapters::READS {
-        adapters::read_so(&rt, &mut source, answer, front);
+        adapters::read_so(&seen, &mut source, answer, front);
     }
 }
 
 #[test]
 fn a_writer_is_a_sink(rt: HostRuntime) {
+    let seen = Asserting(&rt);
     let mut held = [0; 5];
-    adapters::write_each(&rt, &mut held);
+    adapters::write_each(&rt, &seen, &mut held);
     assert!(rt; held == *b"abcde");
 }
 
 #[test]
 fn a_journal_is_compacted_and_opened_again(rt: HostRuntime) -> Result<(), Fail> {
-    let disks = compactions::compacted_twice(&rt, rt.alloc())?;
-    compactions::look_at_disks(&rt, &disks);
+    let seen = Asserting(&rt);
+    let disks = compactions::compacted_twice(&seen, rt.alloc())?;
+    compactions::look_at_disks(&seen, &disks);
     let journal = compactions::opened_again(rt.alloc(), disks)?;
-    compactions::look_at_journal(&rt, &journal)
+    compactions::look_at_journal(&seen, &journal)
 }
 
 #[test]
 fn no_generation_stands_behind_the_last(rt: HostRuntime) -> Result<(), Fail> {
+    let seen = Asserting(&rt);
     let refused = Err(CompactFault::LastGeneration);
-    compactions::compact_behind(&rt, rt.alloc(), u64::MAX, refused)?;
-    compactions::compact_behind(&rt, rt.alloc(), u64::MAX - 1, Ok((56, 166)))
+    compactions::compact_behind(&seen, rt.alloc(), u64::MAX, refused)?;
+    compactions::compact_behind(&seen, rt.alloc(), u64::MAX - 1, Ok((56, 166)))
 }
 
 // Opening two empty disks makes 9 calls of the first, of which 3 are writes and 4 syncs, and an append 4: a write (9),
 // a sync, the gate's write (11) and its sync.
 #[test]
 fn every_stop_of_an_append_leaves_a_journal(rt: HostRuntime) -> Result<(), Fail> {
+    let seen = Asserting(&rt);
     for call in 0..15u64 {
-        compactions::stop_append_at(&rt, rt.alloc(), call)?;
+        compactions::stop_append_at(&seen, rt.alloc(), call)?;
     }
     Ok(())
 }
@@ -59,8 +65,9 @@ fn every_stop_of_an_append_leaves_a_journal(rt: HostRuntime) -> Result<(), Fail>
 // table, and its sync.
 #[test]
 fn every_stop_of_a_compaction_leaves_a_journal(rt: HostRuntime) -> Result<(), Fail> {
+    let seen = Asserting(&rt);
     for second in compactions::SECONDS {
-        compactions::stop_compactions(&rt, rt.alloc(), second)?;
+        compactions::stop_compactions(&seen, rt.alloc(), second)?;
     }
     Ok(())
 }
@@ -146,12 +153,14 @@ fn a_file_is_put_in_written_order(rt: HostRuntime) -> Result<(), Fail> {
 
 #[test]
 fn each_way_of_damage_is_named(rt: HostRuntime) -> Result<(), Fail> {
-    openings::open_each(&rt, rt.alloc(), openings::DAMAGED)
+    let seen = Asserting(&rt);
+    openings::open_each(&seen, rt.alloc(), openings::DAMAGED)
 }
 
 #[test]
 fn a_generation_stands_alone_and_first_or_is_damage(rt: HostRuntime) -> Result<(), Fail> {
-    openings::open_each(&rt, rt.alloc(), openings::GENERATIONS)
+    let seen = Asserting(&rt);
+    openings::open_each(&seen, rt.alloc(), openings::GENERATIONS)
 }
 
 #[test]
@@ -165,8 +174,9 @@ fn the_fault_of_the_first_file_comes_first(rt: HostRuntime) -> Result<(), Fail> 
 
 #[test]
 fn what_stands_behind_a_closed_gate_is_ignored(rt: HostRuntime) -> Result<(), Fail> {
+    let seen = Asserting(&rt);
     for whole in openings::SHUT {
-        openings::look_at_whole(&rt, rt.alloc(), whole)?;
+        openings::look_at_whole(&seen, rt.alloc(), whole)?;
     }
     Ok(())
 }
@@ -174,8 +184,9 @@ fn what_stands_behind_a_closed_gate_is_ignored(rt: HostRuntime) -> Result<(), Fa
 // The first file has two payloads and the second one.
 #[test]
 fn the_greater_generation_is_current_and_the_first_at_a_tie(rt: HostRuntime) -> Result<(), Fail> {
+    let seen = Asserting(&rt);
     for tie in openings::TIES {
-        openings::look_at_tie(&rt, rt.alloc(), tie)?;
+        openings::look_at_tie(&seen, rt.alloc(), tie)?;
     }
     Ok(())
 }

@@ -1,3 +1,4 @@
+use crate::asserting::Asserting;
 use roots_cases::{blocks, containers, merkle, signing_roots};
 use sign_roots::DomainKind;
 use ssz_roots::{TooLong, merkleize};
@@ -5,36 +6,41 @@ use std::test::Fail;
 
 #[test]
 fn a_block_and_what_it_carries(rt: HostRuntime) -> Result<(), Fail> {
-    blocks::compare_whole(&rt, rt.alloc())?;
+    let seen = Asserting(&rt);
+    blocks::compare_whole(&seen, rt.alloc())?;
     Ok(())
 }
 
 #[test]
 fn bit_list_texts(rt: HostRuntime) -> Result<(), Fail> {
+    let seen = Asserting(&rt);
     for row in blocks::BITS {
-        blocks::compare_bits(&rt, rt.alloc(), row)?;
+        blocks::compare_bits(&seen, rt.alloc(), row)?;
     }
     Ok(())
 }
 
 #[test]
 fn roots_of_small_containers(rt: HostRuntime) {
-    containers::compare_small(&rt);
-    containers::compare_signing(&rt);
+    let seen = Asserting(&rt);
+    containers::compare_small(&seen);
+    containers::compare_signing(&seen);
 }
 
 #[test]
 fn checkpoints_with_faults(rt: HostRuntime) -> Result<(), Fail> {
+    let seen = Asserting(&rt);
     for row in containers::FAULTS {
-        containers::compare_fault(&rt, rt.alloc(), row)?;
+        containers::compare_fault(&seen, rt.alloc(), row)?;
     }
     Ok(())
 }
 
 #[test]
 fn roots_of_chunks(rt: HostRuntime) {
+    let seen = Asserting(&rt);
     for (count, limit, text) in merkle::ROOTS {
-        merkle::compare_chunks(&rt, *count, *limit, text);
+        merkle::compare_chunks(&seen, *count, *limit, text);
     }
     assert_eq!(rt;
         merkleize(&merkle::CHUNKS[..3], 2),
@@ -44,28 +50,31 @@ fn roots_of_chunks(rt: HostRuntime) {
 
 #[test]
 fn bits_lengths_and_bytes(rt: HostRuntime) -> Result<(), Fail> {
-    merkle::compare_three(&rt);
-    merkle::compare_thirds(&rt);
-    merkle::compare_mixed(&rt);
-    merkle::compare_packed(&rt, rt.alloc())?;
+    let seen = Asserting(&rt);
+    merkle::compare_three(&seen);
+    merkle::compare_thirds(&seen);
+    merkle::compare_mixed(&seen);
+    merkle::compare_packed(&seen, rt.alloc())?;
     Ok(())
 }
 
 #[test]
 fn domains_by_kind_and_epoch(rt: HostRuntime) {
+    let seen = Asserting(&rt);
     let zero = signing_roots::zero_chain().domain(DomainKind::BeaconAttester, 0);
     assert_eq!(rt;
         zero,
-        signing_roots::bytes_of(&rt, signing_roots::ZERO_DOMAIN)
+        signing_roots::bytes_of(&seen, signing_roots::ZERO_DOMAIN)
     );
     for (kind, epoch, text) in signing_roots::DOMAINS {
-        signing_roots::compare_domain(&rt, *kind, *epoch, text);
+        signing_roots::compare_domain(&seen, *kind, *epoch, text);
     }
 }
 
 #[test]
 fn signing_roots_of_blocks_and_votes(rt: HostRuntime) {
+    let seen = Asserting(&rt);
     let domains = signing_roots::forked_chain();
-    signing_roots::compare_blocks(&rt, &domains);
-    signing_roots::compare_votes(&rt, &domains);
+    signing_roots::compare_blocks(&seen, &domains);
+    signing_roots::compare_votes(&seen, &domains);
 }

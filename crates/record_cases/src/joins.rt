@@ -3,12 +3,12 @@ ghost use Rattle.std.specs.Prelude.{IfOk};
 ghost use Rattle.record_join.specs.BooksPasts.{EachOnce};
 
 use crate::compare::compare;
+use assertions::Asserts;
 use edge_kit::{Items, PubKey, Root};
 use protect_record::{Record, Verdict};
 use record_join::{BeginFault, Books, Judged, KEY_LIMIT, MergeFault};
 use slash_defs::{BlockEntry, Book, File, Message, VoteEntry};
 use std::alloc::{AllocError, Global};
-use std::process::Abort;
 use std::test::Fail;
 
 const RA: Root = Root([0xaa; 32]);
@@ -86,16 +86,16 @@ const TOO_MANY: BeginFault = BeginFault::TooManyKeys {
 };
 
 /// Another key does not begin.
-pub fn begins_no_more(rt: &impl Abort, alloc: Global, books: &mut Books) {
-    compare(rt, &keep(books, OTHER), &Err(TOO_MANY));
+pub fn begins_no_more(seen: &impl Asserts, alloc: Global, books: &mut Books) {
+    compare(seen, &keep(books, OTHER), &Err(TOO_MANY));
     let inserted = books.insert(OTHER, Record::new(alloc));
-    compare(rt, &inserted, &Err(TOO_MANY));
+    compare(seen, &inserted, &Err(TOO_MANY));
 }
 
 /// A key that is kept is nothing new.
-pub fn begins_nothing(rt: &impl Abort, books: &mut Books) -> Result<(), BeginFault> {
+pub fn begins_nothing(seen: &impl Asserts, books: &mut Books) -> Result<(), BeginFault> {
     let fresh = books.prepare_key(key(3))?;
-    compare(rt, &fresh.len(), &0);
+    compare(seen, &fresh.len(), &0);
     Ok(())
 }
 
@@ -105,20 +105,24 @@ const TOO_MANY_LISTED: MergeFault = MergeFault::TooManyKeys {
 };
 
 /// A file of another key is not merged.
-pub fn merges_no_more(rt: &impl Abort, alloc: Global, books: &mut Books) -> Result<(), AllocError> {
+pub fn merges_no_more(
+    seen: &impl Asserts,
+    alloc: Global,
+    books: &mut Books,
+) -> Result<(), AllocError> {
     let file = file(alloc, OTHER, 7)?;
     let refused = books.merge_file(&file, true);
-    compare(rt, &refused, &Err(TOO_MANY_LISTED));
-    assert!(rt; books.get(&OTHER).is_none());
-    compare(rt, &books.len(), &KEY_LIMIT);
+    compare(seen, &refused, &Err(TOO_MANY_LISTED));
+    seen.holds(books.get(&OTHER).is_none());
+    compare(seen, &books.len(), &KEY_LIMIT);
     Ok(())
 }
 
 /// A file of a key that is kept is merged.
-pub fn merges_kept(rt: &impl Abort, alloc: Global, books: &mut Books) -> Result<(), Fail> {
+pub fn merges_kept(seen: &impl Asserts, alloc: Global, books: &mut Books) -> Result<(), Fail> {
     merge(books, alloc, key(3), 7)?;
     let keys = books.keys(alloc)?;
-    compare(rt, &keys.len(), &KEY_LIMIT);
+    compare(seen, &keys.len(), &KEY_LIMIT);
     Ok(())
 }
 
@@ -194,23 +198,27 @@ pub const BLOCKS: &[BlockRow] = &[
 ];
 
 /// Compares how the block of a row is judged.
-fn compare_judged(rt: &impl Abort, judged: Judged, row: &BlockRow) {
+fn compare_judged(seen: &impl Asserts, judged: Judged, row: &BlockRow) {
     let (number, slot) = (row.number, row.slot);
-    assert_eq!(rt; judged, row.want, "block of slot {slot} by key {number}");
+    seen.same_at(
+        &judged,
+        &row.want,
+        format_args!("block of slot {slot} by key {number}"),
+    );
 }
 
 /// Judges the blocks of these rows, and compares.
-pub fn judge_rows(rt: &impl Abort, books: &mut Books, rows: &[BlockRow]) {
+pub fn judge_rows(seen: &impl Asserts, books: &mut Books, rows: &[BlockRow]) {
     for row in rows {
         let judged = sign(books, &key(row.number), row.slot, row.has_room);
-        compare_judged(rt, judged, row);
+        compare_judged(seen, judged, row);
     }
 }
 
 /// Keeps the first key, which was not kept.
-pub fn keep_first(rt: &impl Abort, books: &mut Books) -> Result<(), BeginFault> {
+pub fn keep_first(seen: &impl Asserts, books: &mut Books) -> Result<(), BeginFault> {
     let fresh = books.prepare_key(key(1))?;
-    compare(rt, &fresh.as_slice(), &[key(1)].as_slice());
+    compare(seen, &fresh.as_slice(), &[key(1)].as_slice());
     Ok(())
 }
 
@@ -222,25 +230,25 @@ pub fn keep_others(alloc: Global, books: &mut Books) -> Result<(), Fail> {
 }
 
 /// What a file of the second key makes ready is taken back.
-pub fn takes_back(rt: &impl Abort, books: &mut Books, file: &File) -> Result<(), MergeFault>
+pub fn takes_back(seen: &impl Asserts, books: &mut Books, file: &File) -> Result<(), MergeFault>
     requires { EachOnce file.now.books }
 {
     let fresh = books.prepare(file.books.as_slice(), true)?;
-    compare(rt, &fresh.as_slice(), &[key(2)].as_slice());
+    compare(seen, &fresh.as_slice(), &[key(2)].as_slice());
     books.take_back(fresh);
-    assert!(rt; books.is_empty());
+    seen.holds(books.is_empty());
     Ok(())
 }
 
 /// What a file of the second key makes ready is merged.
-pub fn merges_ready(rt: &impl Abort, books: &mut Books, file: &File) -> Result<(), MergeFault>
+pub fn merges_ready(seen: &impl Asserts, books: &mut Books, file: &File) -> Result<(), MergeFault>
     requires { EachOnce file.now.books }
 {
     let _ = books.prepare(file.books.as_slice(), true)?;
     books.merge_prepared(file.books.as_slice());
     let judged = sign(books, &key(2), 20, true);
     compare(
-        rt,
+        seen,
         &judged,
         &Judged::Refused(Verdict::DoubleBlock(ENTRY_20)),
     );
@@ -294,35 +302,35 @@ pub fn joined(alloc: Global, keys: &TwoKeys, others: &TwoKeys) -> Result<Books, 
 }
 
 /// The books keep three keys.
-pub fn keep_three(rt: &impl Abort, alloc: Global, books: &Books) -> Result<(), AllocError> {
+pub fn keep_three(seen: &impl Asserts, alloc: Global, books: &Books) -> Result<(), AllocError> {
     let want = [key(1), key(2), key(3)];
     let keys = books.keys(alloc)?;
-    compare(rt, &keys.as_slice(), &want.as_slice());
+    compare(seen, &keys.as_slice(), &want.as_slice());
     Ok(())
 }
 
 /// Two records have the same floors and the same entries.
-fn compare_records(rt: &impl Abort, first: &Record, second: &Record) {
-    compare(rt, &first.floors(), &second.floors());
-    assert!(rt; first.blocks().eq(second.blocks()));
-    assert!(rt; first.votes().eq(second.votes()));
+fn compare_records(seen: &impl Asserts, first: &Record, second: &Record) {
+    compare(seen, &first.floors(), &second.floors());
+    seen.holds(first.blocks().eq(second.blocks()));
+    seen.holds(first.votes().eq(second.votes()));
 }
 
 /// Both keep the same of a key.
-fn keep_same(rt: &impl Abort, one: &Books, two: &Books, key: &PubKey) -> Result<(), Fail> {
+fn keep_same(seen: &impl Asserts, one: &Books, two: &Books, key: &PubKey) -> Result<(), Fail> {
     let (Some(first), Some(second)) = (one.get(key), two.get(key)) else {
         return Err(Fail::new("a key is not kept"));
     };
-    compare_records(rt, first, second);
+    compare_records(seen, first, second);
     Ok(())
 }
 
 /// Both keep the same of each of three keys.
-pub fn compare_three(rt: &impl Abort, one: &Books, two: &Books) -> Result<(), Fail> {
+pub fn compare_three(seen: &impl Asserts, one: &Books, two: &Books) -> Result<(), Fail> {
     for number in 1..=3 {
-        keep_same(rt, one, two, &key(number))?;
+        keep_same(seen, one, two, &key(number))?;
     }
     let floors = one.get(&key(2)).map(|record| record.floors().block);
-    compare(rt, &floors, &Some(Some(7)));
+    compare(seen, &floors, &Some(Some(7)));
     Ok(())
 }

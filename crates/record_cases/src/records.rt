@@ -2,11 +2,11 @@
 ghost use Rattle.std.specs.Prelude.{◌≡◌, ◌≢◌, ◌+◌, ◌<◌, ◌≤◌, All, length};
 
 use crate::compare::compare;
+use assertions::Asserts;
 use edge_kit::{Items, Root};
 use protect_record::{Floors, Record, Steps, Verdict};
 use slash_defs::{BlockEntry, Book, Entry, Message, VoteEntry};
 use std::alloc::{AllocError, Global};
-use std::process::Abort;
 use std::sync::ledger::{Blank, Ledger};
 
 /// A root.
@@ -89,27 +89,31 @@ pub struct VoteRow {
 }
 
 /// Compares a verdict on the block of a row.
-pub fn compare_block(rt: &impl Abort, found: Verdict, row: &BlockRow) {
+pub fn compare_block(seen: &impl Asserts, found: Verdict, row: &BlockRow) {
     let slot = row.slot;
-    assert_eq!(rt; found, row.want, "block of slot {slot}");
+    seen.same_at(&found, &row.want, format_args!("block of slot {slot}"));
 }
 
 /// Proposes the block of a row, and compares the verdict.
-fn propose_block(rt: &impl Abort, record: &mut Record, row: &BlockRow) -> Result<(), AllocError> {
+fn propose_block(
+    seen: &impl Asserts,
+    record: &mut Record,
+    row: &BlockRow,
+) -> Result<(), AllocError> {
     let (slot, root) = (row.slot, row.root);
     let found = propose(record, Message::Block { slot, root })?;
-    compare_block(rt, found, row);
+    compare_block(seen, found, row);
     Ok(())
 }
 
 /// Proposes the blocks of these rows, and compares the verdicts.
 pub fn propose_blocks(
-    rt: &impl Abort,
+    seen: &impl Asserts,
     record: &mut Record,
     rows: &[BlockRow],
 ) -> Result<(), AllocError> {
     for row in rows {
-        propose_block(rt, record, row)?;
+        propose_block(seen, record, row)?;
     }
     Ok(())
 }
@@ -124,20 +128,24 @@ pub fn vote_of(row: &VoteRow) -> Message {
 }
 
 /// Compares a verdict on the vote of a row.
-pub fn compare_vote(rt: &impl Abort, found: Verdict, row: &VoteRow) {
+pub fn compare_vote(seen: &impl Asserts, found: Verdict, row: &VoteRow) {
     let (source, target) = (row.source, row.target);
-    assert_eq!(rt; found, row.want, "vote from {source} to {target}");
+    seen.same_at(
+        &found,
+        &row.want,
+        format_args!("vote from {source} to {target}"),
+    );
 }
 
 /// Proposes the votes of these rows, and compares the verdicts.
 pub fn propose_votes(
-    rt: &impl Abort,
+    seen: &impl Asserts,
     record: &mut Record,
     rows: &[VoteRow],
 ) -> Result<(), AllocError> {
     for row in rows {
         let found = propose(record, vote_of(row))?;
-        compare_vote(rt, found, row);
+        compare_vote(seen, found, row);
     }
     Ok(())
 }
@@ -286,13 +294,13 @@ pub fn two_books_of_votes(
 
 /// The record exports one vote, this one.
 pub fn exports(
-    rt: &impl Abort,
+    seen: &impl Asserts,
     alloc: Global,
     record: &Record,
     vote: VoteEntry,
 ) -> Result<(), AllocError> {
     let exported = record.export(alloc)?;
-    compare(rt, &exported.votes.as_slice(), &[vote].as_slice());
+    compare(seen, &exported.votes.as_slice(), &[vote].as_slice());
     Ok(())
 }
 
@@ -311,9 +319,9 @@ pub const EARLY: BlockRow = BlockRow {
 };
 
 /// A record of that block, pruned.
-pub fn pruned(rt: &impl Abort, alloc: Global) -> Result<Record, AllocError> {
+pub fn pruned(seen: &impl Asserts, alloc: Global) -> Result<Record, AllocError> {
     let mut record = Record::new(alloc);
-    propose_block(rt, &mut record, &FIRST)?;
+    propose_block(seen, &mut record, &FIRST)?;
     record.prune()?;
     Ok(record)
 }
@@ -352,15 +360,15 @@ fn joined_twice(alloc: Global, record: &Record) -> Result<Record, AllocError> {
 
 /// The record gives these entries, and so does one that it is joined to.
 pub fn gives_joined(
-    rt: &impl Abort,
+    seen: &impl Asserts,
     alloc: Global,
     record: &Record,
     want: &[Entry],
 ) -> Result<(), AllocError> {
-    assert!(rt; gives(record, want));
+    seen.holds(gives(record, want));
     let joined = joined_twice(alloc, record)?;
-    assert!(rt; gives(&joined, want));
-    compare(rt, &joined.floors(), &record.floors());
+    seen.holds(gives(&joined, want));
+    compare(seen, &joined.floors(), &record.floors());
     Ok(())
 }
 
@@ -530,10 +538,10 @@ pub const FIRST_NAMED: &[VoteRow] = &[
 ];
 
 /// Of two blocks of a slot the first in file order is named, and the record keeps each.
-pub fn names_first_block(rt: &impl Abort, record: &Record) {
+pub fn names_first_block(seen: &impl Asserts, record: &Record) {
     let double = Message::Block { slot: 7, root: RB };
     let first = Verdict::DoubleBlock(block(7, Some(RA)));
-    compare(rt, &record.check(&double), &first);
-    assert!(rt; record.keeps(&double));
-    assert!(rt; !record.keeps(&Message::Block { slot: 9, root: RA }));
+    compare(seen, &record.check(&double), &first);
+    seen.holds(record.keeps(&double));
+    seen.holds(!record.keeps(&Message::Block { slot: 9, root: RA }));
 }

@@ -1,10 +1,10 @@
 //! Batches of items, and their bytes.
 use crate::compare::compare;
+use assertions::Asserts;
 use edge_kit::{PubKey, Root};
 use record_codec::{BadAt, JournalItem, check_batch, decode, encode};
 use slash_defs::{BlockEntry, VoteEntry};
 use std::alloc::{AllocError, Global};
-use std::process::Abort;
 use std::test::Fail;
 
 const KEY_BYTES: [u8; 48] = [0x11; 48];
@@ -83,10 +83,10 @@ fn joined(alloc: Global, front: &[&[u8]], behind: &[&[u8]]) -> Result<Vec<u8>, A
 const BARE_PARTS: &[&[u8]] = &[&[1], &[0x11; 48], &[1, 0, 0, 0, 0, 0, 0, 0], &[0]];
 
 /// These are the bytes of `BARE_BLOCK`.
-pub fn compare_bare(rt: &impl Abort, alloc: Global, bytes: &[u8]) -> Result<(), AllocError> {
-    compare(rt, &bytes.len(), &58);
+pub fn compare_bare(seen: &impl Asserts, alloc: Global, bytes: &[u8]) -> Result<(), AllocError> {
+    compare(seen, &bytes.len(), &58);
     let wanted = joined(alloc, BARE_PARTS, &[])?;
-    compare(rt, &bytes, &wanted.as_slice());
+    compare(seen, &bytes, &wanted.as_slice());
     Ok(())
 }
 
@@ -138,37 +138,37 @@ pub const SPELLED: &[Spelled] = &[
 ];
 
 /// The bytes are read as the item.
-fn reads(rt: &impl Abort, alloc: Global, bytes: &[u8], item: JournalItem) -> Result<(), Fail> {
+fn reads(seen: &impl Asserts, alloc: Global, bytes: &[u8], item: JournalItem) -> Result<(), Fail> {
     let Ok(items) = decode(alloc, bytes)? else {
         return Err(Fail::from("not read"));
     };
-    compare(rt, &items.as_slice(), &[item].as_slice());
+    compare(seen, &items.as_slice(), &[item].as_slice());
     Ok(())
 }
 
 /// The bytes are written from the item.
 fn writes(
-    rt: &impl Abort,
+    seen: &impl Asserts,
     alloc: Global,
     bytes: &[u8],
     item: JournalItem,
 ) -> Result<(), AllocError> {
     let written = encode(alloc, &[item])?;
-    compare(rt, &written.as_slice(), &bytes);
+    compare(seen, &written.as_slice(), &bytes);
     Ok(())
 }
 
 /// The bytes are a batch.
-fn passes(rt: &impl Abort, bytes: &[u8], tag: u8) {
-    assert_eq!(rt; check_batch(bytes), Ok(()), "tag {tag}");
+fn passes(seen: &impl Asserts, bytes: &[u8], tag: u8) {
+    seen.same_at(&check_batch(bytes), &Ok(()), format_args!("tag {tag}"));
 }
 
 /// The bytes of a tag, the key and these parts are read as the item, and written from it.
-pub fn spells(rt: &impl Abort, alloc: Global, spelled: &Spelled) -> Result<(), Fail> {
+pub fn spells(seen: &impl Asserts, alloc: Global, spelled: &Spelled) -> Result<(), Fail> {
     let bytes = joined(alloc, &[&[spelled.tag], &KEY_BYTES], spelled.parts)?;
-    passes(rt, &bytes, spelled.tag);
-    reads(rt, alloc, &bytes, spelled.item)?;
-    writes(rt, alloc, &bytes, spelled.item)?;
+    passes(seen, &bytes, spelled.tag);
+    reads(seen, alloc, &bytes, spelled.item)?;
+    writes(seen, alloc, &bytes, spelled.item)?;
     Ok(())
 }
 
@@ -249,16 +249,16 @@ fn fault_in(alloc: Global, bytes: &[u8]) -> Result<Option<BadAt>, AllocError> {
 }
 
 /// A check and a reader name this place in the bytes.
-fn names(rt: &impl Abort, alloc: Global, bytes: &[u8], offset: u64) -> Result<(), AllocError> {
+fn names(seen: &impl Asserts, alloc: Global, bytes: &[u8], offset: u64) -> Result<(), AllocError> {
     let bad = BadAt { offset };
-    compare(rt, &check_batch(bytes), &Err(bad));
+    compare(seen, &check_batch(bytes), &Err(bad));
     let found = fault_in(alloc, bytes)?;
-    compare(rt, &found, &Some(bad));
+    compare(seen, &found, &Some(bad));
     Ok(())
 }
 
 /// The first item that can't be read is named.
-pub fn names_first(rt: &impl Abort, alloc: Global, unread: &Unread) -> Result<(), AllocError> {
+pub fn names_first(seen: &impl Asserts, alloc: Global, unread: &Unread) -> Result<(), AllocError> {
     let bytes = joined(alloc, unread.front, unread.behind)?;
-    names(rt, alloc, &bytes, unread.offset)
+    names(seen, alloc, &bytes, unread.offset)
 }

@@ -1,8 +1,8 @@
 //! What is found is what is wanted.
+use assertions::Asserts;
 use std::fmt::Debug;
-use std::process::Abort;
 
 /// Compares what is found with what is wanted.
-pub fn compare<T: PartialEq + Debug>(rt: &impl Abort, found: &T, wanted: &T) {
-    assert_eq!(rt; found, wanted);
+pub fn compare<T: PartialEq + Debug>(seen: &impl Asserts, found: &T, wanted: &T) {
+    seen.same(&found, &wanted);
 }

@@ -3,13 +3,13 @@ ghost use Rattle.std.specs.Prelude.{◌≡◌, true};
 ghost use Rattle.record_codec.specs.Spelling.{is_record};
 
 use crate::compare::compare;
+use assertions::Asserts;
 use edge_kit::{PubKey, Root};
 use protect_record::{Floors, Record};
 use record_codec::{JournalItem, encode};
 use record_replay::{KeyState, Replayed, replay};
 use slash_defs::{BlockEntry, Entry, VoteEntry};
 use std::alloc::{AllocError, Global};
-use std::process::Abort;
 use std::test::Fail;
 
 /// The first key.
@@ -149,16 +149,16 @@ const NONE: Floors = Floors {
 };
 
 /// Both keys' records are kept.
-pub fn compare_books(rt: &impl Abort, replayed: &Replayed) {
+pub fn compare_books(seen: &impl Asserts, replayed: &Replayed) {
     let blocks = [Entry::Block(block(11)), Entry::Block(block(12))];
-    compare(rt, &replayed.books.len(), &2);
-    assert!(rt; keeps(replayed, &ONE, GREATEST, &blocks));
-    assert!(rt; keeps(replayed, &TWO, NONE, &[Entry::Vote(vote(3, 8))]));
+    compare(seen, &replayed.books.len(), &2);
+    seen.holds(keeps(replayed, &ONE, GREATEST, &blocks));
+    seen.holds(keeps(replayed, &TWO, NONE, &[Entry::Vote(vote(3, 8))]));
 }
 
 /// Both keys' states are kept.
-pub fn compare_states(rt: &impl Abort, replayed: &Replayed) {
-    compare(rt, &replayed.states.len(), &2);
-    compare(rt, &replayed.states.get(&ONE), &Some(&KeyState::Active));
-    compare(rt, &replayed.states.get(&TWO), &Some(&KeyState::Closed));
+pub fn compare_states(seen: &impl Asserts, replayed: &Replayed) {
+    compare(seen, &replayed.states.len(), &2);
+    compare(seen, &replayed.states.get(&ONE), &Some(&KeyState::Active));
+    compare(seen, &replayed.states.get(&TWO), &Some(&KeyState::Closed));
 }

@@ -1,11 +1,11 @@
 //! How many items the batches of a key have.
+use assertions::Asserts;
 use edge_kit::PubKey;
 use key_snapshot::snapshot_batches;
 use protect_record::{Floors, Record};
 use record_replay::KeyState;
 use slash_defs::{BlockEntry, VoteEntry};
 use std::alloc::{AllocError, Global};
-use std::process::Abort;
 
 const KEY: PubKey = PubKey([0x11; 48]);
 
@@ -103,15 +103,15 @@ pub const COUNTED: &[Counted] = &[
 ];
 
 /// Compares how many items the batches have.
-fn compare_counts(rt: &impl Abort, counts: &[usize], row: &Counted) {
+fn compare_counts(seen: &impl Asserts, counts: &[usize], row: &Counted) {
     let (blocks, votes) = (row.blocks, row.votes);
-    assert_eq!(rt; counts, row.wanted, "{blocks} and {votes}");
+    seen.same_at(&counts, &row.wanted, format_args!("{blocks} and {votes}"));
 }
 
 /// The batches of a row have as many items as it says.
-pub fn counts_so(rt: &impl Abort, alloc: Global, row: &Counted) -> Result<(), AllocError> {
+pub fn counts_so(seen: &impl Asserts, alloc: Global, row: &Counted) -> Result<(), AllocError> {
     let record = record_of(alloc, row.blocks, row.votes)?;
     let counts = counts(alloc, row.state, &record)?;
-    compare_counts(rt, counts.as_slice(), row);
+    compare_counts(seen, counts.as_slice(), row);
     Ok(())
 }

@@ -1,4 +1,5 @@
 //! Roots against those that another program computed, and bit lists as texts.
+use assertions::Asserts;
 use edge_kit::{PubKey, Root, Sig, read_hex};
 use phase0_blocks::{
     Attestation, AttesterSlashing, BeaconBlock, BeaconBlockBody, Deposit, DepositData,
@@ -10,11 +11,10 @@ use phase0_types::{
 };
 use serde_json::Value;
 use std::alloc::{AllocError, Global};
-use std::process::Abort;
 
 /// The root that a text of 64 hex digits writes.
-fn root_of(rt: &impl Abort, text: &str) -> Root {
-    Root(read_hex::<32>(text).expect(rt, "a root"))
+fn root_of(seen: &impl Asserts, text: &str) -> Root {
+    Root(seen.some(read_hex::<32>(text), "a root"))
 }
 
 const SIGNATURE: Sig = Sig([0x44; 96]);
@@ -83,68 +83,68 @@ const SIGNED_ROOT: &str = "0xa6c1cb65af80462aae66acb64dd857a7e35a6dcf2d89218f727
 
 /// The list of these values, which are no more than the limit, as this says.
 fn bounded<T: Drop, const LIMIT: usize>(
-    rt: &impl Abort,
+    seen: &impl Asserts,
     items: Vec<T>,
     what: &str,
 ) -> BoundedList<T, LIMIT> {
-    BoundedList::try_new(items).ok().expect(rt, what)
+    seen.some(BoundedList::try_new(items).ok(), what)
 }
 
 /// A list of one value.
 fn one<T: Drop, const LIMIT: usize>(
-    rt: &impl Abort,
+    seen: &impl Asserts,
     alloc: Global,
     item: T,
 ) -> BoundedList<T, LIMIT> {
     let mut items = Vec::new(alloc);
     let _ = items.push(item);
-    bounded(rt, items, "within the limit")
+    bounded(seen, items, "within the limit")
 }
 
-fn attestation(rt: &impl Abort, alloc: Global) -> Result<Attestation, AllocError> {
+fn attestation(seen: &impl Asserts, alloc: Global) -> Result<Attestation, AllocError> {
     let bits = Vec::from_slice(alloc, &[true, false, true])?;
     Ok(Attestation {
-        aggregation_bits: bounded(rt, bits, "three bits"),
+        aggregation_bits: bounded(seen, bits, "three bits"),
         details: VOTE,
         signature: SIGNATURE,
     })
 }
 
-fn indexed(rt: &impl Abort, alloc: Global) -> Result<IndexedAttestation, AllocError> {
+fn indexed(seen: &impl Asserts, alloc: Global) -> Result<IndexedAttestation, AllocError> {
     let indices = Vec::from_slice(alloc, &[5, 258, 3, 4, 9])?;
     Ok(IndexedAttestation {
-        attesting_indices: bounded(rt, indices, "five indices"),
+        attesting_indices: bounded(seen, indices, "five indices"),
         details: VOTE,
         signature: SIGNATURE,
     })
 }
 
-fn attester_slashing(rt: &impl Abort, alloc: Global) -> Result<AttesterSlashing, AllocError> {
+fn attester_slashing(seen: &impl Asserts, alloc: Global) -> Result<AttesterSlashing, AllocError> {
     Ok(AttesterSlashing {
-        attestation_1: indexed(rt, alloc)?,
-        attestation_2: indexed(rt, alloc)?,
+        attestation_1: indexed(seen, alloc)?,
+        attestation_2: indexed(seen, alloc)?,
     })
 }
 
 fn push_attestation(
-    rt: &impl Abort,
+    seen: &impl Asserts,
     alloc: Global,
     attestations: &mut Vec<Attestation>,
 ) -> Result<(), AllocError> {
-    attestations.push(attestation(rt, alloc)?)?;
+    attestations.push(attestation(seen, alloc)?)?;
     Ok(())
 }
 
-fn attestations(rt: &impl Abort, alloc: Global) -> Result<Vec<Attestation>, AllocError> {
+fn attestations(seen: &impl Asserts, alloc: Global) -> Result<Vec<Attestation>, AllocError> {
     let mut attestations = Vec::new(alloc);
-    push_attestation(rt, alloc, &mut attestations)?;
-    push_attestation(rt, alloc, &mut attestations)?;
+    push_attestation(seen, alloc, &mut attestations)?;
+    push_attestation(seen, alloc, &mut attestations)?;
     Ok(attestations)
 }
 
 /// A body that carries these.
 fn body_of(
-    rt: &impl Abort,
+    seen: &impl Asserts,
     alloc: Global,
     slashing: AttesterSlashing,
     attestations: Vec<Attestation>,
@@ -153,32 +153,32 @@ fn body_of(
         randao_reveal: Sig([0xaa; 96]),
         eth1_data: ETH1_DATA,
         graffiti: [0xbb; 32],
-        proposer_slashings: one(rt, alloc, PROPOSER_SLASHING),
-        attester_slashings: one(rt, alloc, slashing),
-        attestations: bounded(rt, attestations, "two attestations"),
-        deposits: one(rt, alloc, DEPOSIT),
-        voluntary_exits: one(rt, alloc, EXIT),
+        proposer_slashings: one(seen, alloc, PROPOSER_SLASHING),
+        attester_slashings: one(seen, alloc, slashing),
+        attestations: bounded(seen, attestations, "two attestations"),
+        deposits: one(seen, alloc, DEPOSIT),
+        voluntary_exits: one(seen, alloc, EXIT),
     }
 }
 
-fn body(rt: &impl Abort, alloc: Global) -> Result<BeaconBlockBody, AllocError> {
-    let slashing = attester_slashing(rt, alloc)?;
-    let attestations = attestations(rt, alloc)?;
-    Ok(body_of(rt, alloc, slashing, attestations))
+fn body(seen: &impl Asserts, alloc: Global) -> Result<BeaconBlockBody, AllocError> {
+    let slashing = attester_slashing(seen, alloc)?;
+    let attestations = attestations(seen, alloc)?;
+    Ok(body_of(seen, alloc, slashing, attestations))
 }
 
-fn block(rt: &impl Abort, alloc: Global) -> Result<BeaconBlock, AllocError> {
+fn block(seen: &impl Asserts, alloc: Global) -> Result<BeaconBlock, AllocError> {
     Ok(BeaconBlock {
         slot: 1,
         proposer_index: 2,
         parent_root: Root([3; 32]),
         state_root: Root([4; 32]),
-        body: body(rt, alloc)?,
+        body: body(seen, alloc)?,
     })
 }
 
-fn signed_block(rt: &impl Abort, alloc: Global) -> Result<SignedBeaconBlock, AllocError> {
-    let message = block(rt, alloc)?;
+fn signed_block(seen: &impl Asserts, alloc: Global) -> Result<SignedBeaconBlock, AllocError> {
+    let message = block(seen, alloc)?;
     Ok(Signed {
         message,
         signature: SIGNATURE,
@@ -186,15 +186,15 @@ fn signed_block(rt: &impl Abort, alloc: Global) -> Result<SignedBeaconBlock, All
 }
 
 /// Compares a root with the one that a text writes.
-fn compare_root(rt: &impl Abort, root: Root, text: &str) {
-    assert_eq!(rt; root, root_of(rt, text));
+fn compare_root(seen: &impl Asserts, root: Root, text: &str) {
+    seen.same(&root, &root_of(seen, text));
 }
 
 /// The roots of a block, of its header and of its body.
-fn compare_block(rt: &impl Abort, block: &BeaconBlock) {
-    compare_root(rt, block.body.root(), BODY_ROOT);
-    compare_root(rt, block.root(), BLOCK_ROOT);
-    compare_root(rt, block.header().root(), BLOCK_ROOT);
+fn compare_block(seen: &impl Asserts, block: &BeaconBlock) {
+    compare_root(seen, block.body.root(), BODY_ROOT);
+    compare_root(seen, block.root(), BLOCK_ROOT);
+    compare_root(seen, block.header().root(), BLOCK_ROOT);
 }
 
 /// The root of the signed block that is read of a value.
@@ -204,28 +204,28 @@ fn root_in(alloc: Global, json: &Value) -> Result<Result<Root, ReadFault>, Alloc
 }
 
 /// Compares it.
-fn compare_read(rt: &impl Abort, alloc: Global, json: &Value) -> Result<(), AllocError> {
+fn compare_read(seen: &impl Asserts, alloc: Global, json: &Value) -> Result<(), AllocError> {
     let read = root_in(alloc, json)?;
-    assert_eq!(rt; read, Ok(root_of(rt, SIGNED_ROOT)));
+    seen.same(&read, &Ok(root_of(seen, SIGNED_ROOT)));
     Ok(())
 }
 
 /// The root of a signed block, and of what is read of its value.
 fn compare_signed(
-    rt: &impl Abort,
+    seen: &impl Asserts,
     alloc: Global,
     signed: &SignedBeaconBlock,
 ) -> Result<(), AllocError> {
-    compare_root(rt, signed.root(), SIGNED_ROOT);
+    compare_root(seen, signed.root(), SIGNED_ROOT);
     let json = signed.to_value(alloc)?;
-    compare_read(rt, alloc, &json)
+    compare_read(seen, alloc, &json)
 }
 
 /// The roots of a signed block and of what it carries.
-pub fn compare_whole(rt: &impl Abort, alloc: Global) -> Result<(), AllocError> {
-    let signed = signed_block(rt, alloc)?;
-    compare_block(rt, &signed.message);
-    compare_signed(rt, alloc, &signed)
+pub fn compare_whole(seen: &impl Asserts, alloc: Global) -> Result<(), AllocError> {
+    let signed = signed_block(seen, alloc)?;
+    compare_block(seen, &signed.message);
+    compare_signed(seen, alloc, &signed)
 }
 
 /// A text of a bit list, and how many bits are read of it.
@@ -278,8 +278,8 @@ pub const BITS: &[BitsRow] = &[
 ];
 
 /// The value of an attestation.
-fn attestation_value(rt: &impl Abort, alloc: Global) -> Result<Value, AllocError> {
-    let attestation = attestation(rt, alloc)?;
+fn attestation_value(seen: &impl Asserts, alloc: Global) -> Result<Value, AllocError> {
+    let attestation = attestation(seen, alloc)?;
     attestation.to_value(alloc)
 }
 
@@ -301,18 +301,18 @@ fn bits_in(alloc: Global, json: &Value) -> Result<Result<usize, ReadFault>, Allo
 
 /// How many bits are read of a text.
 fn bits_of(
-    rt: &impl Abort,
+    seen: &impl Asserts,
     alloc: Global,
     text: &str,
 ) -> Result<Result<usize, ReadFault>, AllocError> {
-    let mut json = attestation_value(rt, alloc)?;
+    let mut json = attestation_value(seen, alloc)?;
     set_bits(alloc, &mut json, text)?;
     bits_in(alloc, &json)
 }
 
 /// Compares what is read of a text.
-pub fn compare_bits(rt: &impl Abort, alloc: Global, row: &BitsRow) -> Result<(), AllocError> {
-    let read = bits_of(rt, alloc, row.text)?;
-    assert_eq!(rt; read, row.want, "{}", row.text);
+pub fn compare_bits(seen: &impl Asserts, alloc: Global, row: &BitsRow) -> Result<(), AllocError> {
+    let read = bits_of(seen, alloc, row.text)?;
+    seen.same_at(&read, &row.want, format_args!("{}", row.text));
     Ok(())
 }

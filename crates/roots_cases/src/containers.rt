@@ -1,16 +1,16 @@
 //! Roots against those that another program computed, and JSON with faults.
+use assertions::Asserts;
 use edge_kit::{Root, read_hex};
 use phase0_types::{
     BeaconBlockHeader, Checkpoint, Eth1Data, Fork, ForkData, Member, ReadFault, Shaped, SigningData,
 };
 use serde_json::Value;
 use std::alloc::Global;
-use std::process::Abort;
 use std::test::Fail;
 
 /// The root that a text of 64 hex digits writes.
-fn root_of(rt: &impl Abort, text: &str) -> Root {
-    Root(read_hex::<32>(text).expect(rt, "a root"))
+fn root_of(seen: &impl Asserts, text: &str) -> Root {
+    Root(seen.some(read_hex::<32>(text), "a root"))
 }
 
 const ZERO: Root = Root([0; 32]);
@@ -51,43 +51,43 @@ const SIGNING_DATA: SigningData = SigningData {
 };
 
 /// Compares a root with the one that a text writes.
-fn compare(rt: &impl Abort, root: Root, text: &str) {
-    assert_eq!(rt; root, root_of(rt, text));
+fn compare(seen: &impl Asserts, root: Root, text: &str) {
+    seen.same(&root, &root_of(seen, text));
 }
 
 /// Roots of what a vote and a block hold.
-pub fn compare_small(rt: &impl Abort) {
+pub fn compare_small(seen: &impl Asserts) {
     compare(
-        rt,
+        seen,
         CHECKPOINT.root(),
         "0xf5a5fd42d16a20302798ef6ed309979b43003d2320d9f0e8ea9831a92759fb4b",
     );
     compare(
-        rt,
+        seen,
         ETH1_DATA.root(),
         "0xdb56114e00fdd4c1f85c892bf35ac9a89289aaecb1ebd0a96cde606a748b5d71",
     );
     compare(
-        rt,
+        seen,
         HEADER.root(),
         "0xc78009fdf07fc56a11f122370658a353aaa542ed63e44c4bc15ff4cd105ab33c",
     );
 }
 
 /// Roots of what signing roots are made of.
-pub fn compare_signing(rt: &impl Abort) {
+pub fn compare_signing(seen: &impl Asserts) {
     compare(
-        rt,
+        seen,
         FORK.root(),
         "0x48bf63b1741e8c9b1902d2f16e60f4f7398c2b10ee7c0de3569ee7808b810029",
     );
     compare(
-        rt,
+        seen,
         FORK_DATA.root(),
         "0x3ac87e2bf74e75512d0cafeef9434d72483b7b7a3483b6a2a808e382c5dda4ff",
     );
     compare(
-        rt,
+        seen,
         SIGNING_DATA.root(),
         "0x76d3d65e76606ae16124bd6ab8361570c994ebbaaf8a862d02a2b7c05b53813b",
     );
@@ -143,9 +143,9 @@ fn read(alloc: Global, text: &str) -> Result<Result<Checkpoint, ReadFault>, Fail
 }
 
 /// Compares the fault in what is read of a text.
-pub fn compare_fault(rt: &impl Abort, alloc: Global, row: &FaultRow) -> Result<(), Fail> {
+pub fn compare_fault(seen: &impl Asserts, alloc: Global, row: &FaultRow) -> Result<(), Fail> {
     let (text, fault) = (row.text, row.fault);
     let found = read(alloc, text)?;
-    assert_eq!(rt; found, Err(fault), "{text}");
+    seen.same_at(&found, &Err(fault), format_args!("{text}"));
     Ok(())
 }

@@ -1,12 +1,12 @@
 //! Roots against those that another program computed.
+use assertions::Asserts;
 use edge_kit::{Root, read_hex};
 use ssz_roots::{TooLong, bits_root, merkleize, mix_length, pack};
 use std::alloc::{AllocError, Global};
-use std::process::Abort;
 
 /// The root that a text of 64 hex digits writes.
-fn root_of(rt: &impl Abort, text: &str) -> Root {
-    Root(read_hex::<32>(text).expect(rt, "a root"))
+fn root_of(seen: &impl Asserts, text: &str) -> Root {
+    Root(seen.some(read_hex::<32>(text), "a root"))
 }
 
 /// Chunks of 32 ones, 32 twos and so on.
@@ -77,19 +77,23 @@ pub const ROOTS: &[(usize, u64, &str)] = &[
 ];
 
 /// Compares the root of so many chunks with the one that a text writes.
-pub fn compare_chunks(rt: &impl Abort, count: usize, limit: u64, text: &str) {
-    assert!(rt; count <= CHUNKS.len());
+pub fn compare_chunks(seen: &impl Asserts, count: usize, limit: u64, text: &str) {
+    seen.holds(count <= CHUNKS.len());
     let root = merkleize(&CHUNKS[..count], limit);
-    assert_eq!(rt; root, Ok(root_of(rt, text)), "{count} of {limit}");
+    seen.same_at(
+        &root,
+        &Ok(root_of(seen, text)),
+        format_args!("{count} of {limit}"),
+    );
 }
 
 /// The root of three bits.
-pub fn compare_three(rt: &impl Abort) {
+pub fn compare_three(seen: &impl Asserts) {
     let three = root_of(
-        rt,
+        seen,
         "0x3e12247922e9a35940d918b4c8525585cf6b6f712ad447e64e56e1e8a6859a8f",
     );
-    assert_eq!(rt; bits_root(&[true; 3], 2048), Ok(three));
+    seen.same(&bits_root(&[true; 3], 2048), &Ok(three));
 }
 
 /// 300 bits, of which each third is set.
@@ -102,36 +106,36 @@ fn third_bits() -> [bool; 300] {
 }
 
 /// The root of those bits, under a limit that they keep and under one that they don't.
-pub fn compare_thirds(rt: &impl Abort) {
+pub fn compare_thirds(seen: &impl Asserts) {
     let bits = third_bits();
     let thirds = root_of(
-        rt,
+        seen,
         "0x3e16b13cb02ba442c98ae24df4da64fdf0ce54723d5ee00ff3aec5e38d32737a",
     );
-    assert_eq!(rt; bits_root(&bits, 2048), Ok(thirds));
-    assert_eq!(rt;
-        bits_root(&bits, 299),
-        Err(TooLong {
+    seen.same(&bits_root(&bits, 2048), &Ok(thirds));
+    seen.same(
+        &bits_root(&bits, 299),
+        &Err(TooLong {
             len: 300,
-            limit: 299
-        })
+            limit: 299,
+        }),
     );
 }
 
 /// A root with a length.
-pub fn compare_mixed(rt: &impl Abort) {
+pub fn compare_mixed(seen: &impl Asserts) {
     let mixed = root_of(
-        rt,
+        seen,
         "0x8f2ce6d6db58e75453782ddf04486fe26bd1f1e1ebef0198375cc2b5045272f2",
     );
-    assert_eq!(rt; mix_length(Root([1; 32]), 258), mixed);
+    seen.same(&mix_length(Root([1; 32]), 258), &mixed);
 }
 
 /// The chunks of 33 bytes.
-pub fn compare_packed(rt: &impl Abort, alloc: Global) -> Result<(), AllocError> {
+pub fn compare_packed(seen: &impl Asserts, alloc: Global) -> Result<(), AllocError> {
     let chunks = pack(alloc, &[7; 33])?;
     let mut last = [0; 32];
     last[0] = 7;
-    assert_eq!(rt; chunks.as_slice(), [Root([7; 32]), Root(last)].as_slice());
+    seen.same(&chunks.as_slice(), &[Root([7; 32]), Root(last)].as_slice());
     Ok(())
 }

@@ -1,12 +1,12 @@
 //! Domains and signing roots against those that another program computed.
+use assertions::Asserts;
 use edge_kit::{Root, read_hex};
 use phase0_types::{AttestationData, BeaconBlockHeader, Checkpoint};
 use sign_roots::{DomainKind, Domains, Fork};
-use std::process::Abort;
 
 /// The 32 bytes that a text of 64 hex digits writes.
-pub fn bytes_of(rt: &impl Abort, text: &str) -> [u8; 32] {
-    read_hex::<32>(text).expect(rt, "32 bytes")
+pub fn bytes_of(seen: &impl Asserts, text: &str) -> [u8; 32] {
+    seen.some(read_hex::<32>(text), "32 bytes")
 }
 
 /// A chain with one version, all of whose bytes are 0.
@@ -100,39 +100,43 @@ pub const DOMAINS: &[(DomainKind, u64, &str)] = &[
 ];
 
 /// Compares the domain of a kind at an epoch with the bytes that a text writes.
-pub fn compare_domain(rt: &impl Abort, kind: DomainKind, epoch: u64, text: &str) {
+pub fn compare_domain(seen: &impl Asserts, kind: DomainKind, epoch: u64, text: &str) {
     let domain = forked_chain().domain(kind, epoch);
-    assert_eq!(rt; domain, bytes_of(rt, text), "{kind:?} {epoch}");
+    seen.same_at(
+        &domain,
+        &bytes_of(seen, text),
+        format_args!("{kind:?} {epoch}"),
+    );
 }
 
 /// Compares a signing root with the one that a text writes.
-fn compare_root(rt: &impl Abort, root: Root, text: &str) {
-    assert_eq!(rt; root, Root(bytes_of(rt, text)), "{text}");
+fn compare_root(seen: &impl Asserts, root: Root, text: &str) {
+    seen.same_at(&root, &Root(bytes_of(seen, text)), format_args!("{text}"));
 }
 
 /// Signing roots of blocks before and behind the fork.
-pub fn compare_blocks(rt: &impl Abort, domains: &Domains) {
+pub fn compare_blocks(seen: &impl Asserts, domains: &Domains) {
     compare_root(
-        rt,
+        seen,
         domains.block_root(&header(319)),
         "0x0baf17fb328256a114589eb85a74e86088e734ae1d7ff47e3c898706263ab199",
     );
     compare_root(
-        rt,
+        seen,
         domains.block_root(&header(320)),
         "0x168cefd67beb23a62d95aad80518747d6993a5554eccacd3afa0ea885e847180",
     );
 }
 
 /// Signing roots of votes before and behind the fork.
-pub fn compare_votes(rt: &impl Abort, domains: &Domains) {
+pub fn compare_votes(seen: &impl Asserts, domains: &Domains) {
     compare_root(
-        rt,
+        seen,
         domains.attestation_root(&vote(8, 9)),
         "0xfacd83ef64a9c7d7c04f3db069bafbb9a3589b7c33fc888e7c68f0b34ad587f0",
     );
     compare_root(
-        rt,
+        seen,
         domains.attestation_root(&vote(9, 10)),
         "0xbe43ab42c529c4b6c4bb3c7ef68b22b6a8553b7e2d67d942ffde712363a8bf3a",
     );

@@ -1,12 +1,12 @@
 //! Sessions whose journal is compacted.
 use crate::sessions::{halves_of, play_last};
+use assertions::Asserts;
 use edge_kit::{Disks, MemDisk};
 use run_doubles::{
     Ended, SESSION, Session, disks_after, fresh_disks, is_text, play, titled, words_of,
 };
 use signer_link::MemSigner;
 use std::alloc::{AllocError, Global};
-use std::process::Abort;
 use std::sync::Wait;
 use std::thread::Threads;
 use validator_cli::Status;
@@ -56,76 +56,79 @@ fn compactions(text: &str) -> usize {
 }
 
 /// Looks whether so many lines of a text tell of a compaction, and compares its other lines.
-fn look_beside<T: Abort>(
-    rt: &T,
+fn look_beside<T: Asserts>(
+    seen: &T,
     alloc: Global,
     shows: &str,
     text: &str,
     count: usize,
     wanted: &str,
 ) -> Result<(), AllocError> {
-    assert_eq!(rt; compactions(text), count, "{shows}");
+    seen.same_at(&compactions(text), &count, format_args!("{shows}"));
     let rest = beside_compactions(alloc, text)?;
     let is_same = is_text(alloc, rest.as_bytes(), wanted)?;
-    assert!(rt; is_same, "{shows}");
+    seen.holds_at(is_same, format_args!("{shows}"));
     Ok(())
 }
 
 /// Compares what a run came to with a session after each of whose requests the journal was compacted.
-fn compare_beside<T: Abort>(
-    rt: &T,
+fn compare_beside<T: Asserts>(
+    seen: &T,
     alloc: Global,
     shows: &str,
     ended: &Ended<MemSigner>,
     session: &Session,
 ) -> Result<(), AllocError> {
-    assert_eq!(rt; ended.status, Status::Done, "{shows}");
+    seen.same_at(&ended.status, &Status::Done, format_args!("{shows}"));
     let count = session.input.as_str().lines().count();
     let Ok(output) = std::str::from_utf8(ended.output.as_slice()) else {
-        rt.panic("the output is no text")
+        seen.panic("the output is no text")
     };
-    look_beside(rt, alloc, shows, output, count, session.output.as_str())?;
+    look_beside(seen, alloc, shows, output, count, session.output.as_str())?;
     let events = words_of(alloc, ended.events.as_slice())?;
     let wanted = session.events.as_str();
-    look_beside(rt, alloc, shows, events.as_str(), count, wanted)
+    look_beside(seen, alloc, shows, events.as_str(), count, wanted)
 }
 
 /// Runs a session over empty disks with a compaction after each request, compares what it came to, and gives the disks
 /// that it leaves.
-fn play_beside<T: Threads + Wait + Sync + Abort>(
+fn play_beside<T: Threads + Wait + Sync, J: Asserts>(
     rt: &T,
+    seen: &J,
     alloc: Global,
     shows: &str,
     session: &Session,
 ) -> Result<Disks<MemDisk>, AllocError> {
     let input = compacting(alloc, session.input.as_str())?;
     let ended = play(rt, alloc, SESSION, fresh_disks(alloc)?, input.as_str())?;
-    compare_beside(rt, alloc, shows, &ended, session)?;
+    compare_beside(seen, alloc, shows, &ended, session)?;
     disks_after(alloc, &ended)
 }
 
 /// Runs the session of a script but for its last request with a compaction after each request, and the last request
 /// over the disks that it leaves. Both answer as without compactions; in the second run, grants and moments are counted
 /// anew.
-fn play_compacting<T: Threads + Wait + Sync + Abort>(
+fn play_compacting<T: Threads + Wait + Sync, J: Asserts>(
     rt: &T,
+    seen: &J,
     alloc: Global,
     script: &str,
 ) -> Result<(), AllocError> {
     let (shows, lines) = titled(script);
     let halves = halves_of(alloc, lines)?;
-    let disks = play_beside(rt, alloc, shows, &halves.before)?;
-    play_last(rt, alloc, shows, disks, &halves.last)
+    let disks = play_beside(rt, seen, alloc, shows, &halves.before)?;
+    play_last(rt, seen, alloc, shows, disks, &halves.last)
 }
 
 /// Runs each session so.
-pub fn play_each_compacting<T: Threads + Wait + Sync + Abort>(
+pub fn play_each_compacting<T: Threads + Wait + Sync, J: Asserts>(
     rt: &T,
+    seen: &J,
     alloc: Global,
     scripts: &[&str],
 ) -> Result<(), AllocError> {
     for script in scripts {
-        play_compacting(rt, alloc, script)?;
+        play_compacting(rt, seen, alloc, script)?;
     }
     Ok(())
 }
@@ -162,26 +165,28 @@ fn second_failing(alloc: Global, failing: u64) -> Result<Disks<MemDisk>, AllocEr
 }
 
 /// Runs a session over such disks, which tells the fault, and gives the disks that it leaves.
-pub fn fail_at<T: Threads + Wait + Sync + Abort>(
+pub fn fail_at<T: Threads + Wait + Sync, J: Asserts>(
     rt: &T,
+    seen: &J,
     alloc: Global,
     failing: u64,
 ) -> Result<Disks<MemDisk>, AllocError> {
     let disks = second_failing(alloc, failing)?;
     let ended = play(rt, alloc, SESSION, disks, INPUT)?;
-    assert!(rt; ended.status != Status::Done, "call {failing}");
+    seen.holds_at(ended.status != Status::Done, format_args!("call {failing}"));
     disks_after(alloc, &ended)
 }
 
 /// Runs the session again over the disks that it left, where one thing alone is done.
-pub fn go_on<T: Threads + Wait + Sync + Abort>(
+pub fn go_on<T: Threads + Wait + Sync, J: Asserts>(
     rt: &T,
+    seen: &J,
     alloc: Global,
     failing: u64,
     disks: Disks<MemDisk>,
 ) -> Result<(), AllocError> {
     let again = play(rt, alloc, SESSION, disks, INPUT)?;
-    assert_eq!(rt; again.status, Status::Done, "call {failing}");
-    assert_eq!(rt; again.events.len(), 1, "call {failing}");
+    seen.same_at(&again.status, &Status::Done, format_args!("call {failing}"));
+    seen.same_at(&again.events.len(), &1, format_args!("call {failing}"));
     Ok(())
 }

@@ -1,5 +1,6 @@
 //! Sessions that take keys in, list them and give them up.
 use crate::sessions::{compare, look_at, play_on, play_over, run_fresh, signer_of};
+use assertions::Asserts;
 use edge_kit::{Disks, MemDisk, PubKey};
 use run_doubles::{
     Ended, SESSION, Session, disks_after, disks_of, filled, fresh_disks, no_faults, play, titled,
@@ -7,28 +8,29 @@ use run_doubles::{
 use session_scripts::{GIVEN_UP, TAKEN_IN};
 use signer_link::MemSigner;
 use std::alloc::{AllocError, Global};
-use std::process::Abort;
 use std::sync::Wait;
 use std::thread::Threads;
 use validator_cli::Status;
 
 /// Runs these sessions in turn over the same disks, and compares what comes of each.
-fn play_in_turn<T: Threads + Wait + Sync + Abort>(
+fn play_in_turn<T: Threads + Wait + Sync, J: Asserts>(
     rt: &T,
+    seen: &J,
     alloc: Global,
     shows: &str,
     sessions: &[Session],
 ) -> Result<(), AllocError> {
     let mut disks = fresh_disks(alloc)?;
     for session in sessions {
-        disks = play_on(rt, alloc, shows, disks, session)?;
+        disks = play_on(rt, seen, alloc, shows, disks, session)?;
     }
     Ok(())
 }
 
 /// Runs these sessions in two runs.
-fn play_halves<T: Threads + Wait + Sync + Abort>(
+fn play_halves<T: Threads + Wait + Sync, J: Asserts>(
     rt: &T,
+    seen: &J,
     alloc: Global,
     shows: &str,
     before: &[Session],
@@ -36,35 +38,37 @@ fn play_halves<T: Threads + Wait + Sync + Abort>(
 ) -> Result<(), AllocError> {
     let before = Session::joined(alloc, before)?;
     let behind = Session::joined(alloc, behind)?;
-    play_in_turn(rt, alloc, shows, &[before, behind])
+    play_in_turn(rt, seen, alloc, shows, &[before, behind])
 }
 
 /// Runs these sessions in two runs, cut before each of them.
-fn play_cut<T: Threads + Wait + Sync + Abort>(
+fn play_cut<T: Threads + Wait + Sync, J: Asserts>(
     rt: &T,
+    seen: &J,
     alloc: Global,
     shows: &str,
     sessions: &[Session],
 ) -> Result<(), AllocError> {
     for cut in 0..sessions.len() {
         let (before, behind) = sessions.split_at(cut);
-        play_halves(rt, alloc, shows, before, behind)?;
+        play_halves(rt, seen, alloc, shows, before, behind)?;
     }
     Ok(())
 }
 
 /// Runs the requests of a script, of which there are so many, in two runs and each in a run of its own.
-pub fn play_stopped<T: Threads + Wait + Sync + Abort>(
+pub fn play_stopped<T: Threads + Wait + Sync, J: Asserts>(
     rt: &T,
+    seen: &J,
     alloc: Global,
     script: &str,
     requests: usize,
 ) -> Result<(), AllocError> {
     let (shows, lines) = titled(script);
     let sessions = Session::read_each(alloc, lines)?;
-    assert_eq!(rt; sessions.len(), requests, "{shows}");
-    play_cut(rt, alloc, shows, sessions.as_slice())?;
-    play_in_turn(rt, alloc, shows, sessions.as_slice())
+    seen.same_at(&sessions.len(), &requests, format_args!("{shows}"));
+    play_cut(rt, seen, alloc, shows, sessions.as_slice())?;
+    play_in_turn(rt, seen, alloc, shows, sessions.as_slice())
 }
 
 /// Scripts with the number of their requests. Each has one grant, which is the first of its run wherever it is cut.
@@ -202,8 +206,9 @@ fn run_signed<T: Threads + Wait + Sync>(
 }
 
 /// Runs the session of these lines so, compares what it came to, and gives the disks that it leaves.
-fn play_signed<T: Threads + Wait + Sync + Abort>(
+fn play_signed<T: Threads + Wait + Sync, J: Asserts>(
     rt: &T,
+    seen: &J,
     alloc: Global,
     shows: &str,
     row: &Signed,
@@ -211,31 +216,33 @@ fn play_signed<T: Threads + Wait + Sync + Abort>(
 ) -> Result<Disks<MemDisk>, AllocError> {
     let session = Session::read(alloc, lines)?;
     let ended = run_signed(rt, alloc, row, session.input.as_str())?;
-    compare(rt, alloc, shows, &ended, &session)?;
+    compare(seen, alloc, shows, &ended, &session)?;
     disks_after(alloc, &ended)
 }
 
 /// Runs the session of these lines over the disks that another left, and compares what it came to.
-fn play_again<T: Threads + Wait + Sync + Abort>(
+fn play_again<T: Threads + Wait + Sync, J: Asserts>(
     rt: &T,
+    seen: &J,
     alloc: Global,
     shows: &str,
     lines: &str,
     disks: Disks<MemDisk>,
 ) -> Result<(), AllocError> {
     let again = Session::read(alloc, lines)?;
-    play_over(rt, alloc, shows, SESSION, disks, &again)
+    play_over(rt, seen, alloc, shows, SESSION, disks, &again)
 }
 
 /// Runs both sessions of a row.
-pub fn play_row<T: Threads + Wait + Sync + Abort>(
+pub fn play_row<T: Threads + Wait + Sync, J: Asserts>(
     rt: &T,
+    seen: &J,
     alloc: Global,
     row: &Signed,
 ) -> Result<(), AllocError> {
     let (shows, lines) = titled(row.script);
-    let disks = play_signed(rt, alloc, shows, row, lines)?;
-    play_again(rt, alloc, shows, row.again, disks)
+    let disks = play_signed(rt, seen, alloc, shows, row, lines)?;
+    play_again(rt, seen, alloc, shows, row.again, disks)
 }
 
 /// How many calls of the disk go well behind those of the opening, and the lines up to the last that is served.
@@ -299,8 +306,9 @@ fn run_failing<T: Threads + Wait + Sync>(
 }
 
 /// Runs the session of these lines over such disks: it ends behind their answers, and tells the fault.
-fn fail_disk<T: Threads + Wait + Sync + Abort>(
+fn fail_disk<T: Threads + Wait + Sync, J: Asserts>(
     rt: &T,
+    seen: &J,
     alloc: Global,
     call: u64,
     lines: &str,
@@ -310,7 +318,7 @@ fn fail_disk<T: Threads + Wait + Sync + Abort>(
     let output = format!(in alloc; "{}validator: disk fault\n", session.output.as_str())?;
     let events = session.events.as_str();
     look_at(
-        rt,
+        seen,
         alloc,
         &ended,
         Status::DiskFault,
@@ -320,13 +328,14 @@ fn fail_disk<T: Threads + Wait + Sync + Abort>(
 }
 
 /// Runs the sessions of the table, where the opening makes so many calls.
-pub fn fail_disks<T: Threads + Wait + Sync + Abort>(
+pub fn fail_disks<T: Threads + Wait + Sync, J: Asserts>(
     rt: &T,
+    seen: &J,
     alloc: Global,
     opening: u64,
 ) -> Result<(), AllocError> {
     for (well, lines) in DISK_FAULTS {
-        fail_disk(rt, alloc, opening.saturating_add(*well), lines)?;
+        fail_disk(rt, seen, alloc, opening.saturating_add(*well), lines)?;
     }
     Ok(())
 }

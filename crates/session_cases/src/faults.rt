@@ -1,10 +1,10 @@
 //! Sessions over an input, an output and a signer that fail.
 use crate::sessions::{look_at, run_fresh, signer_of};
+use assertions::Asserts;
 use edge_kit::PubKey;
 use run_doubles::{Ended, Faults, SESSION, filled, no_faults, ready_signer};
 use signer_link::MemSigner;
 use std::alloc::{AllocError, Global};
-use std::process::Abort;
 use std::sync::Wait;
 use std::thread::Threads;
 use validator_cli::{Limit, Status};
@@ -84,14 +84,15 @@ fn faults_of(alloc: Global, row: &Faulty) -> Result<Faults, AllocError> {
 }
 
 /// Runs a session with the faults of a row, and compares what it came to.
-pub fn fail_so<T: Threads + Wait + Sync + Abort>(
+pub fn fail_so<T: Threads + Wait + Sync, J: Asserts>(
     rt: &T,
+    seen: &J,
     alloc: Global,
     row: &Faulty,
 ) -> Result<(), AllocError> {
     let faults = faults_of(alloc, row)?;
     let ended = run_input(rt, alloc, ready_signer(alloc), faults)?;
-    look_at(rt, alloc, &ended, row.status, row.output, row.events)
+    look_at(seen, alloc, &ended, row.status, row.output, row.events)
 }
 
 /// Which keys the signer lacks, which of its calls fail, and what is told.
@@ -117,15 +118,16 @@ pub const UNSIGNED: &[Unsigned] = &[
 ];
 
 /// Runs a session with the signer of a row, and compares what it came to.
-pub fn sign_none<T: Threads + Wait + Sync + Abort>(
+pub fn sign_none<T: Threads + Wait + Sync, J: Asserts>(
     rt: &T,
+    seen: &J,
     alloc: Global,
     row: &Unsigned,
 ) -> Result<(), AllocError> {
     let signer = signer_of(alloc, row.lacking, row.failing)?;
     let ended = run_input(rt, alloc, signer, no_faults(alloc))?;
     let events = "0 activated <K1>\n0 granted 0 <K1> block 1 <Ra>\n0 dropped 0\n";
-    look_at(rt, alloc, &ended, Status::Done, row.output, events)
+    look_at(seen, alloc, &ended, Status::Done, row.output, events)
 }
 
 /// So many letters.
@@ -138,8 +140,9 @@ fn letters(alloc: Global, count: u32) -> Result<String, AllocError> {
 }
 
 /// Runs a session over so many letters, without a newline, and compares what it came to. Nothing is done.
-pub fn read_letters<T: Threads + Wait + Sync + Abort>(
+pub fn read_letters<T: Threads + Wait + Sync, J: Asserts>(
     rt: &T,
+    seen: &J,
     alloc: Global,
     count: u32,
     status: Status,
@@ -148,7 +151,7 @@ pub fn read_letters<T: Threads + Wait + Sync + Abort>(
     let letters = letters(alloc, count)?;
     let (signer, faults) = (ready_signer(alloc), no_faults(alloc));
     let ended = run_fresh(rt, alloc, SESSION, letters.as_str(), signer, faults)?;
-    look_at(rt, alloc, &ended, status, output, "")
+    look_at(seen, alloc, &ended, status, output, "")
 }
 
 /// The status of a line over its limit.

@@ -1,11 +1,11 @@
 //! Sessions whose requests give the object in place of the signing root.
 use crate::sessions::{ACTIVATE, look_at, push_filled, run_fresh};
+use assertions::Asserts;
 use edge_kit::Root;
 use phase0_types::Fork;
 use run_doubles::{Ended, KeepingSigner, no_faults};
 use signer_link::{SignObject, SignRequest};
 use std::alloc::{AllocError, Global};
-use std::process::Abort;
 use std::sync::Wait;
 use std::thread::Threads;
 use validator_cli::Status;
@@ -66,8 +66,8 @@ fn was_asked(requests: &[SignRequest], object: &SignObject) -> bool {
 }
 
 /// Compares what a run came to where the desk granted the message that begins so and it was signed by this root.
-fn look_at_signed<T: Abort>(
-    rt: &T,
+fn look_at_signed<T: Asserts>(
+    seen: &T,
     alloc: Global,
     ended: &Ended<KeepingSigner>,
     message: &str,
@@ -80,13 +80,14 @@ fn look_at_signed<T: Abort>(
         "0 activated <K1>\n0 granted 0 <K1> {message} {root}\n0 sent 0\n"
     )?;
     let (output, events) = (output.as_str(), events.as_str());
-    look_at(rt, alloc, ended, Status::Done, output, events)
+    look_at(seen, alloc, ended, Status::Done, output, events)
 }
 
 /// Runs a line, and looks whether its object was signed by this root: what is answered, that the desk granted the
 /// message that begins so, and that the signer was asked for the object.
-pub fn compare_signed<T: Threads + Wait + Sync + Abort>(
+pub fn compare_signed<T: Threads + Wait + Sync, J: Asserts>(
     rt: &T,
+    seen: &J,
     alloc: Global,
     line: &str,
     message: &str,
@@ -94,6 +95,6 @@ pub fn compare_signed<T: Threads + Wait + Sync + Abort>(
     object: &SignObject,
 ) -> Result<(), AllocError> {
     let ended = run_line(rt, alloc, line)?;
-    assert!(rt; was_asked(ended.signer.requests.as_slice(), object));
-    look_at_signed(rt, alloc, &ended, message, root)
+    seen.holds(was_asked(ended.signer.requests.as_slice(), object));
+    look_at_signed(seen, alloc, &ended, message, root)
 }

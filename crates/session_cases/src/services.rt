@@ -1,12 +1,12 @@
 //! Sessions whose signatures a service makes, over a link in memory.
 use crate::sessions::run_fresh;
+use assertions::Asserts;
 use edge_kit::{MemLink, PubKey, Root, Sig};
 use run_doubles::{Ended, SESSION, filled, no_faults};
 use service_url::ServiceUrl;
 use signer_link::{SignReply, Told};
 use slash_defs::Message;
 use std::alloc::{AllocError, Global};
-use std::process::Abort;
 use std::sync::Wait;
 use std::test::Fail;
 use std::thread::Threads;
@@ -152,28 +152,29 @@ fn run_said<T: Threads + Wait + Sync>(
 }
 
 /// Looks whether a session was done and answered so.
-fn look_at_answer<T: Abort>(
-    rt: &T,
+fn look_at_answer<T: Asserts>(
+    seen: &T,
     alloc: Global,
     ended: &Ended<Web3Signer<MemLink>>,
     said: &Said,
 ) -> Result<(), AllocError> {
     let (response, answer) = (said.response, said.answer);
-    assert_eq!(rt; ended.status, Status::Done, "{response}");
+    seen.same_at(&ended.status, &Status::Done, format_args!("{response}"));
     let output = format!(in alloc; "{{\"answer\":\"active\"}}\n{{\"answer\":{answer}}}\n")?;
     let is_written = ended.wrote(alloc, output.as_str())?;
-    assert!(rt; is_written, "{response}");
+    seen.holds_at(is_written, format_args!("{response}"));
     Ok(())
 }
 
 /// Runs a session with a service that says this, and compares how it was answered.
-pub fn answer_so<T: Threads + Wait + Sync + Abort>(
+pub fn answer_so<T: Threads + Wait + Sync, J: Asserts>(
     rt: &T,
+    seen: &J,
     alloc: Global,
     said: &Said,
 ) -> Result<(), AllocError> {
     let ended = run_said(rt, alloc, said)?;
-    look_at_answer(rt, alloc, &ended, said)
+    look_at_answer(seen, alloc, &ended, said)
 }
 
 /// What a service that signs is told and sent.
@@ -190,12 +191,12 @@ pub fn sent<T: Threads + Wait + Sync>(rt: &T, alloc: Global) -> Result<Vec<u8>, 
 }
 
 /// Looks whether one call was told, which signed `BLOCK`.
-pub fn look_at_told<T: Abort>(rt: &T, told: Option<&[Told]>) -> Result<(), Fail> {
+pub fn look_at_told<T: Asserts>(seen: &T, told: Option<&[Told]>) -> Result<(), Fail> {
     match told {
         Some([Told::Sign(call, SignReply::Signed(signature))]) => {
-            assert_eq!(rt; call.key, PubKey([0x11; 48]));
-            assert_eq!(rt; call.message, BLOCK);
-            assert_eq!(rt; *signature, Sig([0x77; 96]));
+            seen.same(&call.key, &PubKey([0x11; 48]));
+            seen.same(&call.message, &BLOCK);
+            seen.same(signature, &Sig([0x77; 96]));
             Ok(())
         }
         _ => Err(Fail::new("another list is told")),

@@ -1,6 +1,7 @@
 //! Sessions over disks and signers in memory: what is read, what is written, and what the desk did; and how the other
 
 //! modules run theirs.
+use assertions::Asserts;
 use edge_kit::{Disks, MemDisk, PubKey};
 use run_doubles::{
     Ended, Faults, SESSION, Session, came_to, disks_after, filled, fresh_disks, in_two, play, run,
@@ -8,7 +9,6 @@ use run_doubles::{
 };
 use signer_link::{MemSigner, Signer};
 use std::alloc::{AllocError, Global};
-use std::process::Abort;
 use std::sync::Wait;
 use std::thread::Threads;
 use validator_cli::Status;
@@ -18,14 +18,14 @@ pub const ACTIVATE: &str = r#"{"op":"activate","pubkey":"<K1>"}
 "#;
 
 /// Compares what a run came to with a session.
-pub fn compare<T: Abort>(
-    rt: &T,
+pub fn compare<T: Asserts>(
+    seen: &T,
     alloc: Global,
     shows: &str,
     ended: &Ended<MemSigner>,
     session: &Session,
 ) -> Result<(), AllocError> {
-    assert!(rt; came_to(alloc, ended, session)?, "{shows}");
+    seen.holds_at(came_to(alloc, ended, session)?, format_args!("{shows}"));
     Ok(())
 }
 
@@ -54,25 +54,26 @@ pub fn signer_of(
 }
 
 /// Compares what a run came to with a status, an output and events.
-pub fn look_at<T: Abort, S>(
-    rt: &T,
+pub fn look_at<T: Asserts, S>(
+    seen: &T,
     alloc: Global,
     ended: &Ended<S>,
     status: Status,
     output: &str,
     events: &str,
 ) -> Result<(), AllocError> {
-    assert_eq!(rt; ended.status, status, "{output}");
+    seen.same_at(&ended.status, &status, format_args!("{output}"));
     let is_written = ended.wrote(alloc, output)?;
-    assert!(rt; is_written, "{output}");
+    seen.holds_at(is_written, format_args!("{output}"));
     let is_noted = ended.did(alloc, events)?;
-    assert!(rt; is_noted, "{output}");
+    seen.holds_at(is_noted, format_args!("{output}"));
     Ok(())
 }
 
 /// Runs a session of these words over disks, and compares what it came to with what it has to come to.
-pub fn play_over<T: Threads + Wait + Sync + Abort>(
+pub fn play_over<T: Threads + Wait + Sync, J: Asserts>(
     rt: &T,
+    seen: &J,
     alloc: Global,
     shows: &str,
     words: &str,
@@ -80,35 +81,38 @@ pub fn play_over<T: Threads + Wait + Sync + Abort>(
     session: &Session,
 ) -> Result<(), AllocError> {
     let ended = play(rt, alloc, words, disks, session.input.as_str())?;
-    compare(rt, alloc, shows, &ended, session)
+    compare(seen, alloc, shows, &ended, session)
 }
 
 /// Runs a session over disks, compares what it came to with what it has to come to, and gives the disks that it leaves.
-pub fn play_on<T: Threads + Wait + Sync + Abort>(
+pub fn play_on<T: Threads + Wait + Sync, J: Asserts>(
     rt: &T,
+    seen: &J,
     alloc: Global,
     shows: &str,
     disks: Disks<MemDisk>,
     session: &Session,
 ) -> Result<Disks<MemDisk>, AllocError> {
     let ended = play(rt, alloc, SESSION, disks, session.input.as_str())?;
-    compare(rt, alloc, shows, &ended, session)?;
+    compare(seen, alloc, shows, &ended, session)?;
     disks_after(alloc, &ended)
 }
 
 /// Runs a session over empty disks so.
-pub fn play_first<T: Threads + Wait + Sync + Abort>(
+pub fn play_first<T: Threads + Wait + Sync, J: Asserts>(
     rt: &T,
+    seen: &J,
     alloc: Global,
     shows: &str,
     session: &Session,
 ) -> Result<Disks<MemDisk>, AllocError> {
-    play_on(rt, alloc, shows, fresh_disks(alloc)?, session)
+    play_on(rt, seen, alloc, shows, fresh_disks(alloc)?, session)
 }
 
 /// Runs the session of a script over disks, and compares what it came to with what it has to come to.
-pub fn play_script<T: Threads + Wait + Sync + Abort>(
+pub fn play_script<T: Threads + Wait + Sync, J: Asserts>(
     rt: &T,
+    seen: &J,
     alloc: Global,
     words: &str,
     script: &str,
@@ -116,18 +120,19 @@ pub fn play_script<T: Threads + Wait + Sync + Abort>(
 ) -> Result<(), AllocError> {
     let (shows, lines) = titled(script);
     let session = Session::read(alloc, lines)?;
-    play_over(rt, alloc, shows, words, disks, &session)
+    play_over(rt, seen, alloc, shows, words, disks, &session)
 }
 
 /// Runs each session of these words over empty disks, and compares what it came to with what it has to come to.
-pub fn play_each<T: Threads + Wait + Sync + Abort>(
+pub fn play_each<T: Threads + Wait + Sync, J: Asserts>(
     rt: &T,
+    seen: &J,
     alloc: Global,
     words: &str,
     scripts: &[&str],
 ) -> Result<(), AllocError> {
     for script in scripts {
-        play_script(rt, alloc, words, script, fresh_disks(alloc)?)?;
+        play_script(rt, seen, alloc, words, script, fresh_disks(alloc)?)?;
     }
     Ok(())
 }
@@ -148,54 +153,57 @@ pub fn halves_of(alloc: Global, lines: &str) -> Result<Halves, AllocError> {
 }
 
 /// Compares what a run came to with the last request of a session: grants and moments are counted anew.
-fn compare_last<T: Abort>(
-    rt: &T,
+fn compare_last<T: Asserts>(
+    seen: &T,
     alloc: Global,
     shows: &str,
     ended: &Ended<MemSigner>,
     last: &Session,
 ) -> Result<(), AllocError> {
-    assert_eq!(rt; ended.status, Status::Done, "{shows}");
+    seen.same_at(&ended.status, &Status::Done, format_args!("{shows}"));
     let is_written = ended.wrote(alloc, last.output.as_str())?;
-    assert!(rt; is_written, "{shows}");
+    seen.holds_at(is_written, format_args!("{shows}"));
     let noted = last.events.as_str().lines().count();
-    assert_eq!(rt; ended.events.len(), noted, "{shows}");
+    seen.same_at(&ended.events.len(), &noted, format_args!("{shows}"));
     Ok(())
 }
 
 /// Runs the last request of a session over the disks that the requests before it left, and compares what it came to.
-pub fn play_last<T: Threads + Wait + Sync + Abort>(
+pub fn play_last<T: Threads + Wait + Sync, J: Asserts>(
     rt: &T,
+    seen: &J,
     alloc: Global,
     shows: &str,
     disks: Disks<MemDisk>,
     last: &Session,
 ) -> Result<(), AllocError> {
     let ended = play(rt, alloc, SESSION, disks, last.input.as_str())?;
-    compare_last(rt, alloc, shows, &ended, last)
+    compare_last(seen, alloc, shows, &ended, last)
 }
 
 /// Runs the session of a script in two runs over the same disks, the second run for the last request, and compares what
 /// each comes to with its part of the session.
-fn play_in_two<T: Threads + Wait + Sync + Abort>(
+fn play_in_two<T: Threads + Wait + Sync, J: Asserts>(
     rt: &T,
+    seen: &J,
     alloc: Global,
     script: &str,
 ) -> Result<(), AllocError> {
     let (shows, lines) = titled(script);
     let halves = halves_of(alloc, lines)?;
-    let disks = play_first(rt, alloc, shows, &halves.before)?;
-    play_last(rt, alloc, shows, disks, &halves.last)
+    let disks = play_first(rt, seen, alloc, shows, &halves.before)?;
+    play_last(rt, seen, alloc, shows, disks, &halves.last)
 }
 
 /// Runs each session so.
-pub fn play_each_in_two<T: Threads + Wait + Sync + Abort>(
+pub fn play_each_in_two<T: Threads + Wait + Sync, J: Asserts>(
     rt: &T,
+    seen: &J,
     alloc: Global,
     scripts: &[&str],
 ) -> Result<(), AllocError> {
     for script in scripts {
-        play_in_two(rt, alloc, script)?;
+        play_in_two(rt, seen, alloc, script)?;
     }
     Ok(())
 }

@@ -3,10 +3,10 @@ ghost use Rattle.duty_loop.specs.Houses.{IsHolding};
 
 use crate::runs::{AT_32, Line, ONE_TURN, Run, Stage, activate, setup_of};
 use crate::said::{KEY, SECOND, Said};
+use assertions::Asserts;
 use duty_loop::{Held, first_held, take_turn};
 use duty_plans::DutySetup;
 use std::alloc::Global;
-use std::process::Abort;
 use std::sync::Wait;
 use std::thread::Threads;
 
@@ -30,8 +30,9 @@ pub const TWO_KEYS: &Run = &Run {
 };
 
 /// Takes one turn.
-fn turn<T: Abort + Threads + Wait + Sync>(
+fn turn<T: Threads + Wait + Sync, J: Asserts>(
     rt: &T,
+    seen: &J,
     alloc: Global,
     setup: &DutySetup,
     held: &mut Held,
@@ -40,7 +41,7 @@ fn turn<T: Abort + Threads + Wait + Sync>(
     requires { IsHolding held.old }
     ensures { IsHolding held.new }
 {
-    assert!(rt; !stage.lanes.is_empty());
+    seen.holds(!stage.lanes.is_empty());
     match take_turn(
         rt,
         alloc,
@@ -53,25 +54,30 @@ fn turn<T: Abort + Threads + Wait + Sync>(
         &mut stage.edges.out,
     ) {
         Ok(()) => {}
-        Err(_) => rt.panic("the loop ended"),
+        Err(_) => seen.panic("the loop ended"),
     }
 }
 
 /// Makes another key active, at the desk of the loop and at those of the lanes.
-pub fn activate_second<T: Abort>(rt: &T, stage: &mut Stage) {
-    activate(rt, &mut stage.desk, SECOND, 1);
+pub fn activate_second<T: Asserts>(seen: &T, stage: &mut Stage) {
+    activate(seen, &mut stage.desk, SECOND, 1);
     for lane in &mut stage.lanes {
-        activate(rt, &mut lane.desk, SECOND, 1);
+        activate(seen, &mut lane.desk, SECOND, 1);
     }
 }
 
 /// Takes two turns, between which `SECOND` becomes active.
-pub fn take_both<T: Abort + Threads + Wait + Sync>(rt: &T, alloc: Global, stage: &mut Stage) {
+pub fn take_both<T: Threads + Wait + Sync, J: Asserts>(
+    rt: &T,
+    seen: &J,
+    alloc: Global,
+    stage: &mut Stage,
+) {
     let setup = setup_of(2, false);
     let mut held = first_held(alloc, &setup, TWO_KEYS.start);
-    turn(rt, alloc, &setup, &mut held, stage);
-    activate_second(rt, stage);
-    turn(rt, alloc, &setup, &mut held, stage);
+    turn(rt, seen, alloc, &setup, &mut held, stage);
+    activate_second(seen, stage);
+    turn(rt, seen, alloc, &setup, &mut held, stage);
 }
 
 /// The lines that come of it.

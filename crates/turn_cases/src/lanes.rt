@@ -2,8 +2,8 @@
 use crate::keys::activate_second;
 use crate::runs::{Line, ONE_TURN, Run, Stage, lane_of, stage_of};
 use crate::said::{KEY, SECOND, Said};
+use assertions::Asserts;
 use std::alloc::{AllocError, Global};
-use std::process::Abort;
 
 /// A block and two votes in slot 32, at the places 0, 1 and 2, with the first of two lanes.
 pub const THREE_DUTIES: &Run = &Run {
@@ -25,17 +25,17 @@ const SECOND_LANE: &Run = &Run {
 };
 
 /// Puts the second lane beside the first.
-fn add_second<T: Abort>(rt: &T, alloc: Global, stage: &mut Stage) -> Result<(), AllocError> {
-    let second = lane_of(rt, alloc, SECOND_LANE)?;
+fn add_second<T: Asserts>(seen: &T, alloc: Global, stage: &mut Stage) -> Result<(), AllocError> {
+    let second = lane_of(seen, alloc, SECOND_LANE)?;
     stage.lanes.push(second)?;
     Ok(())
 }
 
 /// Two lanes, and both keys active.
-pub fn stage_of_two<T: Abort>(rt: &T, alloc: Global) -> Result<Stage, AllocError> {
-    let mut stage = stage_of(rt, alloc, THREE_DUTIES)?;
-    add_second(rt, alloc, &mut stage)?;
-    activate_second(rt, &mut stage);
+pub fn stage_of_two<T: Asserts>(seen: &T, alloc: Global) -> Result<Stage, AllocError> {
+    let mut stage = stage_of(seen, alloc, THREE_DUTIES)?;
+    add_second(seen, alloc, &mut stage)?;
+    activate_second(seen, &mut stage);
     Ok(stage)
 }
 

@@ -3,6 +3,7 @@ ghost use Rattle.std.specs.Prelude.{◌≤◌};
 ghost use Rattle.desk_machine.specs.Machine.{moment_limit};
 
 use crate::said::{FORK, KEY, Said, node, words};
+use assertions::Asserts;
 use check_sign::{Desk, DeskEvent, DeskReply, Event, MOMENT_LIMIT};
 use duty_loop::run_duties;
 use duty_plans::DutySetup;
@@ -13,7 +14,6 @@ use node_calls::MemNode;
 use node_fallback::Nodes;
 use signer_link::MemSigner;
 use std::alloc::{AllocError, Global};
-use std::process::Abort;
 use std::sync::Wait;
 use std::test::Fail;
 use std::thread::Threads;
@@ -122,8 +122,8 @@ fn empty_disks(alloc: Global) -> Result<Disks<MemDisk>, AllocError> {
 }
 
 /// Opens a desk over empty disks at this epoch.
-fn empty_desk<T: Abort>(
-    rt: &T,
+fn empty_desk<T: Asserts>(
+    seen: &T,
     alloc: Global,
     watches: bool,
     at: u64,
@@ -133,30 +133,30 @@ fn empty_desk<T: Abort>(
     let disks = empty_disks(alloc)?;
     match Desk::open(alloc, disks, Root([0; 32]), watches, at) {
         Ok(desk) => Ok(desk),
-        Err(_) => rt.panic("not opened"),
+        Err(_) => seen.panic("not opened"),
     }
 }
 
 /// Makes a key active at this epoch.
-pub fn activate<T: Abort>(rt: &T, desk: &mut Desk<MemDisk>, key: PubKey, at: u64)
+pub fn activate<T: Asserts>(seen: &T, desk: &mut Desk<MemDisk>, key: PubKey, at: u64)
     requires { at ≤ moment_limit }
 {
     match desk.activate(key, at) {
         DeskReply::Active => {}
-        _ => rt.panic("not activated"),
+        _ => seen.panic("not activated"),
     }
 }
 
 /// A desk with one active key, made active at this epoch.
-pub fn desk_of_one<T: Abort>(
-    rt: &T,
+pub fn desk_of_one<T: Asserts>(
+    seen: &T,
     alloc: Global,
     watches: bool,
     at: u64,
 ) -> Result<Desk<MemDisk>, AllocError> {
-    assert!(rt; at <= MOMENT_LIMIT);
-    let mut desk = empty_desk(rt, alloc, watches, at)?;
-    activate(rt, &mut desk, KEY, at);
+    seen.holds(at <= MOMENT_LIMIT);
+    let mut desk = empty_desk(seen, alloc, watches, at)?;
+    activate(seen, &mut desk, KEY, at);
     Ok(desk)
 }
 
@@ -177,15 +177,15 @@ fn nodes_of(alloc: Global, said: &[Said], failing: &[u64]) -> Result<Nodes<MemNo
 }
 
 /// The lane of a run.
-pub fn lane_of<T: Abort>(rt: &T, alloc: Global, run: &Run) -> Result<MemLane, AllocError> {
+pub fn lane_of<T: Asserts>(seen: &T, alloc: Global, run: &Run) -> Result<MemLane, AllocError> {
     let signer = signer_of(alloc, run)?;
     let nodes = nodes_of(alloc, run.lane_said, run.lane_failing)?;
-    let desk = desk_of_one(rt, alloc, run.lane_watches, run.active_at)?;
+    let desk = desk_of_one(seen, alloc, run.lane_watches, run.active_at)?;
     Ok(Lane::new(desk, signer, nodes))
 }
 
-fn lanes_of<T: Abort>(rt: &T, alloc: Global, run: &Run) -> Result<Vec<MemLane>, AllocError> {
-    let lane = lane_of(rt, alloc, run)?;
+fn lanes_of<T: Asserts>(seen: &T, alloc: Global, run: &Run) -> Result<Vec<MemLane>, AllocError> {
+    let lane = lane_of(seen, alloc, run)?;
     Ok(vec![in alloc; lane]?)
 }
 
@@ -197,21 +197,22 @@ fn edges_of(alloc: Global, run: &Run) -> Result<Edges, AllocError> {
 }
 
 /// What the turns of a run are taken over.
-pub fn stage_of<T: Abort>(rt: &T, alloc: Global, run: &Run) -> Result<Stage, AllocError> {
+pub fn stage_of<T: Asserts>(seen: &T, alloc: Global, run: &Run) -> Result<Stage, AllocError> {
     let edges = edges_of(alloc, run)?;
-    let lanes = lanes_of(rt, alloc, run)?;
-    let desk = desk_of_one(rt, alloc, run.watches, run.active_at)?;
+    let lanes = lanes_of(seen, alloc, run)?;
+    let desk = desk_of_one(seen, alloc, run.watches, run.active_at)?;
     Ok(Stage { desk, lanes, edges })
 }
 
 /// Takes the turns of a run.
-pub fn take_turns<T: Abort + Threads + Wait + Sync>(
+pub fn take_turns<T: Threads + Wait + Sync, J: Asserts>(
     rt: &T,
+    seen: &J,
     alloc: Global,
     run: &Run,
     stage: &mut Stage,
 ) {
-    assert!(rt; !stage.lanes.is_empty());
+    seen.holds(!stage.lanes.is_empty());
     let ended = run_duties(
         rt,
         alloc,
@@ -222,7 +223,7 @@ pub fn take_turns<T: Abort + Threads + Wait + Sync>(
         stage.lanes.as_mut_slice(),
         &mut stage.edges.out,
     );
-    assert!(rt; ended.is_ok());
+    seen.holds(ended.is_ok());
 }
 
 /// What the first of some nodes was asked and handed over.
@@ -234,9 +235,9 @@ fn first_words(alloc: Global, nodes: Nodes<MemNode>) -> Result<String, AllocErro
 }
 
 /// The nodes of a lane, whose journal was not compacted.
-fn nodes_in<T: Abort>(rt: &T, lane: MemLane) -> Nodes<MemNode> {
+fn nodes_in<T: Asserts>(seen: &T, lane: MemLane) -> Nodes<MemNode> {
     let (desk, _signer, nodes) = lane.into_parts();
-    compare_compacted(rt, desk, false);
+    compare_compacted(seen, desk, false);
     nodes
 }
 
@@ -250,14 +251,14 @@ fn push_words(alloc: Global, text: &mut String, nodes: Nodes<MemNode>) -> Result
 }
 
 /// What the first of each lane's nodes was asked and handed over, lane by lane. The desk of none was compacted.
-fn words_of_lanes<T: Abort>(
-    rt: &T,
+fn words_of_lanes<T: Asserts>(
+    seen: &T,
     alloc: Global,
     lanes: Vec<MemLane>,
 ) -> Result<String, AllocError> {
     let mut text = String::new(alloc);
     for lane in lanes {
-        push_words(alloc, &mut text, nodes_in(rt, lane))?;
+        push_words(alloc, &mut text, nodes_in(seen, lane))?;
     }
     Ok(text)
 }
@@ -281,8 +282,8 @@ fn compacted(desk: Desk<MemDisk>) -> (bool, bool) {
 }
 
 /// Compares whether the journal of a desk was compacted with what is expected.
-pub fn compare_compacted<T: Abort>(rt: &T, desk: Desk<MemDisk>, wanted: bool) {
-    assert_eq!(rt; compacted(desk), (wanted, wanted));
+pub fn compare_compacted<T: Asserts>(seen: &T, desk: Desk<MemDisk>, wanted: bool) {
+    seen.same(&compacted(desk), &(wanted, wanted));
 }
 
 /// Puts behind a text how a duty of a key in a slot ended.
@@ -324,44 +325,44 @@ fn text_of(alloc: Global, lines: &[Line]) -> Result<String, AllocError> {
 }
 
 /// Looks at what a node was asked and handed over.
-fn look_at_nodes<T: Abort>(
-    rt: &T,
+fn look_at_nodes<T: Asserts>(
+    seen: &T,
     alloc: Global,
     nodes: Nodes<MemNode>,
     asked: &str,
 ) -> Result<(), AllocError> {
     let words = first_words(alloc, nodes)?;
-    assert_eq!(rt; words.as_str().trim_start(), asked);
+    seen.same(&words.as_str().trim_start(), &asked);
     Ok(())
 }
 
 /// Looks at what the nodes of lanes were asked and handed over, and that no journal of theirs was compacted.
-fn look_at_lanes<T: Abort>(
-    rt: &T,
+fn look_at_lanes<T: Asserts>(
+    seen: &T,
     alloc: Global,
     lanes: Vec<MemLane>,
     asked: &str,
 ) -> Result<(), AllocError> {
-    let words = words_of_lanes(rt, alloc, lanes)?;
-    assert_eq!(rt; words.as_str().trim_start(), asked);
+    let words = words_of_lanes(seen, alloc, lanes)?;
+    seen.same(&words.as_str().trim_start(), &asked);
     Ok(())
 }
 
 /// Looks at what was printed.
-fn look_at_output<T: Abort>(
-    rt: &T,
+fn look_at_output<T: Asserts>(
+    seen: &T,
     alloc: Global,
     out: MemSink,
     lines: &[Line],
 ) -> Result<(), AllocError> {
     let text = text_of(alloc, lines)?;
-    assert!(rt; out.into_bytes().as_slice() == text.as_bytes());
+    seen.holds(out.into_bytes().as_slice() == text.as_bytes());
     Ok(())
 }
 
 /// Looks at what the turns printed, and at what the loop's node was asked and handed over.
-fn look_at_edges<T: Abort>(
-    rt: &T,
+fn look_at_edges<T: Asserts>(
+    seen: &T,
     alloc: Global,
     edges: Edges,
     lines: &[Line],
@@ -372,14 +373,14 @@ fn look_at_edges<T: Abort>(
         nodes,
         out,
     } = edges;
-    look_at_nodes(rt, alloc, nodes, asked)?;
-    look_at_output(rt, alloc, out, lines)
+    look_at_nodes(seen, alloc, nodes, asked)?;
+    look_at_output(seen, alloc, out, lines)
 }
 
 /// Looks at what the turns printed, at what the loop's node and those of the lanes were asked and handed over, with a bar
 /// between two lanes, and that no journal was compacted.
-pub fn look_at_end<T: Abort>(
-    rt: &T,
+pub fn look_at_end<T: Asserts>(
+    seen: &T,
     alloc: Global,
     stage: Stage,
     lines: &[Line],
@@ -387,40 +388,43 @@ pub fn look_at_end<T: Abort>(
     lane_asked: &str,
 ) -> Result<(), AllocError> {
     let Stage { desk, lanes, edges } = stage;
-    compare_compacted(rt, desk, false);
-    look_at_lanes(rt, alloc, lanes, lane_asked)?;
-    look_at_edges(rt, alloc, edges, lines, asked)
+    compare_compacted(seen, desk, false);
+    look_at_lanes(seen, alloc, lanes, lane_asked)?;
+    look_at_edges(seen, alloc, edges, lines, asked)
 }
 
 /// What is left of a run's turns.
-pub fn played<T: Abort + Threads + Wait + Sync>(
+pub fn played<T: Threads + Wait + Sync, J: Asserts>(
     rt: &T,
+    seen: &J,
     alloc: Global,
     run: &Run,
 ) -> Result<Stage, AllocError> {
-    let mut stage = stage_of(rt, alloc, run)?;
-    take_turns(rt, alloc, run, &mut stage);
+    let mut stage = stage_of(seen, alloc, run)?;
+    take_turns(rt, seen, alloc, run, &mut stage);
     Ok(stage)
 }
 
 /// Carries out a run, and looks at what it printed and asked.
-fn look_at_case<T: Abort + Threads + Wait + Sync>(
+fn look_at_case<T: Threads + Wait + Sync, J: Asserts>(
     rt: &T,
+    seen: &J,
     alloc: Global,
     case: &Case,
 ) -> Result<(), AllocError> {
-    let stage = played(rt, alloc, &case.run)?;
-    look_at_end(rt, alloc, stage, case.lines, case.asked, case.lane_asked)
+    let stage = played(rt, seen, alloc, &case.run)?;
+    look_at_end(seen, alloc, stage, case.lines, case.asked, case.lane_asked)
 }
 
 /// Carries out each run, and looks at what it printed and asked.
-pub fn look_at<T: Abort + Threads + Wait + Sync>(
+pub fn look_at<T: Threads + Wait + Sync, J: Asserts>(
     rt: &T,
+    seen: &J,
     alloc: Global,
     cases: &[Case],
 ) -> Result<(), Fail> {
     for case in cases {
-        look_at_case(rt, alloc, case)?;
+        look_at_case(rt, seen, alloc, case)?;
     }
     Ok(())
 }

@@ -1,10 +1,10 @@
 //! Watched keys, and nodes that don't answer.
 use crate::runs::{AT_32, Case, Line, ONE_TURN, Run, look_at_end, played};
 use crate::said::{KEY, Said};
+use assertions::Asserts;
 use check_sign::{Desk, DeskReply, KeyStanding, WatchState};
 use edge_kit::{MemDisk, PubKey};
 use std::alloc::{AllocError, Global};
-use std::process::Abort;
 use std::sync::Wait;
 use std::thread::Threads;
 
@@ -27,18 +27,18 @@ const WATCHED: Run = Run {
 };
 
 /// How the watch of the only key stands, which is active.
-fn only_watch<T: Abort>(rt: &T, listed: &[(PubKey, KeyStanding)]) -> WatchState {
+fn only_watch<T: Asserts>(seen: &T, listed: &[(PubKey, KeyStanding)]) -> WatchState {
     match listed {
         [(_, KeyStanding::Active(watch))] => *watch,
-        _ => rt.panic("not active"),
+        _ => seen.panic("not active"),
     }
 }
 
 /// How the watch of `KEY` stands at the loop's desk.
-fn watch_of<T: Abort>(rt: &T, desk: &mut Desk<MemDisk>) -> WatchState {
+fn watch_of<T: Asserts>(seen: &T, desk: &mut Desk<MemDisk>) -> WatchState {
     match desk.keys() {
-        DeskReply::Keys(listed) => only_watch(rt, listed.as_slice()),
-        _ => rt.panic("not listed"),
+        DeskReply::Keys(listed) => only_watch(seen, listed.as_slice()),
+        _ => seen.panic("not listed"),
     }
 }
 
@@ -122,18 +122,19 @@ pub const WATCHES: &[(Case, WatchState)] = &[
     ),
 ];
 
-fn look_at_standing<T: Abort>(rt: &T, desk: &mut Desk<MemDisk>, watch: WatchState) {
-    assert_eq!(rt; watch_of(rt, desk), watch);
+fn look_at_standing<T: Asserts>(seen: &T, desk: &mut Desk<MemDisk>, watch: WatchState) {
+    seen.same(&watch_of(seen, desk), &watch);
 }
 
 /// Carries out a run, and looks at how the watch of `KEY` stands, and at what was printed and asked.
-pub fn look_at_watch<T: Abort + Threads + Wait + Sync>(
+pub fn look_at_watch<T: Threads + Wait + Sync, J: Asserts>(
     rt: &T,
+    seen: &J,
     alloc: Global,
     case: &Case,
     watch: WatchState,
 ) -> Result<(), AllocError> {
-    let mut stage = played(rt, alloc, &case.run)?;
-    look_at_standing(rt, &mut stage.desk, watch);
-    look_at_end(rt, alloc, stage, case.lines, case.asked, case.lane_asked)
+    let mut stage = played(rt, seen, alloc, &case.run)?;
+    look_at_standing(seen, &mut stage.desk, watch);
+    look_at_end(seen, alloc, stage, case.lines, case.asked, case.lane_asked)
 }

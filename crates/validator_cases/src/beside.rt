@@ -6,12 +6,12 @@ use crate::lanes::BOTH_VOTE;
 use crate::meetings::{Flags, Meeting, MeetingDoor, MeetingSigner, NotingNode};
 use crate::runs::{Outside, Run, Served, compare, outside_of, serve, words_of};
 use crate::starts::{ACTIVATE_BOTH, ONE_SLOT};
+use assertions::Asserts;
 use edge_kit::MemDoor;
 use node_calls::MemNode;
 use run_doubles::ready_signer;
 use signer_link::MemSigner;
 use std::alloc::{AllocError, Global};
-use std::process::Abort;
 use std::rt::Clock;
 use std::sync::Wait;
 use std::sync::atomic::Ordering;
@@ -150,14 +150,19 @@ where
 }
 
 /// Asserts that no wait came to its limit.
-fn none_late<T: Abort>(rt: &T, run: &Run, flags: &Flags) {
+fn none_late<T: Asserts>(seen: &T, run: &Run, flags: &Flags) {
     let shows = run.shows;
-    assert_eq!(rt; flags.late_waits.load(Ordering::SeqCst), 0, "{shows}");
+    seen.same_at(
+        &flags.late_waits.load(Ordering::SeqCst),
+        &0,
+        format_args!("{shows}"),
+    );
 }
 
 /// Two lanes cast a vote each, and the first signing waits until a vote was posted.
-pub fn look_at_lanes<T: Threads + Wait + Clock + Sync + Abort>(
+pub fn look_at_lanes<T: Threads + Wait + Clock + Sync, J: Asserts>(
     rt: &T,
+    seen: &J,
     alloc: Global,
     flags: &Flags,
 ) -> Result<(), Fail> {
@@ -165,13 +170,14 @@ pub fn look_at_lanes<T: Threads + Wait + Clock + Sync + Abort>(
     let outside = outside_of(rt, alloc, TWO_LANES, ready_signer(alloc))?;
     let outside = signing_behind_a_post(rt, alloc, outside, flags)?;
     let served = serve(rt, alloc, words.as_slice(), outside);
-    none_late(rt, TWO_LANES, flags);
-    compare(rt, alloc, TWO_LANES, without_lanes(alloc, served))
+    none_late(seen, TWO_LANES, flags);
+    compare(seen, alloc, TWO_LANES, without_lanes(alloc, served))
 }
 
 /// A vote is cast and a connection served, and the first signing and the first connection wait for each other.
-pub fn look_at_loops<T: Threads + Wait + Clock + Sync + Abort>(
+pub fn look_at_loops<T: Threads + Wait + Clock + Sync, J: Asserts>(
     rt: &T,
+    seen: &J,
     alloc: Global,
     flags: &Flags,
 ) -> Result<(), Fail> {
@@ -179,6 +185,6 @@ pub fn look_at_loops<T: Threads + Wait + Clock + Sync + Abort>(
     let outside = outside_of(rt, alloc, DUTY_AND_CALLER, ready_signer(alloc))?;
     let outside = signing_beside_the_door(rt, outside, flags);
     let served = serve(rt, alloc, words.as_slice(), outside);
-    none_late(rt, DUTY_AND_CALLER, flags);
-    compare(rt, alloc, DUTY_AND_CALLER, behind_the_door(served))
+    none_late(seen, DUTY_AND_CALLER, flags);
+    compare(seen, alloc, DUTY_AND_CALLER, behind_the_door(served))
 }

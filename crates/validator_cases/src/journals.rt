@@ -1,9 +1,9 @@
 //! The commands over a journal, and journals that are not opened.
+use assertions::Asserts;
 use edge_kit::{Disks, MemDisk};
 use run_doubles::{Ended, SESSION, disks_after, disks_of, fresh_disks, play};
 use signer_link::MemSigner;
 use std::alloc::{AllocError, Global};
-use std::process::Abort;
 use std::sync::Wait;
 use std::thread::Threads;
 use validator_cli::Status;
@@ -26,28 +26,29 @@ const OTHER_FILE: &str =
     r#"{"data":[],"metadata":{"genesis_validators_root":"<G1>","interchange_format_version":"5"}}"#;
 
 /// Compares what a run came to with a status and an output. Nothing is done by the desk of a session.
-pub fn look_at<T: Abort>(
-    rt: &T,
+pub fn look_at<T: Asserts>(
+    seen: &T,
     alloc: Global,
     ended: &Ended<MemSigner>,
     status: Status,
     output: &str,
 ) -> Result<(), AllocError> {
-    assert_eq!(rt; ended.status, status, "{output}");
+    seen.same_at(&ended.status, &status, format_args!("{output}"));
     let is_written = ended.wrote(alloc, output)?;
-    assert!(rt; is_written, "{output}");
-    assert!(rt; ended.events.is_empty(), "{output}");
+    seen.holds_at(is_written, format_args!("{output}"));
+    seen.holds_at(ended.events.is_empty(), format_args!("{output}"));
     Ok(())
 }
 
 /// Merges `FILE` into a journal on empty disks, and gives what it leaves.
-pub fn merge_file<T: Threads + Wait + Sync + Abort>(
+pub fn merge_file<T: Threads + Wait + Sync, J: Asserts>(
     rt: &T,
+    seen: &J,
     alloc: Global,
 ) -> Result<Disks<MemDisk>, AllocError> {
     let ended = play(rt, alloc, MERGE, fresh_disks(alloc)?, FILE)?;
-    assert_eq!(rt; ended.status, Status::Done);
-    assert!(rt; ended.wrote(alloc, "merged 1\n")?);
+    seen.same(&ended.status, &Status::Done);
+    seen.holds(ended.wrote(alloc, "merged 1\n")?);
     disks_after(alloc, &ended)
 }
 
@@ -55,14 +56,15 @@ pub fn merge_file<T: Threads + Wait + Sync + Abort>(
 const SHOWN: &str = "<K1> known blocks 1 votes 0 floor_slot 100 floor_source - floor_target -\n";
 
 /// Shows the journal on these disks, and gives what that leaves.
-pub fn show_it<T: Threads + Wait + Sync + Abort>(
+pub fn show_it<T: Threads + Wait + Sync, J: Asserts>(
     rt: &T,
+    seen: &J,
     alloc: Global,
     disks: Disks<MemDisk>,
 ) -> Result<Disks<MemDisk>, AllocError> {
     let ended = play(rt, alloc, SHOW, disks, "")?;
-    assert_eq!(rt; ended.status, Status::Done);
-    assert!(rt; ended.wrote(alloc, SHOWN)?);
+    seen.same(&ended.status, &Status::Done);
+    seen.holds(ended.wrote(alloc, SHOWN)?);
     disks_after(alloc, &ended)
 }
 
@@ -151,28 +153,31 @@ fn run_over<T: Threads + Wait + Sync>(
 }
 
 /// Runs over a disk, and compares what it came to.
-pub fn fail_over<T: Threads + Wait + Sync + Abort>(
+pub fn fail_over<T: Threads + Wait + Sync, J: Asserts>(
     rt: &T,
+    seen: &J,
     alloc: Global,
     over: &Over,
 ) -> Result<(), AllocError> {
     let ended = run_over(rt, alloc, over)?;
-    look_at(rt, alloc, &ended, over.status, over.output)
+    look_at(seen, alloc, &ended, over.status, over.output)
 }
 
 /// How many calls of the first disk the opening of empty disks makes.
-pub fn opening_calls<T: Threads + Wait + Sync + Abort>(
+pub fn opening_calls<T: Threads + Wait + Sync, J: Asserts>(
     rt: &T,
+    seen: &J,
     alloc: Global,
 ) -> Result<u64, AllocError> {
     let idle = play(rt, alloc, SESSION, fresh_disks(alloc)?, "")?;
-    assert_eq!(rt; idle.status, Status::Done);
+    seen.same(&idle.status, &Status::Done);
     Ok(idle.disks.first.calls())
 }
 
 /// Runs a session that makes K1 active over a disk that fails at this call, and compares what it came to.
-pub fn fail_at<T: Threads + Wait + Sync + Abort>(
+pub fn fail_at<T: Threads + Wait + Sync, J: Asserts>(
     rt: &T,
+    seen: &J,
     alloc: Global,
     call: u64,
     output: &str,
@@ -180,5 +185,5 @@ pub fn fail_at<T: Threads + Wait + Sync + Abort>(
     let failing = vec![in alloc; call]?;
     let disks = disks_of(alloc, Vec::new(alloc), failing)?;
     let ended = play(rt, alloc, SESSION, disks, ACTIVATE)?;
-    look_at(rt, alloc, &ended, Status::DiskFault, output)
+    look_at(seen, alloc, &ended, Status::DiskFault, output)
 }

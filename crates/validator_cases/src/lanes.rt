@@ -1,9 +1,9 @@
 //! What lanes leave.
 use crate::runs::{Run, outside_of, serve, words_of};
 use crate::starts::{ACTIVATE_BOTH, OF_G0, ONE_SLOT};
+use assertions::Asserts;
 use run_doubles::{ChainNode, Due, K1, K2, KeepingSigner, Said};
 use std::alloc::{AllocError, Global};
-use std::process::Abort;
 use std::sync::Wait;
 use std::test::Fail;
 use std::thread::Threads;
@@ -76,8 +76,9 @@ fn keeping_signer(alloc: Global) -> KeepingSigner {
 }
 
 /// Carries out the run with these options, and compares what each lane left.
-pub fn look_at_lanes<T: Threads + Wait + Sync + Abort>(
+pub fn look_at_lanes<T: Threads + Wait + Sync, J: Asserts>(
     rt: &T,
+    seen: &J,
     alloc: Global,
     options: &str,
     wanted: &[Left],
@@ -86,6 +87,6 @@ pub fn look_at_lanes<T: Threads + Wait + Sync + Abort>(
     let outside = outside_of(rt, alloc, TWO_VOTES, keeping_signer(alloc))?;
     let served = serve(rt, alloc, words.as_slice(), outside);
     let left = left_in_each(alloc, served.lanes)?;
-    assert_eq!(rt; left.as_slice(), wanted, "{options}");
+    seen.same_at(&left.as_slice(), &wanted, format_args!("{options}"));
     Ok(())
 }

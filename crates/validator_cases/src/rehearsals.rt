@@ -1,9 +1,9 @@
 //! Rehearsals: what is counted in a run that is drawn from a number.
 use crate::journals::look_at;
+use assertions::Asserts;
 use run_doubles::{Ended, Faults, fresh_disks, play, ready_signer, run};
 use signer_link::MemSigner;
 use std::alloc::{AllocError, Global};
-use std::process::Abort;
 use std::sync::Wait;
 use std::thread::Threads;
 use validator_cli::Status;
@@ -32,14 +32,15 @@ pub const LARGEST: (&str, &str) = (
 );
 
 /// Rehearses, and compares what is written.
-pub fn rehearse<T: Threads + Wait + Sync + Abort>(
+pub fn rehearse<T: Threads + Wait + Sync, J: Asserts>(
     rt: &T,
+    seen: &J,
     alloc: Global,
     words: &str,
     wanted: &str,
 ) -> Result<(), AllocError> {
     let ended = play(rt, alloc, words, fresh_disks(alloc)?, "")?;
-    look_at(rt, alloc, &ended, Status::Done, wanted)
+    look_at(seen, alloc, &ended, Status::Done, wanted)
 }
 
 /// Faults of the first read, and an output with room for twenty bytes.

@@ -1,4 +1,5 @@
 //! Runs of the validator client over objects in memory, and what is expected of them.
+use assertions::Asserts;
 use edge_clock::MemClock;
 use edge_kit::{Disks, Door, Link, MemDisk, MemDoor, MemLink, MemSink, MemSource};
 use node_calls::Node;
@@ -7,7 +8,6 @@ use run_doubles::{
 };
 use signer_link::Signer;
 use std::alloc::{AllocError, Global};
-use std::process::Abort;
 use std::sync::Wait;
 use std::test::Fail;
 use std::thread::Threads;
@@ -190,42 +190,48 @@ fn has_sent(alloc: Global, door: MemDoor, replies: &[&str]) -> Result<bool, Allo
 }
 
 /// Compares what a run left with what is expected of it.
-pub fn compare<T: Abort, S: Drop, N: Drop>(
-    rt: &T,
+pub fn compare<T: Asserts, S: Drop, N: Drop>(
+    seen: &T,
     alloc: Global,
     run: &Run,
     served: Served<S, N, MemDoor>,
 ) -> Result<(), Fail> {
     let shows = run.shows;
     let is_written = is_text(alloc, served.output.as_slice(), run.output)?;
-    assert!(rt; is_written, "{shows}");
-    assert_eq!(rt; served.status, run.status, "{shows}");
-    assert_eq!(rt; is_opened(&served.disks), run.is_opened, "{shows}");
+    seen.holds_at(is_written, format_args!("{shows}"));
+    seen.same_at(&served.status, &run.status, format_args!("{shows}"));
+    seen.same_at(
+        &is_opened(&served.disks),
+        &run.is_opened,
+        format_args!("{shows}"),
+    );
     let is_sent = has_sent(alloc, served.door, run.sent)?;
-    assert!(rt; is_sent, "{shows}");
+    seen.holds_at(is_sent, format_args!("{shows}"));
     Ok(())
 }
 
 /// Carries out a run, and compares what it left.
-fn look_at_one<T: Threads + Wait + Sync + Abort>(
+fn look_at_one<T: Threads + Wait + Sync, J: Asserts>(
     rt: &T,
+    seen: &J,
     alloc: Global,
     run: &Run,
 ) -> Result<(), Fail> {
     let words = words_of(alloc, run.options)?;
     let outside = outside_of(rt, alloc, run, ready_signer(alloc))?;
     let served = serve(rt, alloc, words.as_slice(), outside);
-    compare(rt, alloc, run, served)
+    compare(seen, alloc, run, served)
 }
 
 /// Carries out each run, and compares what it left.
-pub fn look_at<T: Threads + Wait + Sync + Abort>(
+pub fn look_at<T: Threads + Wait + Sync, J: Asserts>(
     rt: &T,
+    seen: &J,
     alloc: Global,
     runs: &[Run],
 ) -> Result<(), Fail> {
     for run in runs {
-        look_at_one(rt, alloc, run)?;
+        look_at_one(rt, seen, alloc, run)?;
     }
     Ok(())
 }

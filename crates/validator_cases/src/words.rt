@@ -1,8 +1,8 @@
 //! Words of the command line, and what the program says of them.
+use assertions::Asserts;
 use run_doubles::{Ended, Faults, fresh_disks, ready_signer, run};
 use signer_link::MemSigner;
 use std::alloc::{AllocError, Global};
-use std::process::Abort;
 use std::sync::Wait;
 use std::thread::Threads;
 use validator_cli::Status;
@@ -60,28 +60,32 @@ pub const FAULTY: &[(&str, &str)] = &[
 ];
 
 /// Compares a status with that of faulty words.
-fn look_at_usage<T: Abort>(rt: &T, status: Status, told: &str) {
-    assert_eq!(rt; status, Status::Usage, "{told}");
-    assert_eq!(rt; status.code(), 2, "{told}");
+fn look_at_usage<T: Asserts>(seen: &T, status: Status, told: &str) {
+    seen.same_at(&status, &Status::Usage, format_args!("{told}"));
+    seen.same_at(&status.code(), &2, format_args!("{told}"));
 }
 
 /// Looks whether an output is one line that begins so.
-fn look_at_line<T: Abort>(rt: &T, output: &[u8], begins: &str) {
-    assert!(rt; output.starts_with(begins.as_bytes()), "{begins}");
-    assert!(rt; is_one_line(output), "{begins}");
+fn look_at_line<T: Asserts>(seen: &T, output: &[u8], begins: &str) {
+    seen.holds_at(
+        output.starts_with(begins.as_bytes()),
+        format_args!("{begins}"),
+    );
+    seen.holds_at(is_one_line(output), format_args!("{begins}"));
 }
 
 /// Runs words that are no command, and looks at what is told of them.
-pub fn run_faulty<T: Threads + Wait + Sync + Abort>(
+pub fn run_faulty<T: Threads + Wait + Sync, J: Asserts>(
     rt: &T,
+    seen: &J,
     alloc: Global,
     words: &str,
     told: &str,
 ) -> Result<(), AllocError> {
     let ended = run_words(rt, alloc, words)?;
     let begins = format!(in alloc; "validator: error: {told}")?;
-    look_at_usage(rt, ended.status, told);
-    look_at_line(rt, ended.output.as_slice(), begins.as_str());
+    look_at_usage(seen, ended.status, told);
+    look_at_line(seen, ended.output.as_slice(), begins.as_str());
     Ok(())
 }
 
@@ -109,15 +113,19 @@ const SESSION_HELP: &str =
     "Answers signing requests, one JSON object a line, from standard input\n\nUsage: validator session";
 
 /// Runs words that ask for a text, and looks at it.
-pub fn run_shown<T: Threads + Wait + Sync + Abort>(
+pub fn run_shown<T: Threads + Wait + Sync, J: Asserts>(
     rt: &T,
+    seen: &J,
     alloc: Global,
     words: &str,
     begins: &str,
 ) -> Result<(), AllocError> {
     let ended = run_words(rt, alloc, words)?;
-    assert_eq!(rt; ended.status, Status::Done, "{begins}");
-    assert!(rt; ended.output.starts_with(begins.as_bytes()), "{begins}");
-    assert!(rt; ended.events.is_empty(), "{begins}");
+    seen.same_at(&ended.status, &Status::Done, format_args!("{begins}"));
+    seen.holds_at(
+        ended.output.starts_with(begins.as_bytes()),
+        format_args!("{begins}"),
+    );
+    seen.holds_at(ended.events.is_empty(), format_args!("{begins}"));
     Ok(())
 }

@@ -5,6 +5,8 @@
 #[cfg(test)]
 mod apis;
 #[cfg(test)]
+mod asserting;
+#[cfg(test)]
 mod clients;
 #[cfg(test)]
 mod desks;

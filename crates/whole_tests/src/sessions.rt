@@ -1,3 +1,4 @@
+use crate::asserting::Asserting;
 use edge_kit::Root;
 use phase0_types::{AttestationData, BeaconBlockHeader, Checkpoint};
 use run_doubles::{SESSION, Session, disks_of, filled, fresh_disks, no_faults, ready_signer};
@@ -10,8 +11,16 @@ use web3_signer::Web3Signer;
 
 #[test]
 fn a_session_compacts_its_journal(rt: HostRuntime) -> Result<(), Fail> {
+    let seen = Asserting(&rt);
     let alloc = rt.alloc();
-    sessions::play_script(&rt, alloc, SESSION, compactions::TWICE, fresh_disks(alloc)?)?;
+    sessions::play_script(
+        &rt,
+        &seen,
+        alloc,
+        SESSION,
+        compactions::TWICE,
+        fresh_disks(alloc)?,
+    )?;
     Ok(())
 }
 
@@ -19,16 +28,18 @@ fn a_session_compacts_its_journal(rt: HostRuntime) -> Result<(), Fail> {
 fn a_journal_compacted_after_each_line_answers_as_one_that_is_not(
     rt: HostRuntime,
 ) -> Result<(), Fail> {
-    compactions::play_each_compacting(&rt, rt.alloc(), SIGNING)?;
-    compactions::play_each_compacting(&rt, rt.alloc(), FILES)?;
+    let seen = Asserting(&rt);
+    compactions::play_each_compacting(&rt, &seen, rt.alloc(), SIGNING)?;
+    compactions::play_each_compacting(&rt, &seen, rt.alloc(), FILES)?;
     Ok(())
 }
 
 #[test]
 fn behind_the_last_generation_there_is_none(rt: HostRuntime) -> Result<(), Fail> {
+    let seen = Asserting(&rt);
     let alloc = rt.alloc();
     let disks = disks_of(alloc, compactions::last_file(alloc)?, Vec::new(alloc))?;
-    sessions::play_script(&rt, alloc, SESSION, compactions::LAST, disks)?;
+    sessions::play_script(&rt, &seen, alloc, SESSION, compactions::LAST, disks)?;
     Ok(())
 }
 
@@ -37,17 +48,19 @@ fn behind_the_last_generation_there_is_none(rt: HostRuntime) -> Result<(), Fail>
 /// noted.
 #[test]
 fn a_fault_of_the_other_disk_is_told_and_nothing_is_lost(rt: HostRuntime) -> Result<(), Fail> {
+    let seen = Asserting(&rt);
     let alloc = rt.alloc();
     for failing in 3..13u64 {
-        let disks = compactions::fail_at(&rt, alloc, failing)?;
-        compactions::go_on(&rt, alloc, failing, disks)?;
+        let disks = compactions::fail_at(&rt, &seen, alloc, failing)?;
+        compactions::go_on(&rt, &seen, alloc, failing, disks)?;
     }
     Ok(())
 }
 
 #[test]
 fn sessions_with_custody_of_keys_answer_line_by_line(rt: HostRuntime) -> Result<(), Fail> {
-    sessions::play_each(&rt, rt.alloc(), SESSION, CUSTODY)?;
+    let seen = Asserting(&rt);
+    sessions::play_each(&rt, &seen, rt.alloc(), SESSION, CUSTODY)?;
     Ok(())
 }
 
@@ -55,16 +68,18 @@ fn sessions_with_custody_of_keys_answer_line_by_line(rt: HostRuntime) -> Result<
 fn a_session_that_is_stopped_between_requests_and_begun_again_answers_as_one(
     rt: HostRuntime,
 ) -> Result<(), Fail> {
+    let seen = Asserting(&rt);
     for (script, requests) in custody::CUT {
-        custody::play_stopped(&rt, rt.alloc(), script, *requests)?;
+        custody::play_stopped(&rt, &seen, rt.alloc(), script, *requests)?;
     }
     Ok(())
 }
 
 #[test]
 fn a_key_fails_where_the_signer_fails_and_goes_on_from_there(rt: HostRuntime) -> Result<(), Fail> {
+    let seen = Asserting(&rt);
     for row in custody::SIGNED {
-        custody::play_row(&rt, rt.alloc(), row)?;
+        custody::play_row(&rt, &seen, rt.alloc(), row)?;
     }
     Ok(())
 }
@@ -73,35 +88,39 @@ fn a_key_fails_where_the_signer_fails_and_goes_on_from_there(rt: HostRuntime) ->
 fn a_disk_that_fails_under_keys_ends_the_session_behind_their_answer(
     rt: HostRuntime,
 ) -> Result<(), Fail> {
+    let seen = Asserting(&rt);
     let opening = custody::opening_calls(&rt, rt.alloc())?;
-    custody::fail_disks(&rt, rt.alloc(), opening)?;
+    custody::fail_disks(&rt, &seen, rt.alloc(), opening)?;
     Ok(())
 }
 
 #[test]
 fn faults_end_the_session_with_their_status(rt: HostRuntime) -> Result<(), Fail> {
+    let seen = Asserting(&rt);
     for row in faults::OUTSIDE {
-        faults::fail_so(&rt, rt.alloc(), row)?;
+        faults::fail_so(&rt, &seen, rt.alloc(), row)?;
     }
     Ok(())
 }
 
 #[test]
 fn a_granted_block_that_is_not_signed_is_told_with_its_cause(rt: HostRuntime) -> Result<(), Fail> {
+    let seen = Asserting(&rt);
     for row in faults::UNSIGNED {
-        faults::sign_none(&rt, rt.alloc(), row)?;
+        faults::sign_none(&rt, &seen, rt.alloc(), row)?;
     }
     Ok(())
 }
 
 #[test]
 fn a_line_over_the_limit_ends_the_session(rt: HostRuntime) -> Result<(), Fail> {
+    let seen = Asserting(&rt);
     let alloc = rt.alloc();
     let output = "validator: input too long: limit 16777216\n";
-    faults::read_letters(&rt, alloc, 16_777_217, faults::TOO_LONG, output)?;
+    faults::read_letters(&rt, &seen, alloc, 16_777_217, faults::TOO_LONG, output)?;
     assert_eq!(rt; faults::TOO_LONG.code(), 9);
     let output = "{\"answer\":\"refused\",\"member\":\"line\",\"reason\":\"bad_request\"}\n";
-    faults::read_letters(&rt, alloc, 16_777_216, Status::Done, output)?;
+    faults::read_letters(&rt, &seen, alloc, 16_777_216, Status::Done, output)?;
     Ok(())
 }
 
@@ -109,6 +128,7 @@ fn a_line_over_the_limit_ends_the_session(rt: HostRuntime) -> Result<(), Fail> {
 fn a_header_gives_the_slot_and_the_signing_root_of_its_epochs_version(
     rt: HostRuntime,
 ) -> Result<(), Fail> {
+    let seen = Asserting(&rt);
     let root = "0xe013ae98391e6a0e8af2822339a67613d191f19eea04d8b21cf98055e454b972";
     let object = SignObject::Header(BeaconBlockHeader {
         slot: 5,
@@ -117,7 +137,15 @@ fn a_header_gives_the_slot_and_the_signing_root_of_its_epochs_version(
         state_root: Root([0x22; 32]),
         body_root: Root([0x33; 32]),
     });
-    objects::compare_signed(&rt, rt.alloc(), objects::HEADER, "block 5", root, &object)?;
+    objects::compare_signed(
+        &rt,
+        &seen,
+        rt.alloc(),
+        objects::HEADER,
+        "block 5",
+        root,
+        &object,
+    )?;
     Ok(())
 }
 
@@ -125,6 +153,7 @@ fn a_header_gives_the_slot_and_the_signing_root_of_its_epochs_version(
 fn attestation_data_give_the_epochs_and_the_signing_root_of_the_targets_version(
     rt: HostRuntime,
 ) -> Result<(), Fail> {
+    let seen = Asserting(&rt);
     let root = "0x4fbc00835e976cb4741811aa48cb32980f74381a4760b29498276a753a97c111";
     let object = SignObject::Attestation(AttestationData {
         slot: 331,
@@ -141,6 +170,7 @@ fn attestation_data_give_the_epochs_and_the_signing_root_of_the_targets_version(
     });
     objects::compare_signed(
         &rt,
+        &seen,
         rt.alloc(),
         objects::ATTESTATION,
         "vote 3 12",
@@ -152,6 +182,7 @@ fn attestation_data_give_the_epochs_and_the_signing_root_of_the_targets_version(
 
 #[test]
 fn a_header_without_its_proposer_is_refused_by_that_member(rt: HostRuntime) -> Result<(), Fail> {
+    let seen = Asserting(&rt);
     let alloc = rt.alloc();
     let line = "{\"op\":\"block\",\"pubkey\":\"<K1>\",\"header\":{\"slot\":\"1\"}}\n";
     let output = r#"{"answer":"active"}
@@ -160,14 +191,15 @@ fn a_header_without_its_proposer_is_refused_by_that_member(rt: HostRuntime) -> R
     let ended = objects::run_line(&rt, alloc, line)?;
     assert!(rt; ended.signer.requests.is_empty());
     let events = "0 activated <K1>\n";
-    sessions::look_at(&rt, alloc, &ended, Status::Done, output, events)?;
+    sessions::look_at(&seen, alloc, &ended, Status::Done, output, events)?;
     Ok(())
 }
 
 #[test]
 fn a_service_is_read_by_its_answer(rt: HostRuntime) -> Result<(), Fail> {
+    let seen = Asserting(&rt);
     for said in services::SAID {
-        services::answer_so(&rt, rt.alloc(), said)?;
+        services::answer_so(&rt, &seen, rt.alloc(), said)?;
     }
     Ok(())
 }
@@ -183,42 +215,47 @@ fn a_service_is_sent_the_root_of_the_granted_message(rt: HostRuntime) -> Result<
 
 #[test]
 fn a_service_that_tells_has_told_the_one_call(rt: HostRuntime) -> Result<(), Fail> {
+    let seen = Asserting(&rt);
     let alloc = rt.alloc();
     let service = services::address(alloc)?;
     let link = services::link_to(alloc, &services::SIGNING)?;
     let ended = services::run_over(&rt, alloc, Web3Signer::telling(link, service))?;
     assert_eq!(rt; ended.status, Status::Done);
-    services::look_at_told(&rt, ended.signer.told())
+    services::look_at_told(&seen, ended.signer.told())
 }
 
 #[test]
 fn signing_sessions_answer_line_by_line(rt: HostRuntime) -> Result<(), Fail> {
-    sessions::play_each(&rt, rt.alloc(), SESSION, SIGNING)?;
+    let seen = Asserting(&rt);
+    sessions::play_each(&rt, &seen, rt.alloc(), SESSION, SIGNING)?;
     Ok(())
 }
 
 #[test]
 fn sessions_with_files_answer_line_by_line(rt: HostRuntime) -> Result<(), Fail> {
-    sessions::play_each(&rt, rt.alloc(), SESSION, FILES)?;
+    let seen = Asserting(&rt);
+    sessions::play_each(&rt, &seen, rt.alloc(), SESSION, FILES)?;
     Ok(())
 }
 
 #[test]
 fn two_runs_over_the_same_disks_answer_as_one(rt: HostRuntime) -> Result<(), Fail> {
-    sessions::play_each_in_two(&rt, rt.alloc(), SIGNING)?;
-    sessions::play_each_in_two(&rt, rt.alloc(), FILES)?;
+    let seen = Asserting(&rt);
+    sessions::play_each_in_two(&rt, &seen, rt.alloc(), SIGNING)?;
+    sessions::play_each_in_two(&rt, &seen, rt.alloc(), FILES)?;
     Ok(())
 }
 
 #[test]
 fn a_merge_that_passes_65536_keys_is_refused(rt: HostRuntime) -> Result<(), Fail> {
+    let seen = Asserting(&rt);
     let alloc = rt.alloc();
     let input = sessions::many_keys(alloc)?;
     let (signer, faults) = (ready_signer(alloc), no_faults(alloc));
     let ended = sessions::run_fresh(&rt, alloc, SESSION, input.as_str(), signer, faults)?;
     let events = "0 merged 65536\n0 merged 1\n";
     sessions::look_at(
-        &rt,
+        &seen,
         alloc,
         &ended,
         Status::Done,
@@ -230,7 +267,8 @@ fn a_merge_that_passes_65536_keys_is_refused(rt: HostRuntime) -> Result<(), Fail
 
 #[test]
 fn watched_sessions_answer_line_by_line(rt: HostRuntime) -> Result<(), Fail> {
-    sessions::play_each(&rt, rt.alloc(), watches::WATCHED, WATCHES)?;
+    let seen = Asserting(&rt);
+    sessions::play_each(&rt, &seen, rt.alloc(), watches::WATCHED, WATCHES)?;
     Ok(())
 }
 
@@ -238,10 +276,19 @@ fn watched_sessions_answer_line_by_line(rt: HostRuntime) -> Result<(), Fail> {
 fn without_a_watch_nothing_is_waited_for_and_a_journal_that_is_opened_begins_it_anew(
     rt: HostRuntime,
 ) -> Result<(), Fail> {
+    let seen = Asserting(&rt);
     let alloc = rt.alloc();
     let first = Session::read(alloc, watches::UNWATCHED)?;
     let again = Session::read(alloc, watches::WATCHED_AGAIN)?;
-    let disks = sessions::play_first(&rt, alloc, "without a watch", &first)?;
-    sessions::play_over(&rt, alloc, "a watch anew", watches::WATCHED, disks, &again)?;
+    let disks = sessions::play_first(&rt, &seen, alloc, "without a watch", &first)?;
+    sessions::play_over(
+        &rt,
+        &seen,
+        alloc,
+        "a watch anew",
+        watches::WATCHED,
+        disks,
+        &again,
+    )?;
     Ok(())
 }

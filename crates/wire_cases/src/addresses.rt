@@ -1,7 +1,7 @@
 //! Addresses of services.
+use assertions::Asserts;
 use service_url::ServiceUrl;
 use std::alloc::{AllocError, Global};
-use std::process::Abort;
 
 /// The authority, the path, the host to dial and the port of a service, each behind a space.
 fn parts_of(alloc: Global, service: &ServiceUrl) -> Result<String, AllocError> {
@@ -42,13 +42,13 @@ pub const ADDRESSES: &[(&str, &str)] = &[
 ];
 
 /// Compares the parts of an address with these.
-pub fn look_at<T: Abort>(
-    rt: &T,
+pub fn look_at<T: Asserts>(
+    seen: &T,
     alloc: Global,
     text: &str,
     wanted: &str,
 ) -> Result<(), AllocError> {
     let parts = parts_read(alloc, text)?;
-    assert_eq!(rt; parts.as_str(), wanted);
+    seen.same(&parts.as_str(), &wanted);
     Ok(())
 }

@@ -1,4 +1,5 @@
 //! Web3Signer over a link in memory.
+use assertions::Asserts;
 use edge_kit::{Items, MemLink, PubKey, Root, Sig, hex_text};
 use phase0_blocks::{BeaconBlock, BeaconBlockBody, VoluntaryExit};
 use phase0_types::{BeaconBlockHeader, BoundedList, Eth1Data, Fork};
@@ -8,7 +9,6 @@ use signer_link::{
 };
 use slash_defs::{Granted, Message};
 use std::alloc::{AllocError, Global};
-use std::process::Abort;
 use web3_signer::Web3Signer;
 
 /// Allows one message to be signed by one key.
@@ -58,32 +58,32 @@ fn link(alloc: Global, said: Vec<u8>, failing: &[u64]) -> Result<MemLink, AllocE
     MemLink::new(alloc, conversations, 2000, failing)
 }
 
-fn address(rt: &impl Abort, alloc: Global) -> Result<ServiceUrl, AllocError> {
+fn address(seen: &impl Asserts, alloc: Global) -> Result<ServiceUrl, AllocError> {
     let url = ServiceUrl::read(alloc, "http://signer:9000/base/")?;
-    Ok(url.expect(rt, "no address"))
+    Ok(seen.some(url, "no address"))
 }
 
 /// A Web3Signer that says these bytes, and whose link fails at these calls.
 fn signer(
-    rt: &impl Abort,
+    seen: &impl Asserts,
     alloc: Global,
     said: Vec<u8>,
     failing: &[u64],
 ) -> Result<Web3Signer<MemLink>, AllocError> {
     let link = link(alloc, said, failing)?;
-    let url = address(rt, alloc)?;
+    let url = address(seen, alloc)?;
     Ok(Web3Signer::new(link, url))
 }
 
 /// A Web3Signer that answers with a status and a body.
 fn signer_at(
-    rt: &impl Abort,
+    seen: &impl Asserts,
     alloc: Global,
     status: u16,
     body: &str,
 ) -> Result<Web3Signer<MemLink>, AllocError> {
     let said = response(alloc, status, body)?;
-    signer(rt, alloc, said, &[])
+    signer(seen, alloc, said, &[])
 }
 
 const FORK: Fork = Fork {
@@ -105,13 +105,13 @@ pub fn header() -> SignObject {
     })
 }
 
-fn none<T: Drop, const LIMIT: usize>(rt: &impl Abort, alloc: Global) -> BoundedList<T, LIMIT> {
+fn none<T: Drop, const LIMIT: usize>(seen: &impl Asserts, alloc: Global) -> BoundedList<T, LIMIT> {
     let list = BoundedList::try_new(Vec::new(alloc));
-    list.ok().expect(rt, "no list")
+    seen.some(list.ok(), "no list")
 }
 
 /// The body of a block, with empty lists.
-fn whole_body(rt: &impl Abort, alloc: Global) -> BeaconBlockBody {
+fn whole_body(seen: &impl Asserts, alloc: Global) -> BeaconBlockBody {
     BeaconBlockBody {
         randao_reveal: Sig([7; 96]),
         eth1_data: Eth1Data {
@@ -120,22 +120,22 @@ fn whole_body(rt: &impl Abort, alloc: Global) -> BeaconBlockBody {
             block_hash: Root([10; 32]),
         },
         graffiti: [11; 32],
-        proposer_slashings: none(rt, alloc),
-        attester_slashings: none(rt, alloc),
-        attestations: none(rt, alloc),
-        deposits: none(rt, alloc),
-        voluntary_exits: none(rt, alloc),
+        proposer_slashings: none(seen, alloc),
+        attester_slashings: none(seen, alloc),
+        attestations: none(seen, alloc),
+        deposits: none(seen, alloc),
+        voluntary_exits: none(seen, alloc),
     }
 }
 
 /// A whole block whose lists are empty.
-pub fn whole_block(rt: &impl Abort, alloc: Global) -> SignObject {
+pub fn whole_block(seen: &impl Asserts, alloc: Global) -> SignObject {
     SignObject::Block(BeaconBlock {
         slot: 9,
         proposer_index: 5,
         parent_root: Root([4; 32]),
         state_root: Root([5; 32]),
-        body: whole_body(rt, alloc),
+        body: whole_body(seen, alloc),
     })
 }
 
@@ -172,32 +172,32 @@ fn signed(alloc: Global, signer: &mut Web3Signer<MemLink>) -> Result<String, All
 }
 
 /// Compares a text with the one that is wanted.
-fn compare(rt: &impl Abort, found: &str, wanted: &str) {
-    assert_eq!(rt; found, wanted);
+fn compare(seen: &impl Asserts, found: &str, wanted: &str) {
+    seen.same(&found, &wanted);
 }
 
 /// Compares what `sign` answers for a block.
 fn compare_signed(
-    rt: &impl Abort,
+    seen: &impl Asserts,
     alloc: Global,
     signer: &mut Web3Signer<MemLink>,
     words: &str,
 ) -> Result<(), AllocError> {
     let found = signed(alloc, signer)?;
-    compare(rt, found.as_str(), words);
+    compare(seen, found.as_str(), words);
     Ok(())
 }
 
 /// Compares what `sign` answers to a status and a body.
 pub fn compare_at(
-    rt: &impl Abort,
+    seen: &impl Asserts,
     alloc: Global,
     status: u16,
     body: &str,
     words: &str,
 ) -> Result<(), AllocError> {
-    let mut signer = signer_at(rt, alloc, status, body)?;
-    compare_signed(rt, alloc, &mut signer, words)
+    let mut signer = signer_at(seen, alloc, status, body)?;
+    compare_signed(seen, alloc, &mut signer, words)
 }
 
 /// Bytes in hex between two texts.
@@ -280,40 +280,40 @@ fn text_of(alloc: Global, wrapped: &Wrapped) -> Result<String, AllocError> {
 }
 
 /// Compares the answer of a row.
-pub fn compare_row(rt: &impl Abort, alloc: Global, row: &AnswerRow) -> Result<(), AllocError> {
+pub fn compare_row(seen: &impl Asserts, alloc: Global, row: &AnswerRow) -> Result<(), AllocError> {
     let body = text_of(alloc, &row.body)?;
-    compare_at(rt, alloc, row.status, body.as_str(), row.words)
+    compare_at(seen, alloc, row.status, body.as_str(), row.words)
 }
 
 /// A body is a bad answer.
-pub fn compare_bad(rt: &impl Abort, alloc: Global, body: &str) -> Result<(), AllocError> {
+pub fn compare_bad(seen: &impl Asserts, alloc: Global, body: &str) -> Result<(), AllocError> {
     let words = format!(in alloc; "bad {body}")?;
-    compare_at(rt, alloc, 200, body, words.as_str())
+    compare_at(seen, alloc, 200, body, words.as_str())
 }
 
 /// So is one with bytes in hex.
 pub fn compare_wrapped(
-    rt: &impl Abort,
+    seen: &impl Asserts,
     alloc: Global,
     wrapped: &Wrapped,
 ) -> Result<(), AllocError> {
     let body = text_of(alloc, wrapped)?;
-    compare_bad(rt, alloc, body.as_str())
+    compare_bad(seen, alloc, body.as_str())
 }
 
 /// Compares what `sign` answers to an answer that is cut off.
-pub fn compare_short(rt: &impl Abort, alloc: Global) -> Result<(), AllocError> {
+pub fn compare_short(seen: &impl Asserts, alloc: Global) -> Result<(), AllocError> {
     let said = Vec::from_slice(alloc, b"HTTP/1.1 200 X\r\nContent-Length: 9\r\n\r\nshort")?;
-    let mut signer = signer(rt, alloc, said, &[])?;
-    compare_signed(rt, alloc, &mut signer, "bad ")
+    let mut signer = signer(seen, alloc, said, &[])?;
+    compare_signed(seen, alloc, &mut signer, "bad ")
 }
 
 /// Compares what `sign` answers where the link fails at this call.
-pub fn compare_failing(rt: &impl Abort, alloc: Global, number: u64) -> Result<(), AllocError> {
+pub fn compare_failing(seen: &impl Asserts, alloc: Global, number: u64) -> Result<(), AllocError> {
     let said = response(alloc, 200, "x")?;
-    let mut signer = signer(rt, alloc, said, &[number])?;
+    let mut signer = signer(seen, alloc, said, &[number])?;
     let wanted = if number == 42 { "bad x" } else { "fault" };
-    compare_signed(rt, alloc, &mut signer, wanted)
+    compare_signed(seen, alloc, &mut signer, wanted)
 }
 
 fn import_words(alloc: Global, reply: &ImportReply) -> Result<String, AllocError> {
@@ -424,41 +424,41 @@ pub const KEYS: &[KeyRow] = &[
 
 /// Compares what `import` answers to a body.
 fn compare_imported(
-    rt: &impl Abort,
+    seen: &impl Asserts,
     alloc: Global,
     row: &KeyRow,
     body: &str,
 ) -> Result<(), AllocError> {
-    let mut signer = signer_at(rt, alloc, row.status, body)?;
+    let mut signer = signer_at(seen, alloc, row.status, body)?;
     let found = imported(alloc, &mut signer)?;
-    compare(rt, found.as_str(), row.imported);
+    compare(seen, found.as_str(), row.imported);
     Ok(())
 }
 
 /// Compares what `delete` answers, likewise.
 fn compare_deleted(
-    rt: &impl Abort,
+    seen: &impl Asserts,
     alloc: Global,
     row: &KeyRow,
     body: &str,
 ) -> Result<(), AllocError> {
-    let mut signer = signer_at(rt, alloc, row.status, body)?;
+    let mut signer = signer_at(seen, alloc, row.status, body)?;
     let found = deleted(alloc, &mut signer)?;
-    compare(rt, found.as_str(), row.deleted);
+    compare(seen, found.as_str(), row.deleted);
     Ok(())
 }
 
 /// Compares what `import` and `delete` answer to what is said of the one key.
-pub fn compare_key(rt: &impl Abort, alloc: Global, row: &KeyRow) -> Result<(), AllocError> {
+pub fn compare_key(seen: &impl Asserts, alloc: Global, row: &KeyRow) -> Result<(), AllocError> {
     let listed = row.listed;
     let body = format!(in alloc; "{{\"data\":[{listed}]}}")?;
-    compare_imported(rt, alloc, row, body.as_str())?;
-    compare_deleted(rt, alloc, row, body.as_str())
+    compare_imported(seen, alloc, row, body.as_str())?;
+    compare_deleted(seen, alloc, row, body.as_str())
 }
 
 /// A Web3Signer that says nothing.
-fn silent(rt: &impl Abort, alloc: Global) -> Result<Web3Signer<MemLink>, AllocError> {
-    signer(rt, alloc, Vec::new(alloc), &[])
+fn silent(seen: &impl Asserts, alloc: Global) -> Result<Web3Signer<MemLink>, AllocError> {
+    signer(seen, alloc, Vec::new(alloc), &[])
 }
 
 /// What a signer sent.
@@ -490,8 +490,8 @@ const BLOCK: &str =
     r#","signingRoot":"0x0202020202020202020202020202020202020202020202020202020202020202","type":"BLOCK_V2"}"#;
 
 /// What is sent to ask for a block that was made of this.
-fn asked(rt: &impl Abort, alloc: Global, object: SignObject) -> Result<String, AllocError> {
-    let mut signer = silent(rt, alloc)?;
+fn asked(seen: &impl Asserts, alloc: Global, object: SignObject) -> Result<String, AllocError> {
+    let mut signer = silent(seen, alloc)?;
     let _ = sign(&mut signer, object);
     sent(alloc, signer)
 }
@@ -503,15 +503,15 @@ fn block_wanted(alloc: Global, len: u16, front: &str) -> Result<String, AllocErr
 
 /// Compares both.
 pub fn compare_asked(
-    rt: &impl Abort,
+    seen: &impl Asserts,
     alloc: Global,
     object: SignObject,
     len: u16,
     front: &str,
 ) -> Result<(), AllocError> {
-    let found = asked(rt, alloc, object)?;
+    let found = asked(seen, alloc, object)?;
     let wanted = block_wanted(alloc, len, front)?;
-    compare(rt, found.as_str(), wanted.as_str());
+    compare(seen, found.as_str(), wanted.as_str());
     Ok(())
 }
 
@@ -551,11 +551,11 @@ pub const PLAIN: &[PlainRow] = &[
 
 /// What is sent to ask for such an object.
 fn plainly_asked(
-    rt: &impl Abort,
+    seen: &impl Asserts,
     alloc: Global,
     object: PlainObject,
 ) -> Result<String, AllocError> {
-    let mut signer = silent(rt, alloc)?;
+    let mut signer = silent(seen, alloc)?;
     let request = PlainRequest {
         fork: FORK,
         genesis: GENESIS,
@@ -572,10 +572,10 @@ fn plain_wanted(alloc: Global, row: &PlainRow) -> Result<String, AllocError> {
 }
 
 /// Compares both.
-pub fn compare_plain(rt: &impl Abort, alloc: Global, row: &PlainRow) -> Result<(), AllocError> {
-    let found = plainly_asked(rt, alloc, row.object)?;
+pub fn compare_plain(seen: &impl Asserts, alloc: Global, row: &PlainRow) -> Result<(), AllocError> {
+    let found = plainly_asked(seen, alloc, row.object)?;
     let wanted = plain_wanted(alloc, row)?;
-    compare(rt, found.as_str(), wanted.as_str());
+    compare(seen, found.as_str(), wanted.as_str());
     Ok(())
 }
 
@@ -586,8 +586,8 @@ const OUT: &str =
     r#"{"pubkeys":["0x010101010101010101010101010101010101010101010101010101010101010101010101010101010101010101010101"]}"#;
 
 /// What is sent where a key goes in and out.
-fn in_and_out(rt: &impl Abort, alloc: Global) -> Result<String, AllocError> {
-    let mut signer = silent(rt, alloc)?;
+fn in_and_out(seen: &impl Asserts, alloc: Global) -> Result<String, AllocError> {
+    let mut signer = silent(seen, alloc)?;
     let _ = signer.import(&KEY, "{\"version\":4}", "word");
     let _ = signer.delete(&KEY);
     sent(alloc, signer)
@@ -601,26 +601,26 @@ fn in_and_out_wanted(alloc: Global) -> Result<String, AllocError> {
 }
 
 /// Compares both.
-pub fn compare_in_and_out(rt: &impl Abort, alloc: Global) -> Result<(), AllocError> {
-    let found = in_and_out(rt, alloc)?;
+pub fn compare_in_and_out(seen: &impl Asserts, alloc: Global) -> Result<(), AllocError> {
+    let found = in_and_out(seen, alloc)?;
     let wanted = in_and_out_wanted(alloc)?;
-    compare(rt, found.as_str(), wanted.as_str());
+    compare(seen, found.as_str(), wanted.as_str());
     Ok(())
 }
 
 /// Compares what a signer's twin answers for a block that is denied.
 fn compare_twin(
-    rt: &impl Abort,
+    seen: &impl Asserts,
     alloc: Global,
     first: &Web3Signer<MemLink>,
 ) -> Result<(), AllocError> {
     let mut twin = first.twin(alloc)?;
-    compare_signed(rt, alloc, &mut twin, "denied 412")
+    compare_signed(seen, alloc, &mut twin, "denied 412")
 }
 
 /// Compares what a signer and its twin answer for it.
-pub fn compare_both(rt: &impl Abort, alloc: Global) -> Result<(), AllocError> {
-    let mut first = signer_at(rt, alloc, 412, "")?;
-    compare_twin(rt, alloc, &first)?;
-    compare_signed(rt, alloc, &mut first, "denied 412")
+pub fn compare_both(seen: &impl Asserts, alloc: Global) -> Result<(), AllocError> {
+    let mut first = signer_at(seen, alloc, 412, "")?;
+    compare_twin(seen, alloc, &first)?;
+    compare_signed(seen, alloc, &mut first, "denied 412")
 }

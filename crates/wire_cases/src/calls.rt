@@ -1,12 +1,12 @@
 //! Calls over a link in memory.
 use crate::links::{look_at_sent, saying};
+use assertions::Asserts;
 use edge_kit::MemLink;
 use http::Method;
 use http_call::call;
 use http_wire::{Response, WireFault};
 use service_url::ServiceUrl;
 use std::alloc::{AllocError, Global};
-use std::process::Abort;
 use std::test::Fail;
 
 /// The service that is called.
@@ -56,22 +56,22 @@ pub const ANSWERS: &[(&str, &str)] = &[
 ];
 
 /// Compares what a call over a link answers with these words.
-fn look_at_call<T: Abort>(
-    rt: &T,
+fn look_at_call<T: Asserts>(
+    seen: &T,
     alloc: Global,
     link: &mut MemLink,
     words: &str,
 ) -> Result<(), Fail> {
     let answer = call_over(alloc, link)?;
-    assert_eq!(rt; answer.as_str(), words);
+    seen.same(&answer.as_str(), &words);
     Ok(())
 }
 
 /// Calls a peer that says this.
-pub fn call_peer<T: Abort>(rt: &T, alloc: Global, said: &str, words: &str) -> Result<(), Fail> {
+pub fn call_peer<T: Asserts>(seen: &T, alloc: Global, said: &str, words: &str) -> Result<(), Fail> {
     let mut link = saying(alloc, said.as_bytes(), &[])?;
-    look_at_call(rt, alloc, &mut link, words)?;
-    Ok(look_at_sent(rt, alloc, link, SENT)?)
+    look_at_call(seen, alloc, &mut link, words)?;
+    Ok(look_at_sent(seen, alloc, link, SENT)?)
 }
 
 /// Which call of the link hangs up.
@@ -89,7 +89,12 @@ pub const FAULTS: &[(u64, &str)] = &[
 ];
 
 /// Calls over a link whose call of this number fails.
-pub fn call_failing<T: Abort>(rt: &T, alloc: Global, number: u64, words: &str) -> Result<(), Fail> {
+pub fn call_failing<T: Asserts>(
+    seen: &T,
+    alloc: Global,
+    number: u64,
+    words: &str,
+) -> Result<(), Fail> {
     let mut link = saying(alloc, SAID.as_bytes(), &[number])?;
-    look_at_call(rt, alloc, &mut link, words)
+    look_at_call(seen, alloc, &mut link, words)
 }

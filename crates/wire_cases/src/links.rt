@@ -1,7 +1,7 @@
 //! Links in memory, and what is sent over them.
+use assertions::Asserts;
 use edge_kit::MemLink;
 use std::alloc::{AllocError, Global};
-use std::process::Abort;
 
 /// A link whose peer says these bytes, and whose calls of these numbers fail.
 pub fn saying(alloc: Global, bytes: &[u8], failing: &[u64]) -> Result<MemLink, AllocError> {
@@ -12,14 +12,14 @@ pub fn saying(alloc: Global, bytes: &[u8], failing: &[u64]) -> Result<MemLink, A
 }
 
 /// Compares what was sent over a link with this.
-pub fn look_at_sent<T: Abort>(
-    rt: &T,
+pub fn look_at_sent<T: Asserts>(
+    seen: &T,
     alloc: Global,
     link: MemLink,
     wanted: &str,
 ) -> Result<(), AllocError> {
     let bytes = link.into_sent();
     let sent = String::from_utf8_lossy(alloc, bytes.as_slice())?;
-    assert_eq!(rt; sent.as_str(), wanted);
+    seen.same(&sent.as_str(), &wanted);
     Ok(())
 }

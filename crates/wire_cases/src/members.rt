@@ -1,7 +1,7 @@
 //! Members of objects.
+use assertions::Asserts;
 use json_members::{bytes_in, flag_in, items_in, json_of, number_in, text_in};
 use std::alloc::{AllocError, Global};
-use std::process::Abort;
 use std::test::Fail;
 
 /// An object with a member of each kind.
@@ -9,8 +9,8 @@ pub const TEXT: &[u8] =
     br#"{"a":"x","n":"012","m":"18446744073709551616","h":"0x0aFF","t":true,"l":[1,[2]],"a":"y"}"#;
 
 /// Compares a member that is read as a text with this.
-fn look_at_text<T: Abort>(
-    rt: &T,
+fn look_at_text<T: Asserts>(
+    seen: &T,
     alloc: Global,
     name: &str,
     wanted: Option<&str>,
@@ -18,13 +18,13 @@ fn look_at_text<T: Abort>(
     let Some(value) = json_of(alloc, TEXT)? else {
         return Err(Fail::new("no JSON"));
     };
-    assert_eq!(rt; text_in(&value, name), wanted);
+    seen.same(&text_in(&value, name), &wanted);
     Ok(())
 }
 
 /// Compares a member that is read as a number with this.
-fn look_at_number<T: Abort>(
-    rt: &T,
+fn look_at_number<T: Asserts>(
+    seen: &T,
     alloc: Global,
     name: &str,
     wanted: Option<u64>,
@@ -32,13 +32,13 @@ fn look_at_number<T: Abort>(
     let Some(value) = json_of(alloc, TEXT)? else {
         return Err(Fail::new("no JSON"));
     };
-    assert_eq!(rt; number_in(&value, name), wanted);
+    seen.same(&number_in(&value, name), &wanted);
     Ok(())
 }
 
 /// Compares a member that is read as bytes with these.
-fn look_at_bytes<T: Abort, const N: usize>(
-    rt: &T,
+fn look_at_bytes<T: Asserts, const N: usize>(
+    seen: &T,
     alloc: Global,
     name: &str,
     wanted: Option<[u8; N]>,
@@ -46,13 +46,13 @@ fn look_at_bytes<T: Abort, const N: usize>(
     let Some(value) = json_of(alloc, TEXT)? else {
         return Err(Fail::new("no JSON"));
     };
-    assert_eq!(rt; bytes_in::<N>(&value, name), wanted);
+    seen.same(&bytes_in::<N>(&value, name), &wanted);
     Ok(())
 }
 
 /// Compares a member that is read as a flag with this.
-fn look_at_flag<T: Abort>(
-    rt: &T,
+fn look_at_flag<T: Asserts>(
+    seen: &T,
     alloc: Global,
     name: &str,
     wanted: Option<bool>,
@@ -60,13 +60,13 @@ fn look_at_flag<T: Abort>(
     let Some(value) = json_of(alloc, TEXT)? else {
         return Err(Fail::new("no JSON"));
     };
-    assert_eq!(rt; flag_in(&value, name), wanted);
+    seen.same(&flag_in(&value, name), &wanted);
     Ok(())
 }
 
 /// Compares the count of elements of a member that is read as an array with this.
-fn look_at_count<T: Abort>(
-    rt: &T,
+fn look_at_count<T: Asserts>(
+    seen: &T,
     alloc: Global,
     name: &str,
     wanted: Option<usize>,
@@ -74,26 +74,26 @@ fn look_at_count<T: Abort>(
     let Some(value) = json_of(alloc, TEXT)? else {
         return Err(Fail::new("no JSON"));
     };
-    assert_eq!(rt; items_in(&value, name).map(<[_]>::len), wanted);
+    seen.same(&items_in(&value, name).map(<[_]>::len), &wanted);
     Ok(())
 }
 
 /// Compares members that are read as texts and as numbers.
-pub fn look_at_texts_and_numbers<T: Abort>(rt: &T, alloc: Global) -> Result<(), Fail> {
-    look_at_text(rt, alloc, "a", Some("y"))?;
-    look_at_text(rt, alloc, "t", None)?;
-    look_at_number(rt, alloc, "n", Some(12))?;
-    look_at_number(rt, alloc, "m", None)
+pub fn look_at_texts_and_numbers<T: Asserts>(seen: &T, alloc: Global) -> Result<(), Fail> {
+    look_at_text(seen, alloc, "a", Some("y"))?;
+    look_at_text(seen, alloc, "t", None)?;
+    look_at_number(seen, alloc, "n", Some(12))?;
+    look_at_number(seen, alloc, "m", None)
 }
 
 /// Compares members that are read as bytes, flags and arrays.
-pub fn look_at_others<T: Abort>(rt: &T, alloc: Global) -> Result<(), Fail> {
-    look_at_bytes::<T, 2>(rt, alloc, "h", Some([10, 255]))?;
-    look_at_bytes::<T, 3>(rt, alloc, "h", None)?;
-    look_at_flag(rt, alloc, "t", Some(true))?;
-    look_at_flag(rt, alloc, "a", None)?;
-    look_at_count(rt, alloc, "l", Some(2))?;
-    look_at_count(rt, alloc, "z", None)
+pub fn look_at_others<T: Asserts>(seen: &T, alloc: Global) -> Result<(), Fail> {
+    look_at_bytes::<T, 2>(seen, alloc, "h", Some([10, 255]))?;
+    look_at_bytes::<T, 3>(seen, alloc, "h", None)?;
+    look_at_flag(seen, alloc, "t", Some(true))?;
+    look_at_flag(seen, alloc, "a", None)?;
+    look_at_count(seen, alloc, "l", Some(2))?;
+    look_at_count(seen, alloc, "z", None)
 }
 
 /// Whether bytes are JSON.

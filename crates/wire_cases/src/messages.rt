@@ -2,13 +2,13 @@
 ghost use Rattle.std.specs.Prelude.{None};
 
 use crate::links::saying;
+use assertions::Asserts;
 use edge_kit::{Failed, Link, MemLink};
 use http::Method;
 use http_wire::{
     Field, Request, Response, WireFault, read_request, read_response, write_request, write_response,
 };
 use std::alloc::{AllocError, Global};
-use std::process::Abort;
 
 /// How what a peer says is cut into pieces.
 #[derive(Clone, Copy)]
@@ -170,8 +170,8 @@ pub const CHUNKED: &[(&str, &str)] = &[
 ];
 
 /// Reads the request of a head and of what follows, however it is cut.
-pub fn look_at_request<T: Abort>(
-    rt: &T,
+pub fn look_at_request<T: Asserts>(
+    seen: &T,
     alloc: Global,
     head: &str,
     rest: &str,
@@ -179,7 +179,7 @@ pub fn look_at_request<T: Abort>(
 ) -> Result<(), AllocError> {
     let text = format!(in alloc; "{head}{rest}")?;
     let is_same = is_request(alloc, text.as_bytes(), wanted)?;
-    assert!(rt; is_same, "at {rest}");
+    seen.holds_at(is_same, format_args!("at {rest}"));
     Ok(())
 }
 
@@ -210,8 +210,8 @@ fn behind_interim(alloc: Global, count: u8, response: &str) -> Result<Vec<u8>, A
 }
 
 /// Reads such a response, however it is cut.
-pub fn look_at_response<T: Abort>(
-    rt: &T,
+pub fn look_at_response<T: Asserts>(
+    seen: &T,
     alloc: Global,
     interim: u8,
     response: &str,
@@ -219,7 +219,7 @@ pub fn look_at_response<T: Abort>(
 ) -> Result<(), AllocError> {
     let bytes = behind_interim(alloc, interim, response)?;
     let is_same = is_response(alloc, bytes.as_slice(), wanted)?;
-    assert!(rt; is_same, "at {interim} {response}");
+    seen.holds_at(is_same, format_args!("at {interim} {response}"));
     Ok(())
 }
 
@@ -238,14 +238,14 @@ fn is_links_fault(alloc: Global, bytes: &[u8], failing: u64) -> Result<bool, All
 }
 
 /// Compares whether reading a request is the link's fault with this.
-pub fn look_at_fault<T: Abort>(
-    rt: &T,
+pub fn look_at_fault<T: Asserts>(
+    seen: &T,
     alloc: Global,
     call: u64,
     wanted: bool,
 ) -> Result<(), AllocError> {
     let is_link = is_links_fault(alloc, b"GET /a HTTP/1.1\r\n\r\n", call)?;
-    assert_eq!(rt; is_link, wanted, "at {call}");
+    seen.same_at(&is_link, &wanted, format_args!("at {call}"));
     Ok(())
 }
 

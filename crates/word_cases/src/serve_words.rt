@@ -1,8 +1,8 @@
 //! Command lines of `serve`, and the options that they come to.
 use crate::words::{answer, place_words, tell};
+use assertions::Asserts;
 use command_line::{ListenAddress, Plan, ServeOptions, Usage};
 use std::alloc::{AllocError, Global};
-use std::process::Abort;
 
 /// The line of a server without an option that may be absent.
 pub const PLAIN: &str =
@@ -135,25 +135,25 @@ pub const FAULTY: &[(usize, &str, &str)] = &[
 ];
 
 /// Looks whether what is told of a plain server with this word at this place has this piece.
-fn tell_with<T: Abort>(
-    rt: &T,
+fn tell_with<T: Asserts>(
+    seen: &T,
     alloc: Global,
     place: usize,
     word: &str,
     wanted: &str,
 ) -> Result<(), AllocError> {
     let line = with_word(alloc, place, word)?;
-    tell(rt, alloc, line.as_str(), wanted)
+    tell(seen, alloc, line.as_str(), wanted)
 }
 
 /// Looks so at each word.
-pub fn tell_each_with<T: Abort>(
-    rt: &T,
+pub fn tell_each_with<T: Asserts>(
+    seen: &T,
     alloc: Global,
     rows: &[(usize, &str, &str)],
 ) -> Result<(), AllocError> {
     for (place, word, wanted) in rows {
-        tell_with(rt, alloc, *place, word, wanted)?;
+        tell_with(seen, alloc, *place, word, wanted)?;
     }
     Ok(())
 }
@@ -188,24 +188,24 @@ fn with_front(alloc: Global, front: &str) -> Result<String, AllocError> {
 }
 
 /// Looks whether what is told of a plain server with these words in front of its own has this piece.
-fn tell_in_front<T: Abort>(
-    rt: &T,
+fn tell_in_front<T: Asserts>(
+    seen: &T,
     alloc: Global,
     front: &str,
     wanted: &str,
 ) -> Result<(), AllocError> {
     let line = with_front(alloc, front)?;
-    tell(rt, alloc, line.as_str(), wanted)
+    tell(seen, alloc, line.as_str(), wanted)
 }
 
 /// Looks so at each of these.
-pub fn tell_each_in_front<T: Abort>(
-    rt: &T,
+pub fn tell_each_in_front<T: Asserts>(
+    seen: &T,
     alloc: Global,
     rows: &[(&str, &str)],
 ) -> Result<(), AllocError> {
     for (front, wanted) in rows {
-        tell_in_front(rt, alloc, front, wanted)?;
+        tell_in_front(seen, alloc, front, wanted)?;
     }
     Ok(())
 }
@@ -257,24 +257,24 @@ fn mended_line(alloc: Global, mended: usize) -> Result<String, AllocError> {
 }
 
 /// Looks whether what is told of such a server, of whose faults so many are mended, has this piece.
-fn tell_mended<T: Abort>(
-    rt: &T,
+fn tell_mended<T: Asserts>(
+    seen: &T,
     alloc: Global,
     mended: usize,
     wanted: &str,
 ) -> Result<(), AllocError> {
     let line = mended_line(alloc, mended)?;
-    tell(rt, alloc, line.as_str(), wanted)
+    tell(seen, alloc, line.as_str(), wanted)
 }
 
 /// Looks so at each of these faults, once those before it are mended.
-pub fn tell_each_mended<T: Abort>(
-    rt: &T,
+pub fn tell_each_mended<T: Asserts>(
+    seen: &T,
     alloc: Global,
     faults: &[(&str, &str, &str)],
 ) -> Result<(), AllocError> {
     for (mended, (_, _, wanted)) in faults.iter().enumerate() {
-        tell_mended(rt, alloc, mended, wanted)?;
+        tell_mended(seen, alloc, mended, wanted)?;
     }
     Ok(())
 }

@@ -1,10 +1,10 @@
 //! Command lines, and what they come to.
 use crate::serve_words::options_words;
+use assertions::Asserts;
 use command_line::{PathText, Plan, Usage, plan};
 use edge_kit::Root;
 use phase0_types::Fork;
 use std::alloc::{AllocError, Global};
-use std::process::Abort;
 
 /// The root of these lines.
 const ROOT: &str = "0xabababababababababababababababababababababababababababababababab";
@@ -97,26 +97,26 @@ pub fn outcome(alloc: Global, line: &str) -> Result<String, AllocError> {
 }
 
 /// Compares what a line comes to with words, in which a `%` stands for the root.
-pub fn compare<T: Abort>(
-    rt: &T,
+pub fn compare<T: Asserts>(
+    seen: &T,
     alloc: Global,
     line: &str,
     wanted: &str,
 ) -> Result<(), AllocError> {
     let found = outcome(alloc, line)?;
     let wanted = with_root(alloc, wanted)?;
-    assert_eq!(rt; found.as_str(), wanted.as_str(), "{line}");
+    seen.same_at(&found.as_str(), &wanted.as_str(), format_args!("{line}"));
     Ok(())
 }
 
 /// Compares so what each line comes to.
-pub fn compare_each<T: Abort>(
-    rt: &T,
+pub fn compare_each<T: Asserts>(
+    seen: &T,
     alloc: Global,
     rows: &[(&str, &str)],
 ) -> Result<(), AllocError> {
     for (line, wanted) in rows {
-        compare(rt, alloc, line, wanted)?;
+        compare(seen, alloc, line, wanted)?;
     }
     Ok(())
 }
@@ -271,21 +271,28 @@ fn is_usage(words: &str, wanted: &str) -> bool {
 }
 
 /// Looks whether what is told of a line has this piece.
-pub(crate) fn tell<T: Abort>(
-    rt: &T,
+pub(crate) fn tell<T: Asserts>(
+    seen: &T,
     alloc: Global,
     line: &str,
     wanted: &str,
 ) -> Result<(), AllocError> {
     let found = outcome(alloc, line)?;
-    assert!(rt; is_usage(found.as_str(), wanted), "{line}: {found}");
+    seen.holds_at(
+        is_usage(found.as_str(), wanted),
+        format_args!("{line}: {found}"),
+    );
     Ok(())
 }
 
 /// Looks so at each line.
-pub fn tell_each<T: Abort>(rt: &T, alloc: Global, rows: &[(&str, &str)]) -> Result<(), AllocError> {
+pub fn tell_each<T: Asserts>(
+    seen: &T,
+    alloc: Global,
+    rows: &[(&str, &str)],
+) -> Result<(), AllocError> {
     for (line, wanted) in rows {
-        tell(rt, alloc, line, wanted)?;
+        tell(seen, alloc, line, wanted)?;
     }
     Ok(())
 }
@@ -382,17 +389,26 @@ Options:
 ";
 
 /// Compares the text that a line shows.
-pub fn show<T: Abort>(rt: &T, alloc: Global, line: &str, wanted: &str) -> Result<(), AllocError> {
+pub fn show<T: Asserts>(
+    seen: &T,
+    alloc: Global,
+    line: &str,
+    wanted: &str,
+) -> Result<(), AllocError> {
     let found = outcome(alloc, line)?;
     let text = found.as_str().strip_prefix("shown ").unwrap_or("");
-    assert!(rt; text == wanted, "{line}: {found}");
+    seen.holds_at(text == wanted, format_args!("{line}: {found}"));
     Ok(())
 }
 
 /// Compares so the text that each line shows.
-pub fn show_each<T: Abort>(rt: &T, alloc: Global, rows: &[(&str, &str)]) -> Result<(), AllocError> {
+pub fn show_each<T: Asserts>(
+    seen: &T,
+    alloc: Global,
+    rows: &[(&str, &str)],
+) -> Result<(), AllocError> {
     for (line, wanted) in rows {
-        show(rt, alloc, line, wanted)?;
+        show(seen, alloc, line, wanted)?;
     }
     Ok(())
 }
