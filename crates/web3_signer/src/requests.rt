@@ -1,13 +1,17 @@
 //! What Web3Signer is asked, as texts.
-ghost use Rattle.std.specs.Prelude.{◌≡◌, IfOk, string_bytes};
-ghost use Rattle.serde_json.specs.Data.{no_members, object, string};
-ghost use Rattle.serde_json.specs.View.{view};
+ghost use Rattle.std.specs.Prelude.{◌≡◌, codes, decimal, IfOk, OnOk, string_bytes};
+ghost use Rattle.phase0_blocks.specs.Blocks.{beacon_block_value};
+ghost use Rattle.phase0_types.specs.Containers.{beacon_block, beacon_block_header};
+ghost use Rattle.phase0_types.specs.Headers.{beacon_block_header_value};
+ghost use Rattle.phase0_types.specs.Writing.{write};
+ghost use Rattle.serde_json.specs.Data.{no_members, object, put, string};
+ghost use Rattle.serde_json.specs.View.{members_view, view};
 ghost use Rattle.web3_signer.specs.Web3 as web3;
 
 use edge_kit::{PubKey, Root, hex_text, push_hex};
-use phase0_blocks::{BeaconBlock, VoluntaryExit};
-use phase0_types::{AttestationData, BeaconBlockHeader, Fork, Shaped};
-use serde_json::{Value, json};
+use phase0_blocks::BeaconBlock;
+use phase0_types::{BeaconBlockHeader, Fork, Shaped};
+use serde_json::{Map, Value, json, put};
 use signer_link::{PlainObject, PlainRequest, SignObject, SignRequest};
 use slash_defs::Message;
 use std::alloc::{AllocError, Global};
@@ -40,67 +44,94 @@ fn sign_value(alloc: Global, request: &SignRequest, message: &Message) -> Result
     let root = hex_text(alloc, &message.signing_root().0)?;
     let kind = type_of(message);
     match &request.object {
-        None => { json!(in alloc; {"fork_info": info, "signingRoot": root.as_str(), "type": kind}) }
-        Some(SignObject::Header(header)) => header_value(alloc, header, info, root.as_str(), kind),
-        Some(SignObject::Block(block)) => block_value(alloc, block, info, root.as_str(), kind),
-        Some(SignObject::Attestation(details)) => {
-            vote_value(alloc, details, info, root.as_str(), kind)
+        None => Ok(Value::Object(members_of(alloc, info, root.as_str(), kind)?)),
+        Some(given) => object_value(alloc, given, info, root.as_str(), kind),
+    }
+}
+
+/// The request for a message whose object is known.
+fn object_value(
+    alloc: Global,
+    given: &SignObject,
+    info: Value,
+    root: &str,
+    kind: &str,
+) -> Result<Value, AllocError>
+    ensures { IfOk result (λ v. view v ≡ object (web3.with_object (Some given.now) (web3.with_root (view info) (string root.now) kind.now no_members))) }
+{
+    match given {
+        SignObject::Header(header) => {
+            let block = header_value(alloc, header)?;
+            with_member(alloc, "beacon_block", block, info, root, kind)
+        }
+        SignObject::Block(block) => {
+            let block = block_value(alloc, block)?;
+            with_member(alloc, "beacon_block", block, info, root, kind)
+        }
+        SignObject::Attestation(details) => {
+            let details = details.to_value(alloc)?;
+            with_member(alloc, "attestation", details, info, root, kind)
         }
     }
 }
 
-fn header_value(
-    alloc: Global,
-    header: &BeaconBlockHeader,
-    info: Value,
-    root: &str,
-    kind: &str,
-) -> Result<Value, AllocError>
-    ensures { IfOk result (λ v. view v ≡ object (web3.with_object (Some (SignObject.Header header.now)) (web3.with_root (view info) (string root.now) kind.now no_members))) }
+fn header_value(alloc: Global, header: &BeaconBlockHeader) -> Result<Value, AllocError>
+    ensures { IfOk result (λ v. view v ≡ web3.versioned (codes "block_header") (write beacon_block_header (beacon_block_header_value header.now))) }
 {
     let header = header.to_value(alloc)?;
-    json!(in alloc; {
-        "beacon_block": {"block_header": header, "version": "PHASE0"},
-        "fork_info": info,
-        "signingRoot": root,
-        "type": kind
-    })
+    json!(in alloc; {"block_header": header, "version": "PHASE0"})
 }
 
-fn block_value(
-    alloc: Global,
-    block: &BeaconBlock,
-    info: Value,
-    root: &str,
-    kind: &str,
-) -> Result<Value, AllocError>
-    ensures { IfOk result (λ v. view v ≡ object (web3.with_object (Some (SignObject.Block block.now)) (web3.with_root (view info) (string root.now) kind.now no_members))) }
+fn block_value(alloc: Global, block: &BeaconBlock) -> Result<Value, AllocError>
+    ensures { IfOk result (λ v. view v ≡ web3.versioned (codes "block") (write beacon_block (beacon_block_value block.now))) }
 {
     let block = block.to_value(alloc)?;
-    json!(in alloc; {
-        "beacon_block": {"block": block, "version": "PHASE0"},
-        "fork_info": info,
-        "signingRoot": root,
-        "type": kind
-    })
+    json!(in alloc; {"block": block, "version": "PHASE0"})
 }
 
-fn vote_value(
+/// The members of each request to sign, and one more.
+fn with_member(
     alloc: Global,
-    details: &AttestationData,
+    name: &str,
+    value: Value,
     info: Value,
     root: &str,
     kind: &str,
 ) -> Result<Value, AllocError>
-    ensures { IfOk result (λ v. view v ≡ object (web3.with_object (Some (SignObject.Attestation details.now)) (web3.with_root (view info) (string root.now) kind.now no_members))) }
+    ensures { IfOk result (λ v. view v ≡ object (put name.now (view value) (web3.with_root (view info) (string root.now) kind.now no_members))) }
 {
-    let details = details.to_value(alloc)?;
-    json!(in alloc; {
-        "attestation": details,
-        "fork_info": info,
-        "signingRoot": root,
-        "type": kind
-    })
+    let mut members = members_of(alloc, info, root, kind)?;
+    put(&mut members, alloc, name, value)?;
+    Ok(Value::Object(members))
+}
+
+/// The members of each request to sign.
+fn members_of(
+    alloc: Global,
+    info: Value,
+    root: &str,
+    kind: &str,
+) -> Result<Map<String, Value>, AllocError>
+    ensures { IfOk result (λ members. members_view members.entries ≡ web3.with_root (view info) (string root.now) kind.now no_members) }
+{
+    let mut members = Map::new(alloc);
+    put(&mut members, alloc, "fork_info", info)?;
+    put_text(alloc, &mut members, "signingRoot", root)?;
+    put_text(alloc, &mut members, "type", kind)?;
+    Ok(members)
+}
+
+/// One member that is a text.
+fn put_text(
+    alloc: Global,
+    members: &mut Map<String, Value>,
+    name: &str,
+    text: &str,
+) -> Result<(), AllocError>
+    ensures { OnOk result (members_view members.new.entries ≡ put name.now (string text.now) (members_view members.old.entries)) }
+{
+    let value = Value::try_from_str(alloc, text)?;
+    put(members, alloc, name, value)
 }
 
 /// The chain's fork, with the root of its genesis validators.
@@ -135,52 +166,47 @@ fn plain_value(alloc: Global, request: &PlainRequest) -> Result<Value, AllocErro
 {
     let info = fork_info(alloc, &request.fork, &request.genesis)?;
     let root = hex_text(alloc, &request.signing_root().0)?;
-    match &request.object {
-        PlainObject::RandaoReveal { epoch } => reveal_value(alloc, *epoch, info, root.as_str()),
-        PlainObject::AggregationSlot { slot } => slot_value(alloc, *slot, info, root.as_str()),
-        PlainObject::VoluntaryExit(exit) => exit_value(alloc, exit, info, root.as_str()),
-    }
+    plain_object_value(alloc, &request.object, info, root.as_str())
 }
 
-fn reveal_value(alloc: Global, epoch: u64, info: Value, root: &str) -> Result<Value, AllocError>
-    ensures { IfOk result (λ v. view v ≡ object (web3.plain_members (PlainObject.RandaoReveal epoch) (view info) (string root.now))) }
-{
-    let epoch = epoch.to_string(alloc)?;
-    json!(in alloc; {
-        "fork_info": info,
-        "randao_reveal": {"epoch": epoch.as_str()},
-        "signingRoot": root,
-        "type": "RANDAO_REVEAL"
-    })
-}
-
-fn slot_value(alloc: Global, slot: u64, info: Value, root: &str) -> Result<Value, AllocError>
-    ensures { IfOk result (λ v. view v ≡ object (web3.plain_members (PlainObject.AggregationSlot slot) (view info) (string root.now))) }
-{
-    let slot = slot.to_string(alloc)?;
-    json!(in alloc; {
-        "aggregation_slot": {"slot": slot.as_str()},
-        "fork_info": info,
-        "signingRoot": root,
-        "type": "AGGREGATION_SLOT"
-    })
-}
-
-fn exit_value(
+/// The request for another signature, by what its object is.
+fn plain_object_value(
     alloc: Global,
-    exit: &VoluntaryExit,
+    given: &PlainObject,
     info: Value,
     root: &str,
 ) -> Result<Value, AllocError>
-    ensures { IfOk result (λ v. view v ≡ object (web3.plain_members (PlainObject.VoluntaryExit exit.now) (view info) (string root.now))) }
+    ensures { IfOk result (λ v. view v ≡ object (web3.plain_members given.now (view info) (string root.now))) }
 {
-    let exit = exit.to_value(alloc)?;
-    json!(in alloc; {
-        "fork_info": info,
-        "signingRoot": root,
-        "type": "VOLUNTARY_EXIT",
-        "voluntary_exit": exit
-    })
+    match given {
+        PlainObject::RandaoReveal { epoch } => {
+            let epoch = number_value(alloc, "epoch", *epoch)?;
+            with_member(alloc, "randao_reveal", epoch, info, root, "RANDAO_REVEAL")
+        }
+        PlainObject::AggregationSlot { slot } => {
+            let slot = number_value(alloc, "slot", *slot)?;
+            with_member(
+                alloc,
+                "aggregation_slot",
+                slot,
+                info,
+                root,
+                "AGGREGATION_SLOT",
+            )
+        }
+        PlainObject::VoluntaryExit(exit) => {
+            let exit = exit.to_value(alloc)?;
+            with_member(alloc, "voluntary_exit", exit, info, root, "VOLUNTARY_EXIT")
+        }
+    }
+}
+
+/// An object of one number.
+fn number_value(alloc: Global, name: &str, number: u64) -> Result<Value, AllocError>
+    ensures { IfOk result (λ v. view v ≡ web3.one_member name.now (string (decimal number))) }
+{
+    let number = number.to_string(alloc)?;
+    json!(in alloc; {(name): number.as_str()})
 }
 
 /// The body of a request to take a key in.
