@@ -51,7 +51,7 @@ pub(crate) fn tell_ask(
     };
     match asked(alloc, ask, &reply) {
         Ok(call) => {
-            let _ = calls.push(call);
+            calls.push_reserved(call);
             reply
         }
         Err(AllocError) => Err(NodeFault::OutOfMemory),
@@ -115,7 +115,7 @@ pub(crate) fn tell_post(
     };
     match reply_copy(alloc, &reply) {
         Ok(copy) => {
-            let _ = calls.push(NodeCall::Posted(call, copy));
+            calls.push_reserved(NodeCall::Posted(call, copy));
             reply
         }
         Err(AllocError) => Err(NodeFault::OutOfMemory),
