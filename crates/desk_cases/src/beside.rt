@@ -1,5 +1,4 @@
 //! Two seats beside each other: one holds a grant of a key that the other one closes. Where the close did not wait for the
-
 //! grant, it would answer that the grant is open.
 ghost use Rattle.std.specs.Prelude.{◌≡◌, List};
 ghost use Rattle.desk_lock.specs.Passes.{number};

@@ -1,6 +1,5 @@
 //! Texts and what becomes of them: the written text of the file that was read, or the refusal. A longer list of
-
-//! texts is the input of the program `interchange_bench`.
+//! texts is the input of the program `benches`.
 use edge_kit::Items;
 use interchange_io::{read, write};
 use slash_defs::{BlockEntry, Book};

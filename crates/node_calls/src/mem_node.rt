@@ -227,5 +227,5 @@ fn keep(told: &mut Vec<NodeCall>, call: NodeCall)
     requires { vec_len told.old < vec_capacity told.old }
     ensures { told.new.items ≡ told.old.items ++ call ∷ [] }
 {
-    let _ = told.push(call);
+    told.push_reserved(call);
 }

@@ -1,5 +1,4 @@
 //! Answers of beacon nodes as the Beacon API's schemas have them, with the members that this client does not look at,
-
 //! in orders and spacings that nodes use.
 
 /// `getGenesis`.

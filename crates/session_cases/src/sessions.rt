@@ -1,5 +1,4 @@
 //! Sessions over disks and signers in memory: what is read, what is written, and what the desk did; and how the other
-
 //! modules run theirs.
 use assertions::Asserts;
 use edge_kit::{Disks, MemDisk, PubKey};

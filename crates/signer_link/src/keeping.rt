@@ -65,7 +65,7 @@ pub(crate) fn keep(told: &mut Vec<Told>, call: Told)
     requires { vec_len told.old < vec_capacity told.old }
     ensures { told.new.items ≡ told.old.items ++ call ∷ [] }
 {
-    let _ = told.push(call);
+    told.push_reserved(call);
 }
 
 /// What is to be kept of a call for the signature of a message, where calls are kept. The error is want of memory.

@@ -1,5 +1,4 @@
 //! Lanes beside each other, and connections beside the duties. Where one came behind the other, a wait would come to its
-
 //! limit.
 use crate::doors::{LIST, ONE_LISTED, ONE_VOTE};
 use crate::lanes::BOTH_VOTE;

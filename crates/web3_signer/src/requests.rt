@@ -1,17 +1,19 @@
 //! What Web3Signer is asked, as texts.
-ghost use Rattle.std.specs.Prelude.{◌≡◌, codes, decimal, IfOk, OnOk, string_bytes};
+ghost use Rattle.std.specs.Prelude.{◌≡◌, codes, decimal, IfOk, string_bytes};
+ghost use Rattle.json_members.specs.Building.{built};
 ghost use Rattle.phase0_blocks.specs.Blocks.{beacon_block_value};
 ghost use Rattle.phase0_types.specs.Containers.{beacon_block, beacon_block_header};
 ghost use Rattle.phase0_types.specs.Headers.{beacon_block_header_value};
 ghost use Rattle.phase0_types.specs.Writing.{write};
 ghost use Rattle.serde_json.specs.Data.{no_members, object, put, string};
-ghost use Rattle.serde_json.specs.View.{members_view, view};
+ghost use Rattle.serde_json.specs.View.{view};
 ghost use Rattle.web3_signer.specs.Web3 as web3;
 
 use edge_kit::{PubKey, Root, hex_text, push_hex};
+use json_members::Object;
 use phase0_blocks::BeaconBlock;
 use phase0_types::{BeaconBlockHeader, Fork, Shaped};
-use serde_json::{Map, Value, json, put};
+use serde_json::{Value, json};
 use signer_link::{PlainObject, PlainRequest, SignObject, SignRequest};
 use slash_defs::Message;
 use std::alloc::{AllocError, Global};
@@ -44,7 +46,7 @@ fn sign_value(alloc: Global, request: &SignRequest, message: &Message) -> Result
     let root = hex_text(alloc, &message.signing_root().0)?;
     let kind = type_of(message);
     match &request.object {
-        None => Ok(Value::Object(members_of(alloc, info, root.as_str(), kind)?)),
+        None => Ok(members_of(alloc, info, root.as_str(), kind)?.value()),
         Some(given) => object_value(alloc, given, info, root.as_str(), kind),
     }
 }
@@ -79,14 +81,20 @@ fn header_value(alloc: Global, header: &BeaconBlockHeader) -> Result<Value, Allo
     ensures { IfOk result (λ v. view v ≡ web3.versioned (codes "block_header") (write beacon_block_header (beacon_block_header_value header.now))) }
 {
     let header = header.to_value(alloc)?;
-    json!(in alloc; {"block_header": header, "version": "PHASE0"})
+    let object = Object::new(alloc)
+        .with_value(alloc, "block_header", header)?
+        .with_text(alloc, "version", "PHASE0")?;
+    Ok(object.value())
 }
 
 fn block_value(alloc: Global, block: &BeaconBlock) -> Result<Value, AllocError>
     ensures { IfOk result (λ v. view v ≡ web3.versioned (codes "block") (write beacon_block (beacon_block_value block.now))) }
 {
     let block = block.to_value(alloc)?;
-    json!(in alloc; {"block": block, "version": "PHASE0"})
+    let object = Object::new(alloc)
+        .with_value(alloc, "block", block)?
+        .with_text(alloc, "version", "PHASE0")?;
+    Ok(object.value())
 }
 
 /// The members of each request to sign, and one more.
@@ -100,38 +108,18 @@ fn with_member(
 ) -> Result<Value, AllocError>
     ensures { IfOk result (λ v. view v ≡ object (put name.now (view value) (web3.with_root (view info) (string root.now) kind.now no_members))) }
 {
-    let mut members = members_of(alloc, info, root, kind)?;
-    put(&mut members, alloc, name, value)?;
-    Ok(Value::Object(members))
+    let object = members_of(alloc, info, root, kind)?.with_value(alloc, name, value)?;
+    Ok(object.value())
 }
 
 /// The members of each request to sign.
-fn members_of(
-    alloc: Global,
-    info: Value,
-    root: &str,
-    kind: &str,
-) -> Result<Map<String, Value>, AllocError>
-    ensures { IfOk result (λ members. members_view members.entries ≡ web3.with_root (view info) (string root.now) kind.now no_members) }
+fn members_of(alloc: Global, info: Value, root: &str, kind: &str) -> Result<Object, AllocError>
+    ensures { IfOk result (λ object. built object ≡ web3.with_root (view info) (string root.now) kind.now no_members) }
 {
-    let mut members = Map::new(alloc);
-    put(&mut members, alloc, "fork_info", info)?;
-    put_text(alloc, &mut members, "signingRoot", root)?;
-    put_text(alloc, &mut members, "type", kind)?;
-    Ok(members)
-}
-
-/// One member that is a text.
-fn put_text(
-    alloc: Global,
-    members: &mut Map<String, Value>,
-    name: &str,
-    text: &str,
-) -> Result<(), AllocError>
-    ensures { OnOk result (members_view members.new.entries ≡ put name.now (string text.now) (members_view members.old.entries)) }
-{
-    let value = Value::try_from_str(alloc, text)?;
-    put(members, alloc, name, value)
+    Object::new(alloc)
+        .with_value(alloc, "fork_info", info)?
+        .with_text(alloc, "signingRoot", root)?
+        .with_text(alloc, "type", kind)
 }
 
 /// The chain's fork, with the root of its genesis validators.
@@ -139,8 +127,10 @@ fn fork_info(alloc: Global, fork: &Fork, genesis: &Root) -> Result<Value, AllocE
     ensures { IfOk result (λ v. view v ≡ web3.fork_info fork.now genesis.now) }
 {
     let fork = fork.to_value(alloc)?;
-    let genesis = hex_text(alloc, &genesis.0)?;
-    json!(in alloc; {"fork": fork, "genesis_validators_root": genesis.as_str()})
+    let object = Object::new(alloc)
+        .with_value(alloc, "fork", fork)?
+        .with_hex(alloc, "genesis_validators_root", &genesis.0)?;
+    Ok(object.value())
 }
 
 /// The type of a request for a message.
@@ -205,8 +195,8 @@ fn plain_object_value(
 fn number_value(alloc: Global, name: &str, number: u64) -> Result<Value, AllocError>
     ensures { IfOk result (λ v. view v ≡ web3.one_member name.now (string (decimal number))) }
 {
-    let number = number.to_string(alloc)?;
-    json!(in alloc; {(name): number.as_str()})
+    let object = Object::new(alloc).with_number(alloc, name, number)?;
+    Ok(object.value())
 }
 
 /// The body of a request to take a key in.
