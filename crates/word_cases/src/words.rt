@@ -49,6 +49,39 @@ fn fork_words(alloc: Global, fork: &Fork) -> Result<String, AllocError> {
     format!(in alloc; "{} {} {}", previous.as_str(), current.as_str(), epoch)
 }
 
+/// A session in words: its chain, its journal and its fork, and whether a service signs and its keys are watched.
+fn session_words(
+    alloc: Global,
+    place: (&Root, Option<&PathText>),
+    fork: &Fork,
+    has_signer: bool,
+    watch: bool,
+) -> Result<String, AllocError> {
+    let place = place_words(alloc, place.0, place.1)?;
+    let fork = fork_words(alloc, fork)?;
+    format!(in alloc;
+        "session {} {} {has_signer} {watch}",
+        place.as_str(),
+        fork.as_str()
+    )
+}
+
+/// A command over a journal in words.
+fn journal_words(
+    alloc: Global,
+    command: &str,
+    root: &Root,
+    journal: &PathText,
+) -> Result<String, AllocError> {
+    let place = place_words(alloc, root, Some(journal))?;
+    format!(in alloc; "{command} {}", place.as_str())
+}
+
+/// A shown text in words.
+fn shown_words(alloc: Global, text: &str) -> Result<String, AllocError> {
+    format!(in alloc; "shown {text}")
+}
+
 /// A plan in words.
 fn plan_words(alloc: Global, plan: &Plan) -> Result<String, AllocError> {
     match plan {
@@ -59,26 +92,14 @@ fn plan_words(alloc: Global, plan: &Plan) -> Result<String, AllocError> {
             signer,
             watch,
         } => {
-            let place = place_words(alloc, genesis, journal.as_ref())?;
-            let fork = fork_words(alloc, fork)?;
-            let (has_signer, watch) = (signer.is_some(), *watch);
-            format!(in alloc;
-                "session {} {} {has_signer} {watch}",
-                place.as_str(),
-                fork.as_str()
-            )
+            let place = (genesis, journal.as_ref());
+            session_words(alloc, place, fork, signer.is_some(), *watch)
         }
         Plan::Serve(options) => options_words(alloc, options),
-        Plan::Merge { genesis, journal } => {
-            let place = place_words(alloc, genesis, Some(journal))?;
-            format!(in alloc; "merge {}", place.as_str())
-        }
-        Plan::Show { genesis, journal } => {
-            let place = place_words(alloc, genesis, Some(journal))?;
-            format!(in alloc; "show {}", place.as_str())
-        }
+        Plan::Merge { genesis, journal } => journal_words(alloc, "merge", genesis, journal),
+        Plan::Show { genesis, journal } => journal_words(alloc, "show", genesis, journal),
         Plan::Rehearse { .. } => String::from_str(alloc, "rehearse"),
-        Plan::Shown(text) => format!(in alloc; "shown {}", text.as_str()),
+        Plan::Shown(text) => shown_words(alloc, text.as_str()),
     }
 }
 
