@@ -10,11 +10,12 @@ use crate::operation::{AttesterSlashing, Deposit, ProposerSlashing};
 use crate::signed::SignedVoluntaryExit;
 use crate::vote::Attestation;
 use edge_kit::{Root, Sig};
+use json_members::Object;
 use phase0_types::{
     BeaconBlockHeader, BoundedList, Container, Eth1Data, Member, ReadResult, Shaped,
-    container_root, object_at, read_field,
+    container_root, object_at, read_field, with_member,
 };
-use serde_json::{Value, json};
+use serde_json::Value;
 use std::alloc::{AllocError, Global};
 
 /// What a block carries (consensus-specs, `BeaconBlockBody`).
@@ -64,16 +65,30 @@ impl Shaped for BeaconBlockBody {
     }
 
     fn to_json(&self, alloc: Global) -> Result<Value, AllocError> {
-        json!(in alloc; {
-            "randao_reveal": self.randao_reveal.to_json(alloc)?,
-            "eth1_data": self.eth1_data.to_json(alloc)?,
-            "graffiti": self.graffiti.to_json(alloc)?,
-            "proposer_slashings": self.proposer_slashings.to_json(alloc)?,
-            "attester_slashings": self.attester_slashings.to_json(alloc)?,
-            "attestations": self.attestations.to_json(alloc)?,
-            "deposits": self.deposits.to_json(alloc)?,
-            "voluntary_exits": self.voluntary_exits.to_json(alloc)?
-        })
+        let object = with_member(
+            Object::new(alloc),
+            alloc,
+            Member::VoluntaryExits,
+            &self.voluntary_exits,
+        )?;
+        let object = with_member(object, alloc, Member::Deposits, &self.deposits)?;
+        let object = with_member(object, alloc, Member::Attestations, &self.attestations)?;
+        let object = with_member(
+            object,
+            alloc,
+            Member::AttesterSlashings,
+            &self.attester_slashings,
+        )?;
+        let object = with_member(
+            object,
+            alloc,
+            Member::ProposerSlashings,
+            &self.proposer_slashings,
+        )?;
+        let object = with_member(object, alloc, Member::Graffiti, &self.graffiti)?;
+        let object = with_member(object, alloc, Member::Eth1Data, &self.eth1_data)?;
+        let object = with_member(object, alloc, Member::RandaoReveal, &self.randao_reveal)?;
+        Ok(object.value())
     }
 
     ghost names = { beacon_block_body_names };
@@ -119,13 +134,12 @@ impl Shaped for BeaconBlock {
     }
 
     fn to_json(&self, alloc: Global) -> Result<Value, AllocError> {
-        json!(in alloc; {
-            "slot": self.slot.to_json(alloc)?,
-            "proposer_index": self.proposer_index.to_json(alloc)?,
-            "parent_root": self.parent_root.to_json(alloc)?,
-            "state_root": self.state_root.to_json(alloc)?,
-            "body": self.body.to_json(alloc)?
-        })
+        let object = with_member(Object::new(alloc), alloc, Member::Body, &self.body)?;
+        let object = with_member(object, alloc, Member::StateRoot, &self.state_root)?;
+        let object = with_member(object, alloc, Member::ParentRoot, &self.parent_root)?;
+        let object = with_member(object, alloc, Member::ProposerIndex, &self.proposer_index)?;
+        let object = with_member(object, alloc, Member::Slot, &self.slot)?;
+        Ok(object.value())
     }
 
     ghost names = { beacon_block_names };

@@ -6,8 +6,11 @@ ghost use Rattle.phase0_types.specs.Names.{attester_slashing_names, deposit_data
 use crate::signed::SignedBeaconBlockHeader;
 use crate::vote::IndexedAttestation;
 use edge_kit::{PubKey, Root, Sig};
-use phase0_types::{Container, Member, ReadResult, Shaped, container_root, object_at, read_field};
-use serde_json::{Value, json};
+use json_members::Object;
+use phase0_types::{
+    Container, Member, ReadResult, Shaped, container_root, object_at, read_field, with_member,
+};
+use serde_json::Value;
 use std::alloc::{AllocError, Global};
 
 /// Two headers of one slot by one proposer (consensus-specs, `ProposerSlashing`).
@@ -36,10 +39,14 @@ impl Shaped for ProposerSlashing {
     }
 
     fn to_json(&self, alloc: Global) -> Result<Value, AllocError> {
-        json!(in alloc; {
-            "signed_header_1": self.signed_header_1.to_json(alloc)?,
-            "signed_header_2": self.signed_header_2.to_json(alloc)?
-        })
+        let object = with_member(
+            Object::new(alloc),
+            alloc,
+            Member::SignedHeader2,
+            &self.signed_header_2,
+        )?;
+        let object = with_member(object, alloc, Member::SignedHeader1, &self.signed_header_1)?;
+        Ok(object.value())
     }
 
     ghost names = { proposer_slashing_names };
@@ -73,10 +80,14 @@ impl Shaped for AttesterSlashing {
     }
 
     fn to_json(&self, alloc: Global) -> Result<Value, AllocError> {
-        json!(in alloc; {
-            "attestation_1": self.attestation_1.to_json(alloc)?,
-            "attestation_2": self.attestation_2.to_json(alloc)?
-        })
+        let object = with_member(
+            Object::new(alloc),
+            alloc,
+            Member::Attestation2,
+            &self.attestation_2,
+        )?;
+        let object = with_member(object, alloc, Member::Attestation1, &self.attestation_1)?;
+        Ok(object.value())
     }
 
     ghost names = { attester_slashing_names };
@@ -119,12 +130,21 @@ impl Shaped for DepositData {
     }
 
     fn to_json(&self, alloc: Global) -> Result<Value, AllocError> {
-        json!(in alloc; {
-            "pubkey": self.pubkey.to_json(alloc)?,
-            "withdrawal_credentials": self.withdrawal_credentials.to_json(alloc)?,
-            "amount": self.amount.to_json(alloc)?,
-            "signature": self.signature.to_json(alloc)?
-        })
+        let object = with_member(
+            Object::new(alloc),
+            alloc,
+            Member::Signature,
+            &self.signature,
+        )?;
+        let object = with_member(object, alloc, Member::Amount, &self.amount)?;
+        let object = with_member(
+            object,
+            alloc,
+            Member::WithdrawalCredentials,
+            &self.withdrawal_credentials,
+        )?;
+        let object = with_member(object, alloc, Member::Pubkey, &self.pubkey)?;
+        Ok(object.value())
     }
 
     ghost names = { deposit_data_names };
@@ -158,10 +178,9 @@ impl Shaped for Deposit {
     }
 
     fn to_json(&self, alloc: Global) -> Result<Value, AllocError> {
-        json!(in alloc; {
-            "proof": self.proof.to_json(alloc)?,
-            "data": self.details.to_json(alloc)?
-        })
+        let object = with_member(Object::new(alloc), alloc, Member::Details, &self.details)?;
+        let object = with_member(object, alloc, Member::Proof, &self.proof)?;
+        Ok(object.value())
     }
 
     ghost names = { deposit_names };
@@ -195,10 +214,14 @@ impl Shaped for VoluntaryExit {
     }
 
     fn to_json(&self, alloc: Global) -> Result<Value, AllocError> {
-        json!(in alloc; {
-            "epoch": self.epoch.to_json(alloc)?,
-            "validator_index": self.validator_index.to_json(alloc)?
-        })
+        let object = with_member(
+            Object::new(alloc),
+            alloc,
+            Member::ValidatorIndex,
+            &self.validator_index,
+        )?;
+        let object = with_member(object, alloc, Member::Epoch, &self.epoch)?;
+        Ok(object.value())
     }
 
     ghost names = { voluntary_exit_names };

@@ -6,10 +6,12 @@ ghost use Rattle.phase0_blocks.specs.Signed.{signed_value};
 use crate::block::BeaconBlock;
 use crate::operation::VoluntaryExit;
 use edge_kit::{Root, Sig};
+use json_members::Object;
 use phase0_types::{
-    BeaconBlockHeader, Container, Member, ReadResult, Shaped, container_root, object_at, read_field,
+    BeaconBlockHeader, Container, Member, ReadResult, Shaped, container_root, object_at,
+    read_field, with_member,
 };
-use serde_json::{Value, json};
+use serde_json::Value;
 use std::alloc::{AllocError, Global};
 
 /// A message with its signature.
@@ -47,10 +49,14 @@ impl<T: Container> Shaped for Signed<T> {
     }
 
     fn to_json(&self, alloc: Global) -> Result<Value, AllocError> {
-        json!(in alloc; {
-            "message": self.message.to_json(alloc)?,
-            "signature": self.signature.to_json(alloc)?
-        })
+        let object = with_member(
+            Object::new(alloc),
+            alloc,
+            Member::Signature,
+            &self.signature,
+        )?;
+        let object = with_member(object, alloc, Member::Message, &self.message)?;
+        Ok(object.value())
     }
 
     ghost names = { signed_names T.shape T.names };

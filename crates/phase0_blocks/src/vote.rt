@@ -4,11 +4,12 @@ ghost use Rattle.phase0_types.specs.Containers.{attestation, indexed_attestation
 ghost use Rattle.phase0_types.specs.Names.{attestation_names, indexed_attestation_names};
 
 use edge_kit::{Root, Sig};
+use json_members::Object;
 use phase0_types::{
     AttestationData, BoundedList, Container, Member, ReadResult, Shaped, container_root, object_at,
-    read_field,
+    read_field, with_member,
 };
-use serde_json::{Value, json};
+use serde_json::Value;
 use std::alloc::{AllocError, Global};
 
 /// A vote with the indices of its attesters (consensus-specs, `IndexedAttestation`).
@@ -43,11 +44,20 @@ impl Shaped for IndexedAttestation {
     }
 
     fn to_json(&self, alloc: Global) -> Result<Value, AllocError> {
-        json!(in alloc; {
-            "attesting_indices": self.attesting_indices.to_json(alloc)?,
-            "data": self.details.to_json(alloc)?,
-            "signature": self.signature.to_json(alloc)?
-        })
+        let object = with_member(
+            Object::new(alloc),
+            alloc,
+            Member::Signature,
+            &self.signature,
+        )?;
+        let object = with_member(object, alloc, Member::Details, &self.details)?;
+        let object = with_member(
+            object,
+            alloc,
+            Member::AttestingIndices,
+            &self.attesting_indices,
+        )?;
+        Ok(object.value())
     }
 
     ghost names = { indexed_attestation_names };
@@ -87,11 +97,20 @@ impl Shaped for Attestation {
     }
 
     fn to_json(&self, alloc: Global) -> Result<Value, AllocError> {
-        json!(in alloc; {
-            "aggregation_bits": self.aggregation_bits.to_json(alloc)?,
-            "data": self.details.to_json(alloc)?,
-            "signature": self.signature.to_json(alloc)?
-        })
+        let object = with_member(
+            Object::new(alloc),
+            alloc,
+            Member::Signature,
+            &self.signature,
+        )?;
+        let object = with_member(object, alloc, Member::Details, &self.details)?;
+        let object = with_member(
+            object,
+            alloc,
+            Member::AggregationBits,
+            &self.aggregation_bits,
+        )?;
+        Ok(object.value())
     }
 
     ghost names = { attestation_names };

@@ -4,10 +4,11 @@ ghost use Rattle.phase0_types.specs.Containers.{attestation_data, checkpoint};
 ghost use Rattle.phase0_types.specs.Names.{attestation_data_names, checkpoint_names};
 
 use crate::member::Member;
-use crate::shaped::{Container, ReadResult, Shaped, container_root};
+use crate::shaped::{Container, ReadResult, Shaped, container_root, with_member};
 use crate::{object_at, read_field};
 use edge_kit::Root;
-use serde_json::{Value, json};
+use json_members::Object;
+use serde_json::Value;
 use std::alloc::{AllocError, Global};
 
 /// An epoch, and the root of its block (consensus-specs, `Checkpoint`).
@@ -36,10 +37,9 @@ impl Shaped for Checkpoint {
     }
 
     fn to_json(&self, alloc: Global) -> Result<Value, AllocError> {
-        json!(in alloc; {
-            "epoch": self.epoch.to_json(alloc)?,
-            "root": self.root.to_json(alloc)?
-        })
+        let object = with_member(Object::new(alloc), alloc, Member::Root, &self.root)?;
+        let object = with_member(object, alloc, Member::Epoch, &self.epoch)?;
+        Ok(object.value())
     }
 
     ghost names = { checkpoint_names };
@@ -85,13 +85,17 @@ impl Shaped for AttestationData {
     }
 
     fn to_json(&self, alloc: Global) -> Result<Value, AllocError> {
-        json!(in alloc; {
-            "slot": self.slot.to_json(alloc)?,
-            "index": self.index.to_json(alloc)?,
-            "beacon_block_root": self.beacon_block_root.to_json(alloc)?,
-            "source": self.source.to_json(alloc)?,
-            "target": self.target.to_json(alloc)?
-        })
+        let object = with_member(Object::new(alloc), alloc, Member::Target, &self.target)?;
+        let object = with_member(object, alloc, Member::Source, &self.source)?;
+        let object = with_member(
+            object,
+            alloc,
+            Member::BeaconBlockRoot,
+            &self.beacon_block_root,
+        )?;
+        let object = with_member(object, alloc, Member::Index, &self.index)?;
+        let object = with_member(object, alloc, Member::Slot, &self.slot)?;
+        Ok(object.value())
     }
 
     ghost names = { attestation_data_names };

@@ -4,10 +4,11 @@ ghost use Rattle.phase0_types.specs.Containers.{fork, fork_data, signing_data};
 ghost use Rattle.phase0_types.specs.Names.{fork_data_names, fork_names, signing_data_names};
 
 use crate::member::Member;
-use crate::shaped::{Container, ReadResult, Shaped, container_root};
+use crate::shaped::{Container, ReadResult, Shaped, container_root, with_member};
 use crate::{object_at, read_field};
 use edge_kit::Root;
-use serde_json::{Value, json};
+use json_members::Object;
+use serde_json::Value;
 use std::alloc::{AllocError, Global};
 
 /// The versions before and from an epoch on (consensus-specs, `Fork`).
@@ -42,11 +43,15 @@ impl Shaped for Fork {
     }
 
     fn to_json(&self, alloc: Global) -> Result<Value, AllocError> {
-        json!(in alloc; {
-            "previous_version": self.previous_version.to_json(alloc)?,
-            "current_version": self.current_version.to_json(alloc)?,
-            "epoch": self.epoch.to_json(alloc)?
-        })
+        let object = with_member(Object::new(alloc), alloc, Member::Epoch, &self.epoch)?;
+        let object = with_member(object, alloc, Member::CurrentVersion, &self.current_version)?;
+        let object = with_member(
+            object,
+            alloc,
+            Member::PreviousVersion,
+            &self.previous_version,
+        )?;
+        Ok(object.value())
     }
 
     ghost names = { fork_names };
@@ -83,10 +88,14 @@ impl Shaped for ForkData {
     }
 
     fn to_json(&self, alloc: Global) -> Result<Value, AllocError> {
-        json!(in alloc; {
-            "current_version": self.current_version.to_json(alloc)?,
-            "genesis_validators_root": self.genesis_validators_root.to_json(alloc)?
-        })
+        let object = with_member(
+            Object::new(alloc),
+            alloc,
+            Member::GenesisValidatorsRoot,
+            &self.genesis_validators_root,
+        )?;
+        let object = with_member(object, alloc, Member::CurrentVersion, &self.current_version)?;
+        Ok(object.value())
     }
 
     ghost names = { fork_data_names };
@@ -120,10 +129,9 @@ impl Shaped for SigningData {
     }
 
     fn to_json(&self, alloc: Global) -> Result<Value, AllocError> {
-        json!(in alloc; {
-            "object_root": self.object_root.to_json(alloc)?,
-            "domain": self.domain.to_json(alloc)?
-        })
+        let object = with_member(Object::new(alloc), alloc, Member::Domain, &self.domain)?;
+        let object = with_member(object, alloc, Member::ObjectRoot, &self.object_root)?;
+        Ok(object.value())
     }
 
     ghost names = { signing_data_names };

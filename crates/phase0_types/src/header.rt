@@ -4,10 +4,11 @@ ghost use Rattle.phase0_types.specs.Containers.{beacon_block_header, eth1_data};
 ghost use Rattle.phase0_types.specs.Names.{beacon_block_header_names, eth1_data_names};
 
 use crate::member::Member;
-use crate::shaped::{Container, ReadResult, Shaped, container_root};
+use crate::shaped::{Container, ReadResult, Shaped, container_root, with_member};
 use crate::{object_at, read_field};
 use edge_kit::Root;
-use serde_json::{Value, json};
+use json_members::Object;
+use serde_json::Value;
 use std::alloc::{AllocError, Global};
 
 /// A block with its body's root in place of the body (consensus-specs, `BeaconBlockHeader`).
@@ -48,13 +49,12 @@ impl Shaped for BeaconBlockHeader {
     }
 
     fn to_json(&self, alloc: Global) -> Result<Value, AllocError> {
-        json!(in alloc; {
-            "slot": self.slot.to_json(alloc)?,
-            "proposer_index": self.proposer_index.to_json(alloc)?,
-            "parent_root": self.parent_root.to_json(alloc)?,
-            "state_root": self.state_root.to_json(alloc)?,
-            "body_root": self.body_root.to_json(alloc)?
-        })
+        let object = with_member(Object::new(alloc), alloc, Member::BodyRoot, &self.body_root)?;
+        let object = with_member(object, alloc, Member::StateRoot, &self.state_root)?;
+        let object = with_member(object, alloc, Member::ParentRoot, &self.parent_root)?;
+        let object = with_member(object, alloc, Member::ProposerIndex, &self.proposer_index)?;
+        let object = with_member(object, alloc, Member::Slot, &self.slot)?;
+        Ok(object.value())
     }
 
     ghost names = { beacon_block_header_names };
@@ -94,11 +94,15 @@ impl Shaped for Eth1Data {
     }
 
     fn to_json(&self, alloc: Global) -> Result<Value, AllocError> {
-        json!(in alloc; {
-            "deposit_root": self.deposit_root.to_json(alloc)?,
-            "deposit_count": self.deposit_count.to_json(alloc)?,
-            "block_hash": self.block_hash.to_json(alloc)?
-        })
+        let object = with_member(
+            Object::new(alloc),
+            alloc,
+            Member::BlockHash,
+            &self.block_hash,
+        )?;
+        let object = with_member(object, alloc, Member::DepositCount, &self.deposit_count)?;
+        let object = with_member(object, alloc, Member::DepositRoot, &self.deposit_root)?;
+        Ok(object.value())
     }
 
     ghost names = { eth1_data_names };

@@ -19,4 +19,4 @@ pub use fork::{Fork, ForkData, SigningData};
 pub use header::{BeaconBlockHeader, Eth1Data};
 pub use list::BoundedList;
 pub use member::Member;
-pub use shaped::{Container, ReadResult, Shaped, container_root, read_member};
+pub use shaped::{Container, ReadResult, Shaped, container_root, read_member, with_member};

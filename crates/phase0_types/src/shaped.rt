@@ -1,5 +1,7 @@
 //! What every value of a shape does.
 ghost use Rattle.std.specs.Prelude.{◌≡◌, Ok, None, true, length, IfOk, OnOk};
+ghost use Rattle.json_members.specs.Building.{built};
+ghost use Rattle.serde_json.specs.Data.{put};
 ghost use Rattle.serde_json.specs.View.{view};
 ghost use Rattle.ssz_roots.specs.Trees.{merkle_root, root_chunks};
 ghost use Rattle.phase0_types.specs.Shapes.{Shape};
@@ -8,12 +10,14 @@ ghost use Rattle.phase0_types.specs.Roots.{root_of};
 ghost use Rattle.phase0_types.specs.Faults.{read_as};
 ghost use Rattle.phase0_types.specs.Reading.{read_at, member_at};
 ghost use Rattle.phase0_types.specs.Fitting.{Fits};
+ghost use Rattle.phase0_types.specs.Members.{member_name};
 ghost use Rattle.phase0_types.specs.Names.{has_names};
 ghost use Rattle.phase0_types.specs.Writing.{write};
 
 use crate::fault::ReadFault;
 use crate::member::Member;
 use edge_kit::Root;
+use json_members::Object;
 use serde_json::Value;
 use ssz_roots::chunks_root;
 use std::alloc::{AllocError, Global};
@@ -72,6 +76,22 @@ pub fn read_member<T: Shaped>(alloc: Global, member: Member, json: &Value) -> Re
         Some(inner) => T::read_at(alloc, Some(member), inner),
         None => Ok(Err(ReadFault::Missing(member))),
     }
+}
+
+/// The object with this member, the JSON of a field. A container's fields are put in from its last to its first, the order
+/// in which its spec has them.
+pub fn with_member<T: Shaped>(
+    object: Object,
+    alloc: Global,
+    member: Member,
+    field: &T,
+) -> Result<Object, AllocError>
+    ensures written { IfOk result (λ next. built next
+        ≡ put (member_name member) (write T.shape (T.value field.now)) (built object)) }
+    ensures fits { OnOk result (Fits T.shape (T.value field.now)) }
+{
+    let json = field.to_json(alloc)?;
+    object.with_value(alloc, member.name(), json)
 }
 
 /// The root of a container, from those of its fields.
