@@ -6,6 +6,7 @@ ghost use Rattle.phase0_types.specs.Headers.{beacon_block_header_value};
 ghost use Rattle.phase0_types.specs.Names.{beacon_block_body_names, beacon_block_names};
 ghost use Rattle.phase0_types.specs.Roots.{root_of};
 
+use crate::lists::read_lists;
 use crate::operation::{AttesterSlashing, Deposit, ProposerSlashing};
 use crate::signed::SignedVoluntaryExit;
 use crate::vote::Attestation;
@@ -31,7 +32,7 @@ pub struct BeaconBlockBody {
     pub voluntary_exits: BoundedList<SignedVoluntaryExit, 16>,
 }
 
-#[tactic(auto, unfolding(phase0_types::specs::Roots::root_of, phase0_types::specs::Reading::read_at, phase0_types::specs::Writing::write, phase0_types::specs::Fitting::Fits, phase0_types::specs::Containers::beacon_block_body, crate::specs::Blocks::beacon_block_body_value))]
+#[tactic(auto, unfolding(phase0_types::specs::Roots::root_of, phase0_types::specs::Reading::read_at, phase0_types::specs::Writing::write, phase0_types::specs::Fitting::Fits, phase0_types::specs::Containers::beacon_block_body, crate::specs::Blocks::beacon_block_body_value, crate::specs::Lists::body_lists_value, crate::specs::Lists::body_operations_value))]
 impl Shaped for BeaconBlockBody {
     ghost shape = { beacon_block_body };
 
@@ -52,16 +53,22 @@ impl Shaped for BeaconBlockBody {
 
     fn read_at(alloc: Global, place: Option<Member>, json: &Value) -> ReadResult<Self> {
         object_at!(place, json);
-        Ok(Ok(BeaconBlockBody {
-            randao_reveal: read_field!(alloc, Member::RandaoReveal, json),
-            eth1_data: read_field!(alloc, Member::Eth1Data, json),
-            graffiti: read_field!(alloc, Member::Graffiti, json),
-            proposer_slashings: read_field!(alloc, Member::ProposerSlashings, json),
-            attester_slashings: read_field!(alloc, Member::AttesterSlashings, json),
-            attestations: read_field!(alloc, Member::Attestations, json),
-            deposits: read_field!(alloc, Member::Deposits, json),
-            voluntary_exits: read_field!(alloc, Member::VoluntaryExits, json),
-        }))
+        let randao_reveal: Sig = read_field!(alloc, Member::RandaoReveal, json);
+        let eth1_data: Eth1Data = read_field!(alloc, Member::Eth1Data, json);
+        let graffiti: [u8; 32] = read_field!(alloc, Member::Graffiti, json);
+        match read_lists(alloc, json)? {
+            Ok(lists) => Ok(Ok(BeaconBlockBody {
+                randao_reveal,
+                eth1_data,
+                graffiti,
+                proposer_slashings: lists.proposer_slashings,
+                attester_slashings: lists.attester_slashings,
+                attestations: lists.operations.attestations,
+                deposits: lists.operations.deposits,
+                voluntary_exits: lists.operations.voluntary_exits,
+            })),
+            Err(fault) => Ok(Err(fault)),
+        }
     }
 
     fn to_json(&self, alloc: Global) -> Result<Value, AllocError> {

@@ -2,6 +2,7 @@
 #![tactic(auto)]
 
 mod block;
+mod lists;
 mod operation;
 mod signed;
 mod vote;
