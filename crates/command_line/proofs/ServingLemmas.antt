@@ -1,5 +1,5 @@
 -- Texts cut at their dots, and addresses that are read one after another.
-use Rattle.std.proofs.Common.{◌≡◌, ◌∙◌, ℕ, ◌+◌, ◌<◌, ◌≤◌, Bool, true, false, ◌&&◌, cond, length, List, [], ◌∷◌, ◌++◌, map, Option, Some, None, MatchOption, inl, inr, refl, sym, ap, ap₂, arith, Bor, append_assoc, lt-ltb}
+use Rattle.std.proofs.Common.{◌≡◌, ◌∙◌, ℕ, ◌+◌, ◌<◌, ◌≤◌, Bool, true, false, ◌&&◌, cond, length, List, [], ◌∷◌, ◌++◌, map, Option, Some, None, MatchOption, inl, inr, refl, sym, ap, ap₂, arith, Bor, append_assoc, lt-ltb, drop, get_or, drop-cons, add-one}
 use Rattle.std.proofs.lemmas.List.{length-map}
 use Rattle.std.specs.Prelude.{count_by, filter_map, is_some}
 use Rattle.std.specs.Char.{is_ascii_digit}
@@ -97,3 +97,12 @@ rest_of-some found t ts s one = go (service_at t.now) one ∙ ap (λ all. cond (
         ≡ cond (list_all is_address (texts_of ts)) (Some (found ++ s ∷ filter_map service_at (texts_of ts))) None
     go None e = absurd (cc)
     go (Some x) e = let is : x ≡ s = cc in rw is refl
+
+-- the same where the text stands at the next place
+pub rest_of-next : (found next : List Service) (texts : List Lent) (i : ℕ) (d : Lent) (s : Service)
+    → i < length texts → service_at (get_or texts i d).now ≡ Some s → next ≡ found ++ s ∷ []
+    → rest_of found (drop i texts) ≡ rest_of [] texts → rest_of next (drop (i + 1) texts) ≡ rest_of [] texts
+rest_of-next found next texts i d s within one grown so_far =
+    let cut : drop i texts ≡ get_or texts i d ∷ drop (i + 1) texts = rw add-one (drop-cons texts i d within) in
+    ap (λ all. rest_of all (drop (i + 1) texts)) grown ∙ (sym (rest_of-some found (get_or texts i d) (drop (i + 1) texts) s one)
+    ∙ (sym (ap (λ ts. rest_of found ts) cut) ∙ so_far))

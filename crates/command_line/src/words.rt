@@ -1,5 +1,5 @@
 //! The words of a command line as a plan.
-ghost use Rattle.std.specs.Prelude.{◌≡◌, ◌≢◌, IfOk, map, option_map, string_bytes, if◌then◌else◌};
+ghost use Rattle.std.specs.Prelude.{◌≡◌, ◌≢◌, IfOk, Some, map, option_map, string_bytes, if◌then◌else◌};
 ghost use Rattle.clap.specs.Words.{found_of, kind_of, rows_of, subcommand_rows_of};
 ghost use Rattle.clap.specs.declared.error.kind.ErrorKind.TheVariants.{OutOfMemory};
 ghost use Rattle.command_line.specs.Plans.{asked_at, asked_in, asked_of, help_on, is_display, merge_in, nothing, rehearse_in, session_by, session_in, session_with, show_in, shown, taken_as};
@@ -85,25 +85,15 @@ fn command_plan(
 ) -> Result<Result<Plan, Usage>, AllocError>
     ensures { IfOk result (λ answer. taken_as answer ≡ asked_in name.now (rows_of (found_of options.now))) }
 {
-    if name == "session" {
-        return session_plan(alloc, options);
+    match name {
+        "session" => session_plan(alloc, options),
+        "serve" => serve_plan(alloc, options),
+        "merge" => merge_plan(alloc, options),
+        "show" => show_plan(alloc, options),
+        "rehearse" => rehearse_plan(alloc, options),
+        "help" => help_plan(alloc, text_of(options, "command")),
+        other => refused(alloc, Fault::Command(other)),
     }
-    if name == "serve" {
-        return serve_plan(alloc, options);
-    }
-    if name == "merge" {
-        return merge_plan(alloc, options);
-    }
-    if name == "show" {
-        return show_plan(alloc, options);
-    }
-    if name == "rehearse" {
-        return rehearse_plan(alloc, options);
-    }
-    if name == "help" {
-        return help_plan(alloc, text_of(options, "command"));
-    }
-    refused(alloc, Fault::Command(name))
 }
 
 /// The answer to `session`.
@@ -241,14 +231,33 @@ fn help_plan(alloc: Global, command: Option<&str>) -> Result<Result<Plan, Usage>
 {
     match command {
         None => shown_help(program(alloc)?),
-        Some("session") => shown_help(session(alloc)?.bin_name("validator session")?),
-        Some("serve") => shown_help(serve(alloc)?.bin_name("validator serve")?),
-        Some("merge") => shown_help(merge(alloc)?.bin_name("validator merge")?),
-        Some("show") => shown_help(show(alloc)?.bin_name("validator show")?),
-        Some("rehearse") => shown_help(rehearse(alloc)?.bin_name("validator rehearse")?),
-        Some("help") => shown_help(help(alloc)?.bin_name("validator help")?),
-        Some(other) => refused(alloc, Fault::Command(other)),
+        Some(name) => command_help(alloc, name),
     }
+}
+
+/// The answer to `help` on a command.
+fn command_help(alloc: Global, name: &str) -> Result<Result<Plan, Usage>, AllocError>
+    ensures { IfOk result (λ answer. taken_as answer ≡ help_on (Some name.now)) }
+{
+    match name {
+        "session" => named_help(session(alloc), "validator session"),
+        "serve" => named_help(serve(alloc), "validator serve"),
+        "merge" => named_help(merge(alloc), "validator merge"),
+        "show" => named_help(show(alloc), "validator show"),
+        "rehearse" => named_help(rehearse(alloc), "validator rehearse"),
+        "help" => named_help(help(alloc), "validator help"),
+        other => refused(alloc, Fault::Command(other)),
+    }
+}
+
+/// The help of a command that is called by this name. The command's error is want of memory.
+fn named_help(
+    command: Result<Command<'_>, AllocError>,
+    name: &str,
+) -> Result<Result<Plan, Usage>, AllocError>
+    ensures { IfOk result (λ answer. taken_as answer ≡ shown) }
+{
+    shown_help(command?.bin_name(name)?)
 }
 
 /// The help of a command.
