@@ -8,9 +8,10 @@ use crate::statuses::statuses_value;
 use crate::words::state_word;
 use edge_kit::{PubKey, hex_text};
 use interchange_io::write_text;
+use json_members::Object;
 use key_custody::KeyStatus;
 use record_replay::KeyState;
-use serde_json::{Value, json};
+use serde_json::Value;
 use slash_defs::File;
 use std::alloc::{AllocError, Global};
 
@@ -19,7 +20,10 @@ pub fn imported_value(alloc: Global, statuses: &[KeyStatus]) -> Result<Value, Al
     ensures { IfOk result (λ v. view v ≡ imported_data statuses.now) }
 {
     let statuses = statuses_value(alloc, statuses)?;
-    json!(in alloc; {"answer": "imported", "data": &statuses})
+    let object = Object::new(alloc)
+        .with_value(alloc, "data", statuses)?
+        .with_text(alloc, "answer", "imported")?;
+    Ok(object.value())
 }
 
 /// What became of the keys that were to be given up, and what is handed out of them.
@@ -30,9 +34,13 @@ pub fn deleted_value(
 ) -> Result<Value, AllocError>
     ensures { IfOk result (λ v. view v ≡ deleted_data statuses.now file.now) }
 {
+    let file = Value::String(write_text(alloc, file)?);
+    let object = Object::new(alloc).with_value(alloc, "slashing_protection", file)?;
     let statuses = statuses_value(alloc, statuses)?;
-    let file = write_text(alloc, file)?;
-    json!(in alloc; {"answer": "deleted", "data": &statuses, "slashing_protection": file.as_str()})
+    let object = object
+        .with_value(alloc, "data", statuses)?
+        .with_text(alloc, "answer", "deleted")?;
+    Ok(object.value())
 }
 
 /// The active keys.
@@ -40,7 +48,10 @@ pub fn listed_value(alloc: Global, keys: &[PubKey]) -> Result<Value, AllocError>
     ensures { IfOk result (λ v. view v ≡ listed_data keys.now) }
 {
     let keys = Value::Array(key_values(alloc, keys)?);
-    json!(in alloc; {"answer": "keys", "data": &keys})
+    let object = Object::new(alloc)
+        .with_value(alloc, "data", keys)?
+        .with_text(alloc, "answer", "keys")?;
+    Ok(object.value())
 }
 
 fn key_values(alloc: Global, keys: &[PubKey]) -> Result<Vec<Value>, AllocError>
@@ -57,13 +68,20 @@ fn key_values(alloc: Global, keys: &[PubKey]) -> Result<Vec<Value>, AllocError>
 pub fn not_closing_value(alloc: Global, state: KeyState) -> Result<Value, AllocError>
     ensures { IfOk result (λ v. view v ≡ not_closing_data state) }
 {
-    json!(in alloc; {"answer": "refused", "reason": "not_closing", "state": state_word(state)})
+    let object = Object::new(alloc)
+        .with_text(alloc, "answer", "refused")?
+        .with_text(alloc, "reason", "not_closing")?
+        .with_text(alloc, "state", state_word(state))?;
+    Ok(object.value())
 }
 
 /// How many grants of a key are open.
 pub fn busy_value(alloc: Global, grants: u64) -> Result<Value, AllocError>
     ensures { IfOk result (λ v. view v ≡ busy_data grants) }
 {
-    let grants = grants.to_string(alloc)?;
-    json!(in alloc; {"answer": "refused", "grants": grants.as_str(), "reason": "busy"})
+    let object = Object::new(alloc)
+        .with_text(alloc, "answer", "refused")?
+        .with_number(alloc, "grants", grants)?
+        .with_text(alloc, "reason", "busy")?;
+    Ok(object.value())
 }

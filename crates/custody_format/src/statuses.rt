@@ -5,8 +5,9 @@ ghost use Rattle.custody_format.specs.Statuses.{status_data, statuses_data};
 
 use crate::messages::message_text;
 use crate::words::status_word;
+use json_members::Object;
 use key_custody::KeyStatus;
-use serde_json::{Value, json};
+use serde_json::Value;
 use std::alloc::{AllocError, Global};
 
 /// What became of keys, in their order, as the Keymanager API has it: an array with `{"message": M, "status": S}`
@@ -36,6 +37,9 @@ fn status_values(alloc: Global, statuses: &[KeyStatus]) -> Result<Vec<Value>, Al
 fn status_value(alloc: Global, status: &KeyStatus) -> Result<Value, AllocError>
     ensures { IfOk result (λ v. view v ≡ status_data status.now) }
 {
-    let message = message_text(alloc, status)?;
-    json!(in alloc; {"message": message.as_str(), "status": status_word(status)})
+    let message = Value::String(message_text(alloc, status)?);
+    let object = Object::new(alloc)
+        .with_value(alloc, "message", message)?
+        .with_text(alloc, "status", status_word(status))?;
+    Ok(object.value())
 }
