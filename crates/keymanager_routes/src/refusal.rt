@@ -1,5 +1,5 @@
 //! Why a request is refused, and the reply that says so.
-ghost use Rattle.std.specs.Prelude.{◌≡◌, ◌++◌, IfOk, string_bytes, codes};
+ghost use Rattle.std.specs.Prelude.{◌≡◌, ◌++◌, IfOk, string_bytes, codes, decimal};
 ghost use Rattle.std.specs.Str.Lossy.{utf8_lossy};
 ghost use Rattle.keymanager_routes.specs.Replies.{message_reply};
 ghost use Rattle.keymanager_routes.specs.Refusals.{fault_word, lists_text, refusal_reply};
@@ -84,14 +84,20 @@ fn lists_reply(alloc: Global, keystores: usize, passwords: usize) -> Result<Repl
 fn lists_text(alloc: Global, keystores: usize, passwords: usize) -> Result<String, AllocError>
     ensures { IfOk result (λ text. string_bytes text ≡ lists_text keystores passwords) }
 {
-    let keystores = keystores.to_string(alloc)?;
-    let passwords = passwords.to_string(alloc)?;
-    let mut text = String::from_str(alloc, "lists differ: ")?;
-    text.push_str(keystores.as_str())?;
-    text.push_str(" keystores, ")?;
-    text.push_str(passwords.as_str())?;
-    text.push_str(" passwords")?;
-    Ok(text)
+    let text = String::from_str(alloc, "lists differ: ")?;
+    let text = with_count(alloc, text, keystores, " keystores, ")?;
+    with_count(alloc, text, passwords, " passwords")
+}
+
+/// The text with a number behind it, and a word behind that.
+fn with_count(alloc: Global, text: String, number: usize, word: &str) -> Result<String, AllocError>
+    ensures { IfOk result (λ next. string_bytes next ≡ string_bytes text ++ decimal number ++ word.now) }
+{
+    let mut next = text;
+    let digits = number.to_string(alloc)?;
+    next.push_str(digits.as_str())?;
+    next.push_str(word)?;
+    Ok(next)
 }
 
 /// Why a text is no interchange file, in a word.

@@ -4,7 +4,8 @@ ghost use Rattle.serde_json.specs.View.{view};
 ghost use Rattle.keymanager_routes.specs.Replies.{message_data, message_reply};
 
 use edge_kit::Items;
-use serde_json::{Value, json};
+use json_members::Object;
+use serde_json::Value;
 use std::alloc::{AllocError, Global};
 
 /// A reply: its status (RFC 9110), and its body, which is JSON.
@@ -41,5 +42,6 @@ impl Reply {
 fn message_value(alloc: Global, text: &str) -> Result<Value, AllocError>
     ensures { IfOk result (λ v. view v ≡ message_data text.now) }
 {
-    json!(in alloc; {"message": text})
+    let object = Object::new(alloc).with_text(alloc, "message", text)?;
+    Ok(object.value())
 }

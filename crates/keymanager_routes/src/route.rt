@@ -82,14 +82,10 @@ pub(crate) fn action_at(route: Route, method: &Method) -> Option<Action>
     ensures { result ≡ action_at route method.now }
 {
     let Route::Keystores = route;
-    let name = method.as_str();
-    if name == "GET" {
-        Some(Action::List)
-    } else if name == "POST" {
-        Some(Action::Import)
-    } else if name == "DELETE" {
-        Some(Action::Delete)
-    } else {
-        None
+    match method.as_str() {
+        "GET" => Some(Action::List),
+        "POST" => Some(Action::Import),
+        "DELETE" => Some(Action::Delete),
+        _ => None,
     }
 }
