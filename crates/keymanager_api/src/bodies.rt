@@ -9,11 +9,12 @@ ghost use Rattle.custody_format.specs.Statuses.{statuses_data};
 ghost use Rattle.keymanager_api.specs.Bodies as bodies;
 
 use custody_format::{reason_word, statuses_value};
-use edge_kit::{Items, PubKey, hex_text};
+use edge_kit::{Items, PubKey};
 use interchange_io::write_text;
+use json_members::Object;
 use key_custody::{Deletion, DeskRefusal, ImportEnd, KeyStatus};
 use keymanager_routes::Reply;
-use serde_json::{Value, json};
+use serde_json::Value;
 use slash_defs::File;
 use std::alloc::{AllocError, Global};
 
@@ -41,7 +42,8 @@ fn listed_value(alloc: Global, keys: &[PubKey]) -> Result<Value, AllocError>
     ensures { IfOk result (λ v. view v ≡ bodies.with_data (array (items_of (map bodies.listed_key keys.now)))) }
 {
     let keys = Value::Array(listed_keys(alloc, keys)?);
-    json!(in alloc; {"data": &keys})
+    let object = Object::new(alloc).with_value(alloc, "data", keys)?;
+    Ok(object.value())
 }
 
 fn listed_keys(alloc: Global, keys: &[PubKey]) -> Result<Vec<Value>, AllocError>
@@ -57,8 +59,11 @@ fn listed_keys(alloc: Global, keys: &[PubKey]) -> Result<Vec<Value>, AllocError>
 fn listed_key(alloc: Global, key: &PubKey) -> Result<Value, AllocError>
     ensures { IfOk result (λ v. view v ≡ bodies.listed_key key.now) }
 {
-    let key = hex_text(alloc, &key.0)?;
-    json!(in alloc; {"derivation_path": "", "readonly": false, "validating_pubkey": key.as_str()})
+    let object = Object::new(alloc)
+        .with_text(alloc, "derivation_path", "")?
+        .with_value(alloc, "readonly", Value::Bool(false))?
+        .with_hex(alloc, "validating_pubkey", &key.0)?;
+    Ok(object.value())
 }
 
 /// The reply to an import.
@@ -82,7 +87,8 @@ fn treated_value(alloc: Global, statuses: &[KeyStatus]) -> Result<Value, AllocEr
     ensures { IfOk result (λ v. view v ≡ bodies.with_data (statuses_data statuses.now)) }
 {
     let statuses = statuses_value(alloc, statuses)?;
-    json!(in alloc; {"data": &statuses})
+    let object = Object::new(alloc).with_value(alloc, "data", statuses)?;
+    Ok(object.value())
 }
 
 fn merge_refused_reply(alloc: Global, refusal: &DeskRefusal) -> Result<Reply, AllocError>
@@ -109,6 +115,8 @@ fn deletion_value(alloc: Global, statuses: &[KeyStatus], file: &File) -> Result<
     ensures { IfOk result (λ v. view v ≡ bodies.deletion_data statuses.now (file_text file.now)) }
 {
     let statuses = statuses_value(alloc, statuses)?;
-    let file = write_text(alloc, file)?;
-    json!(in alloc; {"data": &statuses, "slashing_protection": file.as_str()})
+    let object = Object::new(alloc).with_value(alloc, "data", statuses)?;
+    let file = Value::String(write_text(alloc, file)?);
+    let object = object.with_value(alloc, "slashing_protection", file)?;
+    Ok(object.value())
 }

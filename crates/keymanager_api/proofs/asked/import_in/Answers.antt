@@ -15,3 +15,6 @@ returns-clause-asked c =
     c.in_ok-keystores.ensures c.in_ok-passwords.ensures (ap read_or_refused c.in-Ok.ensures)
     (paired_in-map (λ s. string_bytes s) c.in_ok-keystores.keystores.items c.in_ok-passwords.passwords.items ∙ sym c.in_ok-keystores-2.ensures)
     c.in_ok-file.ensures.file
+
+pub returns-clause-once : goal.returns-clause-once
+returns-clause-once c = c.in_ok-file.ensures.once
