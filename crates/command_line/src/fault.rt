@@ -4,122 +4,56 @@ ghost use Rattle.command_line.specs.Plans.{nothing, taken_as};
 
 use crate::planned::{Plan, Usage};
 use std::alloc::{AllocError, Global};
-use std::fmt;
+use thiserror::Error;
 
 /// Why words that `clap` takes are no command.
-#[derive(Clone, Copy)]
+#[derive(Clone, Copy, Debug, Error)]
 pub(crate) enum Fault<'a> {
     /// No command is named.
+    #[error("error: no command is named")]
     NoCommand,
     /// There is no command of this name.
+    #[error("error: unrecognized subcommand '{0}'")]
     Command(&'a str),
     /// The value of `--genesis` is out of form.
+    #[error("error: invalid value '{0}' for '--genesis <HEX32>': 0x and 64 hex digits are wanted")]
     Genesis(&'a str),
     /// The value of `--journal` is empty.
+    #[error("error: invalid value '' for '--journal <PATH>': a path is wanted")]
     Journal,
     /// The value of `--signer` is no address of a service.
+    #[error("error: invalid value '{0}' for '--signer <URL>': a URL of scheme http with a host is wanted, without user, password, query or fragment")]
     Signer(&'a str),
     /// The value of `--fork` is out of form.
+    #[error("error: invalid value '{0}' for '--fork <PREVIOUS:CURRENT:EPOCH>': two versions, each 0x and 8 hex digits, and an epoch in decimal below 2^64 are wanted, joined by :")]
     Fork(&'a str),
     /// The value of `--listen` is no address that a server listens at.
+    #[error("error: invalid value '{0}' for '--listen <ADDR:PORT>': localhost or four decimals up to 255 joined by dots, and a port up to 65535 in decimal are wanted, joined by :")]
     Listen(&'a str),
     /// The value of `--token` is no token. It is told without the value, which is a secret.
+    #[error("error: invalid value for '--token <TEXT>': 1 to 256 ASCII characters from ! to ~ are wanted")]
     Token,
     /// The value of `--slots` is out of form.
+    #[error("error: invalid value '{0}' for '--slots <N>': a number in decimal below 2^64 is wanted")]
     Slots(&'a str),
     /// The value of `--connections` is out of form.
+    #[error("error: invalid value '{0}' for '--connections <N>': a number in decimal below 2^64 is wanted")]
     Connections(&'a str),
     /// The lanes are out of form, none, or too many.
+    #[error("error: invalid value '{0}' for '--lanes <N>': 1 to 64 in decimal is wanted")]
     Lanes(&'a str),
     /// A node's address is no address of a service.
+    #[error("error: invalid value '{0}' for '<NODE>...': a URL of scheme http with a host is wanted, without user, password, query or fragment")]
     Node(&'a str),
     /// The number of a rehearsal is out of form.
+    #[error("error: invalid value '{0}' for '<NUMBER>': a number in decimal below 2^64 is wanted")]
     Number(&'a str),
     /// The clients of a rehearsal are out of form, none, or too many.
+    #[error("error: invalid value '{0}' for '<CLIENTS>': 1 to 16 in decimal is wanted")]
     Clients(&'a str),
     /// The steps of a rehearsal are out of form or too many.
+    #[error("error: invalid value '{0}' for '<STEPS>': 0 to 20000 in decimal is wanted")]
     Steps(&'a str),
-}
-
-impl<'a> Fault<'a> {
-    /// The value that is out of form, where one is told.
-    fn value(self) -> &'a str {
-        match self {
-            Fault::NoCommand | Fault::Journal | Fault::Token => "",
-            Fault::Command(value)
-            | Fault::Genesis(value)
-            | Fault::Signer(value)
-            | Fault::Fork(value)
-            | Fault::Listen(value)
-            | Fault::Slots(value)
-            | Fault::Connections(value)
-            | Fault::Lanes(value)
-            | Fault::Node(value)
-            | Fault::Number(value)
-            | Fault::Clients(value)
-            | Fault::Steps(value) => value,
-        }
-    }
-
-    /// The argument whose value is out of form, as the usage writes it.
-    fn argument(self) -> &'static str {
-        match self {
-            Fault::NoCommand | Fault::Command(_) => "",
-            Fault::Genesis(_) => "--genesis <HEX32>",
-            Fault::Journal => "--journal <PATH>",
-            Fault::Signer(_) => "--signer <URL>",
-            Fault::Fork(_) => "--fork <PREVIOUS:CURRENT:EPOCH>",
-            Fault::Listen(_) => "--listen <ADDR:PORT>",
-            Fault::Token => "--token <TEXT>",
-            Fault::Slots(_) => "--slots <N>",
-            Fault::Connections(_) => "--connections <N>",
-            Fault::Lanes(_) => "--lanes <N>",
-            Fault::Node(_) => "<NODE>...",
-            Fault::Number(_) => "<NUMBER>",
-            Fault::Clients(_) => "<CLIENTS>",
-            Fault::Steps(_) => "<STEPS>",
-        }
-    }
-
-    /// What is wanted in place of the value.
-    fn wanted(self) -> &'static str {
-        match self {
-            Fault::NoCommand | Fault::Command(_) => "",
-            Fault::Genesis(_) => "0x and 64 hex digits are wanted",
-            Fault::Journal => "a path is wanted",
-            Fault::Signer(_) | Fault::Node(_) => {
-                "a URL of scheme http with a host is wanted, without user, password, query or fragment"
-            }
-            Fault::Fork(_) => {
-                "two versions, each 0x and 8 hex digits, and an epoch in decimal below 2^64 are wanted, joined by :"
-            }
-            Fault::Listen(_) => {
-                "localhost or four decimals up to 255 joined by dots, and a port up to 65535 in decimal are wanted, joined by :"
-            }
-            Fault::Token => "1 to 256 ASCII characters from ! to ~ are wanted",
-            Fault::Slots(_) | Fault::Connections(_) | Fault::Number(_) => {
-                "a number in decimal below 2^64 is wanted"
-            }
-            Fault::Lanes(_) => "1 to 64 in decimal is wanted",
-            Fault::Clients(_) => "1 to 16 in decimal is wanted",
-            Fault::Steps(_) => "0 to 20000 in decimal is wanted",
-        }
-    }
-}
-
-impl fmt::Display for Fault<'_> {
-    fn fmt<W: fmt::Write>(&self, f: &mut fmt::Formatter<W>) -> fmt::Result {
-        let (value, argument, wanted) = (self.value(), self.argument(), self.wanted());
-        match self {
-            Fault::NoCommand => write!(f, "error: no command is named"),
-            Fault::Command(name) => write!(f, "error: unrecognized subcommand '{name}'"),
-            Fault::Token => write!(f, "error: invalid value for '{argument}': {wanted}"),
-            _ => write!(
-                f,
-                "error: invalid value '{value}' for '{argument}': {wanted}"
-            ),
-        }
-    }
 }
 
 /// The answer to words with a fault.
