@@ -1,9 +1,12 @@
-//! Tests of the parts below the desk: files and sockets, locks, roots, messages and calls, records, batches, journals, words, nodes and
-//! duties' schedules. Tables, doubles and what compares stand in the crates of cases, a crate for each.
+//! Tests of the parts below the desk: assertions themselves, files and sockets, locks, roots, messages and calls, records,
+//! batches, journals, words, nodes and the schedules of duties. Tables, doubles and what compares stand in the crates of
+//! cases, a crate for each.
 #![tactic(auto)]
 
 #[cfg(test)]
 mod asserting;
+#[cfg(test)]
+mod assertions;
 #[cfg(test)]
 mod duties;
 #[cfg(test)]
