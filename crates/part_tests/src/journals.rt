@@ -1,11 +1,10 @@
 use crate::asserting::Asserting;
-use edge_kit::{Items, MemSink, PubKey, Root};
+use edge_kit::MemSink;
 use edge_system::Reading;
-use interchange_io::{FILE_LIMIT, ReadFault, in_written_order, read, write};
+use interchange_io::{FILE_LIMIT, ReadFault};
 use journal_cases::{adapters, compactions, endings, interchanges, openings};
 use program_end::{close, finish};
 use record_journal::CompactFault;
-use slash_defs::File;
 use std::test::Fail;
 
 #[test]
@@ -97,17 +96,11 @@ fn an_output_without_room_holds_a_front(rt: HostRuntime) -> Result<(), Fail> {
 
 #[test]
 fn each_text_has_its_outcome(rt: HostRuntime) -> Result<(), Fail> {
-    let alloc = rt.alloc();
-    for (depth, wanted) in [
-        (0, "the file is no JSON value"),
-        (127, "`file` is missing or of another kind"),
-        (128, "the file is no JSON value"),
-    ] {
-        let found = interchanges::outcome(alloc, interchanges::nested(alloc, depth)?.as_bytes())?;
-        assert_eq!(rt; found.as_str(), wanted, "at {depth}");
+    let (seen, alloc) = (Asserting(&rt), rt.alloc());
+    for (depth, wanted) in interchanges::NESTED {
+        interchanges::nested_has_outcome(&seen, alloc, *depth, wanted)?;
     }
-    let found = interchanges::outcome(alloc, b"{\"\xff\":1}")?;
-    assert_eq!(rt; found.as_str(), "the file is no UTF-8 text");
+    interchanges::has_outcome(&seen, alloc, b"{\"\xff\":1}", "the file is no UTF-8 text")?;
     let too_long = ReadFault::TooLong(FILE_LIMIT + 1).to_string(alloc)?;
     assert_eq!(rt;
         too_long.as_str(),
@@ -118,37 +111,9 @@ fn each_text_has_its_outcome(rt: HostRuntime) -> Result<(), Fail> {
 
 #[test]
 fn a_file_is_put_in_written_order(rt: HostRuntime) -> Result<(), Fail> {
-    let alloc = rt.alloc();
-    let (early, late) = (PubKey([1; 48]), PubKey([2; 48]));
-    let mut books = Vec::new(alloc);
-    books.push((late, interchanges::book(alloc, &[9])?))?;
-    books.push((early, interchanges::book(alloc, &[7, 3, 7])?))?;
-    let file = File {
-        genesis: Root([5; 32]),
-        books: Items::from_vec(books),
-    };
-    let sorted = in_written_order(alloc, &file)?;
-    let text = write(alloc, &file)?;
-    let Ok(read) = read(alloc, text.as_slice())? else {
-        return Err(Fail::new("what was written is not read"));
-    };
-    for file in [&sorted, &read] {
-        assert_eq!(rt; file.genesis, Root([5; 32]));
-        let [(first, few), (second, one)] = file.books.as_slice() else {
-            return Err(Fail::new("not both keys"));
-        };
-        assert_eq!(rt; *first, early);
-        assert_eq!(rt;
-            few.blocks.as_slice(),
-            interchanges::book(alloc, &[3, 7])?.blocks.as_slice()
-        );
-        assert_eq!(rt; *second, late);
-        assert_eq!(rt;
-            one.blocks.as_slice(),
-            interchanges::book(alloc, &[9])?.blocks.as_slice()
-        );
-    }
-    Ok(())
+    let seen = Asserting(&rt);
+    interchanges::put_in_order(&seen, rt.alloc())?;
+    interchanges::write_in_order(&seen, rt.alloc())
 }
 
 #[test]
