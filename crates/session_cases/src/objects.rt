@@ -2,7 +2,7 @@
 use crate::sessions::{ACTIVATE, look_at, push_filled, run_fresh};
 use assertions::Asserts;
 use edge_kit::Root;
-use phase0_types::Fork;
+use phase0_types::{AttestationData, BeaconBlockHeader, Checkpoint, Fork};
 use run_doubles::{Ended, KeepingSigner, no_faults};
 use signer_link::{SignObject, SignRequest};
 use std::alloc::{AllocError, Global};
@@ -13,13 +13,13 @@ use validator_cli::Status;
 /// The words of a session whose version changes at epoch 10.
 const FORKED: &str = "validator session --genesis <G0> --fork 0x00000001:0x00000002:10";
 
-/// The object of a header.
-pub const HEADER: &str =
+/// A line with a header.
+const HEADER: &str =
     r#"{"op":"block","pubkey":"<K1>","slot":"9","header":{"slot":"5","proposer_index":"7","parent_root":"0x1111111111111111111111111111111111111111111111111111111111111111","state_root":"0x2222222222222222222222222222222222222222222222222222222222222222","body_root":"0x3333333333333333333333333333333333333333333333333333333333333333"}}
 "#;
 
-/// The object of an attestation.
-pub const ATTESTATION: &str =
+/// A line with attestation data.
+const ATTESTATION: &str =
     r#"{"op":"vote","pubkey":"<K1>","attestation":{"slot":"331","index":"5","beacon_block_root":"0x4444444444444444444444444444444444444444444444444444444444444444","source":{"epoch":"3","root":"0x5555555555555555555555555555555555555555555555555555555555555555"},"target":{"epoch":"12","root":"0x6666666666666666666666666666666666666666666666666666666666666666"}}}
 "#;
 
@@ -85,7 +85,7 @@ fn look_at_signed<T: Asserts>(
 
 /// Runs a line, and looks whether its object was signed by this root: what is answered, that the desk granted the
 /// message that begins so, and that the signer was asked for the object.
-pub fn compare_signed<T: Threads + Wait + Sync, J: Asserts>(
+fn compare_signed<T: Threads + Wait + Sync, J: Asserts>(
     rt: &T,
     seen: &J,
     alloc: Global,
@@ -97,4 +97,60 @@ pub fn compare_signed<T: Threads + Wait + Sync, J: Asserts>(
     let ended = run_line(rt, alloc, line)?;
     seen.holds(was_asked(ended.signer.requests.as_slice(), object));
     look_at_signed(seen, alloc, &ended, message, root)
+}
+
+/// The header of its line.
+fn header() -> SignObject {
+    SignObject::Header(BeaconBlockHeader {
+        slot: 5,
+        proposer_index: 7,
+        parent_root: Root([0x11; 32]),
+        state_root: Root([0x22; 32]),
+        body_root: Root([0x33; 32]),
+    })
+}
+
+/// Has the header signed.
+pub fn sign_header<T: Threads + Wait + Sync, J: Asserts>(
+    rt: &T,
+    seen: &J,
+    alloc: Global,
+) -> Result<(), AllocError> {
+    let root = "0xe013ae98391e6a0e8af2822339a67613d191f19eea04d8b21cf98055e454b972";
+    compare_signed(rt, seen, alloc, HEADER, "block 5", root, &header())
+}
+
+/// The attestation data of their line.
+fn attestation_data() -> SignObject {
+    SignObject::Attestation(AttestationData {
+        slot: 331,
+        index: 5,
+        beacon_block_root: Root([0x44; 32]),
+        source: Checkpoint {
+            epoch: 3,
+            root: Root([0x55; 32]),
+        },
+        target: Checkpoint {
+            epoch: 12,
+            root: Root([0x66; 32]),
+        },
+    })
+}
+
+/// Has the attestation data signed.
+pub fn sign_attestation_data<T: Threads + Wait + Sync, J: Asserts>(
+    rt: &T,
+    seen: &J,
+    alloc: Global,
+) -> Result<(), AllocError> {
+    let root = "0x4fbc00835e976cb4741811aa48cb32980f74381a4760b29498276a753a97c111";
+    compare_signed(
+        rt,
+        seen,
+        alloc,
+        ATTESTATION,
+        "vote 3 12",
+        root,
+        &attestation_data(),
+    )
 }

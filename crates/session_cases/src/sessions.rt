@@ -3,8 +3,8 @@
 use assertions::Asserts;
 use edge_kit::{Disks, MemDisk, PubKey};
 use run_doubles::{
-    Ended, Faults, SESSION, Session, came_to, disks_after, filled, fresh_disks, in_two, play, run,
-    titled,
+    Ended, Faults, SESSION, Session, came_to, disks_after, filled, fresh_disks, in_two, no_faults,
+    play, ready_signer, run, titled,
 };
 use signer_link::{MemSigner, Signer};
 use std::alloc::{AllocError, Global};
@@ -237,15 +237,36 @@ const LATER: &str =
 "#;
 
 /// What a merge that comes later is told.
-pub const LATER_TOLD: &str = r#"{"answer":"merged","keys":"65536"}
+const LATER_TOLD: &str = r#"{"answer":"merged","keys":"65536"}
 {"answer":"refused","have":"65536","new":"1","reason":"too_many_keys"}
 {"answer":"merged","keys":"1"}
 "#;
 
 /// A request to merge a file of 65,536 keys, and the requests of `LATER`.
-pub fn many_keys(alloc: Global) -> Result<String, AllocError> {
+fn many_keys(alloc: Global) -> Result<String, AllocError> {
     let mut input = String::new(alloc);
     push_merge_of(alloc, 65_536, &mut input)?;
     push_filled(alloc, LATER, &mut input)?;
     Ok(input)
+}
+
+/// Runs a session of these requests.
+fn run_many<T: Threads + Wait + Sync>(
+    rt: &T,
+    alloc: Global,
+) -> Result<Ended<MemSigner>, AllocError> {
+    let input = many_keys(alloc)?;
+    let (signer, faults) = (ready_signer(alloc), no_faults(alloc));
+    run_fresh(rt, alloc, SESSION, input.as_str(), signer, faults)
+}
+
+/// Merges more keys than are kept.
+pub fn merge_too_many<T: Threads + Wait + Sync, J: Asserts>(
+    rt: &T,
+    seen: &J,
+    alloc: Global,
+) -> Result<(), AllocError> {
+    let ended = run_many(rt, alloc)?;
+    let events = "0 merged 65536\n0 merged 1\n";
+    look_at(seen, alloc, &ended, Status::Done, LATER_TOLD, events)
 }

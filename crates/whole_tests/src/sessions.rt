@@ -1,10 +1,7 @@
 use crate::asserting::Asserting;
-use edge_kit::Root;
-use phase0_types::{AttestationData, BeaconBlockHeader, Checkpoint};
-use run_doubles::{SESSION, Session, disks_of, filled, fresh_disks, no_faults, ready_signer};
+use run_doubles::{SESSION, disks_of, filled, fresh_disks};
 use session_cases::{compactions, custody, faults, objects, services, sessions, watches};
 use session_scripts::{CUSTODY, FILES, SIGNING, WATCHES};
-use signer_link::SignObject;
 use std::test::Fail;
 use validator_cli::Status;
 use web3_signer::Web3Signer;
@@ -129,24 +126,7 @@ fn a_header_gives_the_slot_and_the_signing_root_of_its_epochs_version(
     rt: HostRuntime,
 ) -> Result<(), Fail> {
     let seen = Asserting(&rt);
-    let root = "0xe013ae98391e6a0e8af2822339a67613d191f19eea04d8b21cf98055e454b972";
-    let object = SignObject::Header(BeaconBlockHeader {
-        slot: 5,
-        proposer_index: 7,
-        parent_root: Root([0x11; 32]),
-        state_root: Root([0x22; 32]),
-        body_root: Root([0x33; 32]),
-    });
-    objects::compare_signed(
-        &rt,
-        &seen,
-        rt.alloc(),
-        objects::HEADER,
-        "block 5",
-        root,
-        &object,
-    )?;
-    Ok(())
+    Ok(objects::sign_header(&rt, &seen, rt.alloc())?)
 }
 
 #[test]
@@ -154,30 +134,7 @@ fn attestation_data_give_the_epochs_and_the_signing_root_of_the_targets_version(
     rt: HostRuntime,
 ) -> Result<(), Fail> {
     let seen = Asserting(&rt);
-    let root = "0x4fbc00835e976cb4741811aa48cb32980f74381a4760b29498276a753a97c111";
-    let object = SignObject::Attestation(AttestationData {
-        slot: 331,
-        index: 5,
-        beacon_block_root: Root([0x44; 32]),
-        source: Checkpoint {
-            epoch: 3,
-            root: Root([0x55; 32]),
-        },
-        target: Checkpoint {
-            epoch: 12,
-            root: Root([0x66; 32]),
-        },
-    });
-    objects::compare_signed(
-        &rt,
-        &seen,
-        rt.alloc(),
-        objects::ATTESTATION,
-        "vote 3 12",
-        root,
-        &object,
-    )?;
-    Ok(())
+    Ok(objects::sign_attestation_data(&rt, &seen, rt.alloc())?)
 }
 
 #[test]
@@ -249,20 +206,7 @@ fn two_runs_over_the_same_disks_answer_as_one(rt: HostRuntime) -> Result<(), Fai
 #[test]
 fn a_merge_that_passes_65536_keys_is_refused(rt: HostRuntime) -> Result<(), Fail> {
     let seen = Asserting(&rt);
-    let alloc = rt.alloc();
-    let input = sessions::many_keys(alloc)?;
-    let (signer, faults) = (ready_signer(alloc), no_faults(alloc));
-    let ended = sessions::run_fresh(&rt, alloc, SESSION, input.as_str(), signer, faults)?;
-    let events = "0 merged 65536\n0 merged 1\n";
-    sessions::look_at(
-        &seen,
-        alloc,
-        &ended,
-        Status::Done,
-        sessions::LATER_TOLD,
-        events,
-    )?;
-    Ok(())
+    Ok(sessions::merge_too_many(&rt, &seen, rt.alloc())?)
 }
 
 #[test]
@@ -277,18 +221,5 @@ fn without_a_watch_nothing_is_waited_for_and_a_journal_that_is_opened_begins_it_
     rt: HostRuntime,
 ) -> Result<(), Fail> {
     let seen = Asserting(&rt);
-    let alloc = rt.alloc();
-    let first = Session::read(alloc, watches::UNWATCHED)?;
-    let again = Session::read(alloc, watches::WATCHED_AGAIN)?;
-    let disks = sessions::play_first(&rt, &seen, alloc, "without a watch", &first)?;
-    sessions::play_over(
-        &rt,
-        &seen,
-        alloc,
-        "a watch anew",
-        watches::WATCHED,
-        disks,
-        &again,
-    )?;
-    Ok(())
+    Ok(watches::watch_anew(&rt, &seen, rt.alloc())?)
 }
