@@ -6,8 +6,6 @@
 #[cfg(test)]
 mod asserting;
 #[cfg(test)]
-mod assertions;
-#[cfg(test)]
 mod duties;
 #[cfg(test)]
 mod journals;
@@ -23,6 +21,8 @@ mod replays;
 mod roots;
 #[cfg(test)]
 mod systems;
+#[cfg(test)]
+mod test_ends;
 #[cfg(test)]
 mod wires;
 #[cfg(test)]
