@@ -1,11 +1,7 @@
-pub mod HouseLemmas
 pub mod MissingLemmas
 pub mod NoteLemmas
 pub mod LiveLemmas
-pub mod PlacedLemmas
 pub mod GuardingLemmas
-pub mod TurnLemmas
-pub mod RunLemmas
 pub mod ShortenLemmas
 pub mod GivesLemmas
 pub mod PartLemmas

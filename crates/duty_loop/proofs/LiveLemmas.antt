@@ -32,11 +32,11 @@ use Rattle.duty_asks.specs.declared.ask.Stop.{Stop}
 use Rattle.duty_asks.specs.declared.ask.Stop.TheVariants as stop
 use Rattle.duty_plans.specs.Hands.{Free, hand_given}
 use Rattle.duty_plans.specs.Seats.{Seat}
-use Rattle.duty_loop.specs.Houses.{house}
+use Rattle.duty_work.specs.Houses.{house}
 use Rattle.duty_loop.specs.Missing.{is_missed, missing_from}
 use Rattle.duty_loop.proofs.MissingLemmas.{missing_all, missing_here, missing_skip}
 use Rattle.duty_loop.specs.Noting.{IsNoted, NotedOn, NotedSo, noted_by}
-use Rattle.duty_loop.proofs.HouseLemmas.{comes_more, quiet_comes, quiet_runs, turn_calls, turn_comes}
+use Rattle.duty_work.proofs.HouseLemmas.{comes_more, quiet_comes, quiet_runs, turn_calls, turn_comes}
 
 pub lived_tells : (epoch now : ℕ) (keys : List PubKey) (s : Standing) → TellsNone (lived_plan epoch now keys s) s
 lived_tells epoch now keys s = λ causes. refl

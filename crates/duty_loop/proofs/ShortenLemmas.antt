@@ -19,9 +19,9 @@ use Rattle.duty_turns.specs.Turns.{NextPlan, calls, compacted, shortens, size_li
 use Rattle.duty_turns.specs.TurnSteps.{Does, Fits, House, SinkSeen}
 use Rattle.duty_turns.specs.declared.held.DutyEnd.{DutyEnd}
 use Rattle.duty_turns.specs.declared.held.DutyEnd.TheVariants as end
-use Rattle.duty_loop.specs.Houses.{Turns, house, next_value}
+use Rattle.duty_work.specs.Houses.{Turns, house, next_value}
 use Rattle.duty_loop.specs.Shortening.{IsCompaction, ShortenedOn, compacted_by}
-use Rattle.duty_loop.proofs.HouseLemmas.{comes_more, turn_calls, turn_comes}
+use Rattle.duty_work.proofs.HouseLemmas.{comes_more, turn_calls, turn_comes}
 
 pub kind_compaction : (r : DeskReply) → IsKind call.Compact r → IsCompaction r
 kind_compaction reply.Disk h = tt

@@ -1,6 +1,5 @@
 pub mod Missing
 pub mod Asked
-pub mod Houses
 pub mod Noting
 pub mod Shortening
 pub mod Guarding

@@ -8,7 +8,7 @@ ghost use Rattle.duty_schedule.specs.Due.{IsDue};
 ghost use Rattle.duty_schedule.specs.declared.rows.Duty.{Duty};
 ghost use Rattle.duty_turns.specs.TurnSteps.{Does, Fits, House, TurnPlan, TurnStep};
 ghost use Rattle.duty_asks.specs.Placed as asked;
-ghost use Rattle.duty_workers.specs.Hands as workers;
+ghost use Rattle.duty_workers.specs.Places as workers;
 ghost use Rattle.duty_loop.specs.Guarding.{Guarded, IsFree};
 
 use desk_machine::DeskCalls;

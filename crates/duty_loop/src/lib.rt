@@ -9,7 +9,6 @@ mod notes;
 mod run;
 mod turn;
 mod watch;
-mod work;
 
 pub use duty_turns::{DutyEnd, Held};
 pub use ends::end_law;

@@ -9,7 +9,7 @@ ghost use Rattle.duty_turns.specs.Standing.{IsHeld, Standing};
 ghost use Rattle.duty_turns.specs.Turns.{PartPlan, calls, epoch_plan, lived_plan, liveness_plan, noted, notes_plan};
 ghost use Rattle.duty_turns.specs.TurnSteps.{Does, Fits, SinkSeen, sink_seen};
 ghost use Rattle.duty_asks.specs.Quiet.{done_value};
-ghost use Rattle.duty_loop.specs.Houses.{house};
+ghost use Rattle.duty_work.specs.Houses.{house};
 ghost use Rattle.duty_loop.specs.Noting.{IsNoted, NotedOn, NotedSo, noted_by};
 
 use crate::keys::missing_keys;

@@ -7,7 +7,7 @@ ghost use Rattle.duty_workers.specs.Working.{IsReady, lanes_seen};
 ghost use Rattle.duty_turns.specs.Turns.{first_standing, turns_plan};
 ghost use Rattle.duty_turns.specs.TurnSteps.{Does, Fits, sink_seen};
 ghost use Rattle.duty_asks.specs.Placed.{HoldsPlaced};
-ghost use Rattle.duty_loop.specs.Houses.{RunsFrom, end_value, house};
+ghost use Rattle.duty_work.specs.Houses.{RunsFrom, end_value, house};
 
 use crate::turn::take_turn;
 use desk_machine::DeskCalls;

@@ -9,16 +9,16 @@ ghost use Rattle.duty_turns.specs.Standing.{Standing};
 ghost use Rattle.duty_turns.specs.Turns.{NextPlan, calls, duties_plan, listed_plan, ready_plan, renewed_plan, shortens, sized, then_on, turn_plan, watch_plan, woken_plan};
 ghost use Rattle.duty_turns.specs.TurnSteps.{SinkSeen, sink_seen};
 ghost use Rattle.duty_asks.specs.Placed.{HoldsPlaced};
-ghost use Rattle.duty_loop.specs.Houses.{IsHolding, PartTurns, Turns, end_of, house};
+ghost use Rattle.duty_work.specs.Houses.{IsHolding, PartTurns, Turns, end_of, house};
 ghost use Rattle.duty_loop.specs.Shortening.{IsCompaction, ShortenedOn, compacted_by};
 
 use crate::keys::active_of;
 use crate::watch::watch;
-use crate::work::{close, do_due};
 use desk_machine::{DeskCall, DeskCalls, DeskReply, KeyStanding};
 use duty_asks::{Stop, ask_duties};
 use duty_plans::DutySetup;
 use duty_turns::{DutyEnd, Held, is_first_slot, slot_of, slot_start};
+use duty_work::{close, do_due};
 use duty_workers::{Lane, refresh_lanes};
 use edge_clock::Clock;
 use edge_kit::{Items, PubKey, Sink};

@@ -7,7 +7,7 @@ ghost use Rattle.duty_turns.specs.Times.{epoch_of};
 ghost use Rattle.duty_turns.specs.Turns.{epochs_plan, missing_epochs, watch_plan};
 ghost use Rattle.duty_turns.specs.TurnSteps.{Does, Fits, sink_seen};
 ghost use Rattle.duty_asks.specs.Quiet.{done_value};
-ghost use Rattle.duty_loop.specs.Houses.{house};
+ghost use Rattle.duty_work.specs.Houses.{house};
 
 use crate::keys::next_missed;
 use crate::live::watch_epoch;

@@ -1,5 +1,4 @@
 pub mod PlaceLemmas
-pub mod StepLemmas
 pub mod TurnLemmas
 pub mod DealLemmas
 pub mod GatherLemmas

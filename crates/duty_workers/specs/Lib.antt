@@ -1,3 +1,3 @@
-pub mod Hands
+pub mod Places
 pub mod Working
 pub mod Shares

@@ -11,11 +11,11 @@ ghost use Rattle.duty_plans.specs.Messages.{block_message, block_post, block_req
 ghost use Rattle.duty_plans.specs.Plans.{allowed_plan, block_plan, granted_plan, made_plan, post_plan, revealed_plan, under, with_got};
 ghost use Rattle.duty_plans.specs.Seats.{Does, at_seat, nodes_seen, signer_seen};
 ghost use Rattle.duty_plans.specs.Steps.{Fits};
-ghost use Rattle.duty_workers.specs.Hands.{HasMessage, MayEnd, given_hand};
+ghost use Rattle.duty_sends.specs.Hands.{HasMessage, MayEnd, given_hand};
 
-use crate::send::{send, settle};
 use desk_machine::{DeskCall, DeskCalls, Grant, Outcome};
 use duty_plans::{DutyResult, Got, SlotWork, block_in, grant_in, signature_in};
+use duty_sends::{send, settle};
 use edge_kit::Sig;
 use node_calls::{Ask, Node, Post, ProposerRow};
 use node_fallback::Nodes;

@@ -3,7 +3,7 @@ ghost use Rattle.std.specs.Prelude.{◌≡◌, ◌<◌, ◌≤◌, All, is_ok, l
 ghost use Rattle.std.specs.Result.{result_ok};
 ghost use Rattle.desk_machine.specs.Machine.{moment_limit};
 ghost use Rattle.duty_plans.specs.Plans.{slot_work};
-ghost use Rattle.duty_workers.specs.Hands.{are_placed};
+ghost use Rattle.duty_workers.specs.Places.{are_placed};
 ghost use Rattle.duty_workers.specs.Shares.{DidLane, IsRefreshedIn};
 ghost use Rattle.duty_workers.specs.Working.{IsReady, WereRefreshed, WorksDone, lane_seen, lanes_seen};
 

@@ -5,7 +5,6 @@
 mod block;
 mod lane;
 mod lanes;
-mod send;
 mod shares;
 mod slot;
 mod vote;

@@ -7,7 +7,7 @@ ghost use Rattle.duty_plans.specs.Hands.{Free};
 ghost use Rattle.duty_plans.specs.Plans.{duty_plan, slot_plan, slot_work};
 ghost use Rattle.duty_plans.specs.Seats.{Does, at_seat, nodes_seen, signer_seen};
 ghost use Rattle.duty_plans.specs.Steps.{Fits};
-ghost use Rattle.duty_workers.specs.Hands.{are_placed, is_placed};
+ghost use Rattle.duty_workers.specs.Places.{are_placed, is_placed};
 
 use crate::block::propose_block;
 use crate::vote::cast_vote;

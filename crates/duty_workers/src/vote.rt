@@ -11,11 +11,12 @@ ghost use Rattle.duty_plans.specs.Messages.{vote_message, vote_post, vote_reques
 ghost use Rattle.duty_plans.specs.Plans.{granted_plan, post_plan, under, vote_plan, voted_plan, with_got};
 ghost use Rattle.duty_plans.specs.Seats.{Does, at_seat, nodes_seen, signer_seen};
 ghost use Rattle.duty_plans.specs.Steps.{Fits};
-ghost use Rattle.duty_workers.specs.Hands.{HasMessage, MayEnd, given_hand, has_place};
+ghost use Rattle.duty_sends.specs.Hands.{HasMessage, MayEnd, given_hand};
+ghost use Rattle.duty_workers.specs.Places.{has_place};
 
-use crate::send::{send, settle};
 use desk_machine::{DeskCall, DeskCalls, Grant, Outcome};
 use duty_plans::{DutyResult, Got, SlotWork, grant_in, signature_in, vote_in};
+use duty_sends::{send, settle};
 use edge_kit::Sig;
 use node_calls::{Ask, AttesterRow, Node, Post, aggregation_bits};
 use node_fallback::Nodes;

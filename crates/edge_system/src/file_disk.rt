@@ -1,23 +1,26 @@
 //! A file of the system as a disk. It tells nothing of its content.
-ghost use Rattle.std.specs.Prelude.{◌≡◌, ◌≤◌, ◌<◌, length, IfOk, OnOk};
+ghost use Rattle.std.specs.Prelude.{◌≡◌, ◌≤◌, ◌<◌, length, IfOk, OnOk, Some};
 ghost use Rattle.std.specs.Result.{result_ok};
 ghost use Rattle.edge_kit.specs.Causes.{HasCause};
 
+use crate::open_file::open_apart;
+use crate::streams::{StandardStream, Standing};
 use crate::told::counted;
 use edge_kit::{Disk, Failed, count_fault};
-use std::fs::{File, Files, OpenFile, OpenOptions, TryLockError};
+use std::fs::{File, Files, OpenFile};
 use std::io;
 use std::io::{Eprint, ErrorKind, Read, Seek, SeekFrom, Write};
-use std::path::Path;
 
 /// The file of a path, with a count of its failures. It is opened at the first call, created where it is
-/// absent, locked against every other open of it until the end, and its directory is synced then. A file that
-/// is locked already is a failure. Once it failed, each later call does: a system may forget what it could not
+/// absent, for its owner alone, locked against every other open of it until the end, and its directory is synced
+/// then. A file that is locked already is a failure, and so is one that is no regular file (a link to one may
+/// stand), the file at the path that it is to be apart from, or that of a standard stream. Once it failed, each later call does: a system may forget what it could not
 /// write, and answer the next sync well. What the system says of a failure is told on standard error.
 #[derive(Drop)]
 pub struct FileDisk<R: Files<File = File> + Eprint + Drop> {
     handle: R,
     path: String,
+    other: Option<String>,
     file: Option<File>,
     faults: u64,
 }
@@ -30,9 +33,20 @@ impl<R: Files<File = File> + Eprint + Drop> FileDisk<R> {
         FileDisk {
             handle,
             path,
+            other: None,
             file: None,
             faults: 0,
         }
+    }
+
+    /// The same, as a file that is never the one at this other path.
+    pub fn apart_from(mut self, other: String) -> Self
+        ensures path { result.path ≡ self.path }
+        ensures other { result.other ≡ Some other }
+        ensures faults { result.faults ≡ self.faults }
+    {
+        self.other = Some(other);
+        self
     }
 
     /// How many calls have failed.
@@ -41,26 +55,6 @@ impl<R: Files<File = File> + Eprint + Drop> FileDisk<R> {
     {
         self.faults
     }
-}
-
-// Opens a file for reading and writing, creates it where it is absent, locks it, and syncs its directory.
-fn open_file<R: Files<File = File>>(files: &R, path: &str) -> io::Result<File> {
-    let file = OpenOptions::new()
-        .read(true)
-        .write(true)
-        .create(true)
-        .open(files, path)?;
-    match file.try_lock() {
-        Ok(()) => {}
-        Err(TryLockError::WouldBlock) => return Err(io::Error::other("already locked")),
-        Err(TryLockError::Error(error)) => return Err(error),
-    }
-    let directory = match Path::new(path).parent() {
-        Some(parent) if !parent.as_str().is_empty() => File::open(files, parent)?,
-        _ => File::open(files, ".")?,
-    };
-    directory.sync_all()?;
-    Ok(file)
 }
 
 // Reads until the buffer is full or the file ends.
@@ -118,11 +112,28 @@ impl<R: Files<File = File> + Eprint + Drop> FileDisk<R> {
         if self.faults > 0 {
             return Err(count_fault(&mut self.faults));
         }
-        let file = match self.file.take() {
+        match self.file.take() {
             Some(file) => Ok(file),
-            None => open_file(&self.handle, &self.path),
-        };
-        counted(file, &self.handle, self.path.as_str(), &mut self.faults)
+            None => self.open(),
+        }
+    }
+
+    // Opens the file. A failure is counted, and told only where standard error is apart from the journal.
+    fn open(&mut self) -> Result<File, Failed>
+        ensures cause { HasCause self.old.faults self.new.faults result }
+    {
+        let other = self.other.as_ref().map(|other| other.as_str());
+        match open_apart(&self.handle, &self.path, other) {
+            Err(_) if !self.may_tell() => Err(count_fault(&mut self.faults)),
+            opened => counted(opened, &self.handle, self.path.as_str(), &mut self.faults),
+        }
+    }
+
+    // Whether standard error is apart from the journal.
+    fn may_tell(&self) -> bool {
+        let path = self.path.as_str();
+        let other = self.other.as_ref().map_or(path, |other| other.as_str());
+        StandardStream::Error.standing(&self.handle, Some((path, other))) == Standing::Apart
     }
 
     // Puts the file back after a call, whose failure is counted.

@@ -5,6 +5,8 @@
 mod adapters;
 mod address;
 mod file_disk;
+mod open_file;
+mod streams;
 mod tcp_door;
 mod tcp_link;
 mod tcp_stream;
@@ -12,5 +14,6 @@ mod told;
 
 pub use adapters::{Reading, Writing};
 pub use file_disk::FileDisk;
+pub use streams::{StandardStream, StandardStreams, Standing};
 pub use tcp_door::{TcpConn, TcpDoor};
 pub use tcp_link::TcpLink;

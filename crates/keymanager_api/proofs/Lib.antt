@@ -1,5 +1,3 @@
 mod RunLemmas
 mod ServeLemmas
-mod KeystoreLemmas
-mod ReplyLemmas
 pub mod VisitLemmas

@@ -1,6 +1,3 @@
-pub mod Members
-pub mod Asking
-pub mod Bodies
 pub mod Plans
 pub mod Serving
 pub mod Doors

@@ -10,10 +10,10 @@ use Rattle.keymanager_routes.specs.Refusals.{refusal_reply}
 use Rattle.keymanager_routes.specs.declared.refusal.Refusal.{Refusal}
 use Rattle.keymanager_routes.specs.declared.refusal.Refusal.TheVariants as refusal
 use Rattle.keymanager_routes.specs.declared.reply.Reply.{Reply}
-use Rattle.keymanager_api.specs.Asking.{asked_of}
-use Rattle.keymanager_api.specs.Bodies.{listed_reply, import_reply, deletion_reply}
-use Rattle.keymanager_api.specs.declared.asked.Asked.{Asked}
-use Rattle.keymanager_api.specs.declared.asked.Asked.TheVariants as asked
+use Rattle.keymanager_bodies.specs.Asking.{asked_of}
+use Rattle.keymanager_bodies.specs.Bodies.{listed_reply, import_reply, deletion_reply}
+use Rattle.keymanager_bodies.specs.declared.asked.Asked.{Asked}
+use Rattle.keymanager_bodies.specs.declared.asked.Asked.TheVariants as asked
 
 -- of a request that passed the checks
 abbrev pub asked_plan : ℕ → Asked → ClientPlan Reply

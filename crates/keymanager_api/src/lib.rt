@@ -3,10 +3,7 @@
 #![tactic(auto)]
 
 mod answering;
-mod asked;
-mod bodies;
 mod connections;
-mod members;
 mod send;
 mod serve;
 

@@ -34,7 +34,7 @@ use Rattle.session_world.proofs.StartLemmas.{starts_again, starts_keep}
 use Rattle.session_world.proofs.WholeLemmas.{whole_over}
 
 -- a stop behind more events, where these come first
-further : (genesis : Root) (client : ℕ) (state : State) (front first events : List Event) (c : Files) → RunsFrom state front → StopsBehind genesis client (state_over state front) first events c → StopsBehind genesis client state (front ++ first) (front ++ events) c
+pub further : (genesis : Root) (client : ℕ) (state : State) (front first events : List Event) (c : Files) → RunsFrom state front → StopsBehind genesis client (state_over state front) first events c → StopsBehind genesis client state (front ++ first) (front ++ events) c
 unfolding later
 further genesis client state front first events c runs s = record {
   stop = later genesis client state front events c runs s.stop;
@@ -43,7 +43,7 @@ further genesis client state front first events c runs s = record {
 }
 
 -- nothing was done
-idle : {D : Type 0} (moment : D → ℕ) (leaves : D → ℕ → List ℕ → Type 0) (genesis : Root) (disks_before disks_now : Disks D) (client : ℕ) (past : List Event) → disks_now ≡ disks_before → LeftBy leaves genesis client past disks_before (now_of moment disks_before)
+pub idle : {D : Type 0} (moment : D → ℕ) (leaves : D → ℕ → List ℕ → Type 0) (genesis : Root) (disks_before disks_now : Disks D) (client : ℕ) (past : List Event) → disks_now ≡ disks_before → LeftBy leaves genesis client past disks_before (now_of moment disks_before)
     → StaysSo moment leaves genesis client past disks_before disks_now
 idle {D} moment leaves genesis disks_before disks_now client past same left =
     let S : Disks D → Type 0 = λ d. StaysSo moment leaves genesis client past disks_before d in

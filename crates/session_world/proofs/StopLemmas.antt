@@ -181,7 +181,7 @@ module _ {D : Type 0} (moment : D → ℕ) (leaves : D → ℕ → List ℕ → 
   events_stop genesis first last (Crash c within done now watch ∷ es) none is path state runs stands left k files during leaves_it = absurd none
 
   -- the same, where their calls are these
-  calls_stop_in : (genesis : Root) (first last : Seen D) (es : List Event) (made : List (DeskCall × DeskReply)) → calls_in es ≡ made → NoStop es → first.contents.genesis ≡ genesis → (state : State) → RunsFrom state es → DeskStands first.contents state
+  pub calls_stop_in : (genesis : Root) (first last : Seen D) (es : List Event) (made : List (DeskCall × DeskReply)) → calls_in es ≡ made → NoStop es → first.contents.genesis ≡ genesis → (state : State) → RunsFrom state es → DeskStands first.contents state
       → LeavesDesk moment leaves (disks_in first) first.contents → (path : Path moment leaves faults first made last) (k : Moments) (files : Files) → IsDuring moment leaves faults first made last path k → LeftAt leaves (disks_in last) k files → StopsIn genesis client state es files
   calls_stop_in genesis first last es made are none is state runs stands left =
       let Q : List (DeskCall × DeskReply) → Type 0 = λ l. (path : Path moment leaves faults first l last) (k : Moments) (files : Files) → IsDuring moment leaves faults first l last path k → LeftAt leaves (disks_in last) k files → StopsIn genesis client state es files in
@@ -196,7 +196,7 @@ module _ {D : Type 0} (moment : D → ℕ) (leaves : D → ℕ → List ℕ → 
   same_desk_leaves : (a b : Seen D) → b ≡ a → LeavesDesk moment leaves (disks_in a) a.contents → LeavesDesk moment leaves (disks_in b) b.contents × (b.contents.genesis ≡ a.contents.genesis)
   same_desk_leaves a b e left = let P : Seen D → Type 0 = λ x. LeavesDesk moment leaves (disks_in x) x.contents × (x.contents.genesis ≡ a.contents.genesis) in subst P (sym e) (left, refl)
 
-  led : (a b : Seen D) (made : List (DeskCall × DeskReply)) → Path moment leaves faults a made b → LeavesDesk moment leaves (disks_in a) a.contents → LeavesDesk moment leaves (disks_in b) b.contents × (b.contents.genesis ≡ a.contents.genesis)
+  pub led : (a b : Seen D) (made : List (DeskCall × DeskReply)) → Path moment leaves faults a made b → LeavesDesk moment leaves (disks_in a) a.contents → LeavesDesk moment leaves (disks_in b) b.contents × (b.contents.genesis ≡ a.contents.genesis)
   led a b [] path left = same_desk_leaves a b path left
   led a b (x ∷ made) path left = let rest = led path.0 b made path.2 path.1.left in (rest.0, rest.1 ∙ path.1.counted.genesis)
 

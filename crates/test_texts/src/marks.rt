@@ -60,7 +60,7 @@ fn push_file_end(text: &mut String, digit: char) -> Result<(), AllocError> {
     push_quoted(text, "','interchange_format_version':'5'}}")
 }
 
-/// Adds `0x` and digits, each so many times.
+/// Adds `0x` and digits, each that many times.
 fn push_hex(text: &mut String, runs: &[(char, u8)]) -> Result<(), AllocError> {
     text.push_str("0x")?;
     for (digit, count) in runs {
@@ -69,7 +69,7 @@ fn push_hex(text: &mut String, runs: &[(char, u8)]) -> Result<(), AllocError> {
     Ok(())
 }
 
-/// Adds a digit so many times.
+/// Adds a digit that many times.
 fn push_digits(text: &mut String, digit: char, count: u8) -> Result<(), AllocError> {
     for _ in 0..count {
         text.push(digit)?;

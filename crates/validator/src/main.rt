@@ -1,42 +1,31 @@
 //! The validator client: the real objects, and the top call.
 #![tactic(auto)]
 
-ghost use Rattle.std.specs.Prelude.{◌≡◌, [], IfOk, Ok, Some, codes, map, option_map, string_bytes, ◌++◌};
+ghost use Rattle.std.specs.Prelude.{◌≡◌, [], IfOk};
 ghost use Rattle.edge_kit.specs.OnMemDisks.{disk_bytes};
-ghost use Rattle.command_line.specs.Plans.{asked_of, taken_as};
-ghost use Rattle.validator.specs.Files.{files_at, files_of};
-ghost use Rattle.validator.specs.Services.{listen_of, nodes_of, signer_of};
 
 use beacon_node::BeaconNode;
-use command_line::{ListenAddress, ServeOptions};
+use command_line::ListenAddress;
 use edge_clock::SystemClock;
 use edge_kit::{Disk, Disks, Door, MemDisk};
-use edge_system::{FileDisk, Reading, TcpDoor, TcpLink, Writing};
+use edge_system::{
+    FileDisk, Reading, StandardStream, StandardStreams, Standing, TcpDoor, TcpLink, Writing,
+};
 use node_calls::Node;
+use plan_places::{Places, Services, named};
 use service_url::ServiceUrl;
 use signer_link::{MemSigner, Signer};
 use std::alloc::{AllocError, Global};
-use std::io::Eprint;
+use std::fs::{File, Files};
+use std::io::{Eprint, Input, Print};
 use std::net::Net;
 use std::process::ExitCode;
 use std::rt::{Clock, Env};
 use std::sync::Wait;
 use std::thread::Threads;
 use std::{env, io};
-use validator_cli::{Plan, Status, plan, run_validator};
+use validator_cli::{Status, run_validator};
 use web3_signer::Web3Signer;
-
-/// What words name of the outside.
-struct Places {
-    /// The paths of the two files of the journal, if they name one.
-    files: Option<(String, String)>,
-    /// The address of the signing service, if they name one.
-    signer: Option<ServiceUrl>,
-    /// The addresses of the beacon nodes, in their order.
-    nodes: Vec<ServiceUrl>,
-    /// Where connections are taken, if anywhere.
-    listen: Option<ListenAddress>,
-}
 
 /// The words of the command line. Where one is no UTF-8 there are none, which is no command.
 fn words<R: Env + AllocGlobal>(rt: &R) -> Result<Vec<String>, AllocError> {
@@ -50,121 +39,6 @@ fn words<R: Env + AllocGlobal>(rt: &R) -> Result<Vec<String>, AllocError> {
         words.push(word)?;
     }
     Ok(words)
-}
-
-/// What the words name of the outside.
-fn named(alloc: Global, words: &[String]) -> Result<Places, AllocError>
-    ensures files { IfOk result (λ x. option_map (λ f. (string_bytes f.0, string_bytes f.1)) x.files ≡ files_of (asked_of (map string_bytes words.now))) }
-    ensures signer { IfOk result (λ x. x.signer ≡ signer_of (asked_of (map string_bytes words.now))) }
-    ensures nodes { IfOk result (λ x. x.nodes.items ≡ nodes_of (asked_of (map string_bytes words.now))) }
-    ensures listen { IfOk result (λ x. x.listen ≡ listen_of (asked_of (map string_bytes words.now))) }
-{
-    match plan(alloc, words)? {
-        Ok(plan) => named_by(alloc, plan),
-        Err(_) => Ok(Places {
-            files: None,
-            signer: None,
-            nodes: Vec::new(alloc),
-            listen: None,
-        }),
-    }
-}
-
-/// What a plan names of the outside.
-fn named_by(alloc: Global, plan: Plan) -> Result<Places, AllocError>
-    ensures files { IfOk result (λ x. option_map (λ f. (string_bytes f.0, string_bytes f.1)) x.files ≡ files_of (taken_as (Ok plan))) }
-    ensures signer { IfOk result (λ x. x.signer ≡ signer_of (taken_as (Ok plan))) }
-    ensures nodes { IfOk result (λ x. x.nodes.items ≡ nodes_of (taken_as (Ok plan))) }
-    ensures listen { IfOk result (λ x. x.listen ≡ listen_of (taken_as (Ok plan))) }
-{
-    let files = plan_files(alloc, &plan)?;
-    Ok(places_in(alloc, files, plan))
-}
-
-/// What a plan names of the outside, beside these paths.
-fn places_in(alloc: Global, files: Option<(String, String)>, plan: Plan) -> Places
-    ensures files { result.files ≡ files }
-    ensures signer { result.signer ≡ signer_of (taken_as (Ok plan)) }
-    ensures nodes { result.nodes.items ≡ nodes_of (taken_as (Ok plan)) }
-    ensures listen { result.listen ≡ listen_of (taken_as (Ok plan)) }
-{
-    match plan {
-        Plan::Serve(options) => places_of(files, options),
-        Plan::Session { signer, .. } => Places {
-            files,
-            signer,
-            nodes: Vec::new(alloc),
-            listen: None,
-        },
-        _ => Places {
-            files,
-            signer: None,
-            nodes: Vec::new(alloc),
-            listen: None,
-        },
-    }
-}
-
-/// What the options of a server name of the outside, beside these paths.
-fn places_of(files: Option<(String, String)>, options: ServeOptions) -> Places
-    ensures files { result.files ≡ files }
-    ensures signer { result.signer ≡ Some options.signer }
-    ensures nodes { result.nodes.items ≡ options.nodes }
-    ensures listen { result.listen ≡ Some options.listen }
-{
-    let ServeOptions {
-        genesis: _genesis,
-        journal: _journal,
-        signer,
-        listen,
-        token: _token,
-        watch: _watch,
-        slots: _slots,
-        connections: _connections,
-        lanes: _lanes,
-        nodes,
-    } = options;
-    Places {
-        files,
-        signer: Some(signer),
-        nodes: nodes.into_vec(),
-        listen: Some(listen),
-    }
-}
-
-/// The paths of the two files of a plan's journal, if it has one.
-fn plan_files(alloc: Global, plan: &Plan) -> Result<Option<(String, String)>, AllocError>
-    ensures { IfOk result (λ files. option_map (λ f. (string_bytes f.0, string_bytes f.1)) files ≡ files_of (taken_as (Ok plan.now))) }
-{
-    let path = match plan {
-        Plan::Session { journal, .. } => match journal {
-            Some(path) => path.as_str(),
-            None => return Ok(None),
-        },
-        Plan::Serve(options) => options.journal.as_str(),
-        Plan::Merge { journal, .. } | Plan::Show { journal, .. } => journal.as_str(),
-        Plan::Rehearse { .. } | Plan::Shown(_) => return Ok(None),
-    };
-    let files = path_files(alloc, path)?;
-    Ok(Some(files))
-}
-
-/// The paths of the two files of a journal's path.
-fn path_files(alloc: Global, path: &str) -> Result<(String, String), AllocError>
-    ensures { IfOk result (λ f. (string_bytes f.0, string_bytes f.1) ≡ files_at path.now) }
-{
-    let first = with_ending(alloc, path, ".a")?;
-    let second = with_ending(alloc, path, ".b")?;
-    Ok((first, second))
-}
-
-/// A path with an ending.
-fn with_ending(alloc: Global, path: &str, ending: &str) -> Result<String, AllocError>
-    ensures { IfOk result (λ text. string_bytes text ≡ path.now ++ ending.now) }
-{
-    let mut text = String::from_str(alloc, path)?;
-    text.push_str(ending)?;
-    Ok(text)
 }
 
 /// Two empty disks in memory, which end with the run.
@@ -221,20 +95,17 @@ fn door_at<'a, R: Net + Eprint>(
 fn run_signing<
     R: Threads + Wait + Sync + Input + Print + Eprint + Net + Clock,
     D: Disk + Drop + Send,
->(
-    rt: &R,
-    alloc: Global,
-    words: &[String],
-    disks: Disks<D>,
-    service: Option<ServiceUrl>,
-    nodes: Vec<ServiceUrl>,
-    listen: Option<ListenAddress>,
-) -> Status
+>(rt: &R, alloc: Global, words: &[String], disks: Disks<D>, services: Services) -> Status
 where
     R::Stream: Send,
     R::Listener: Send,
 {
-    let Some(service) = service else {
+    let Services {
+        signer,
+        nodes,
+        listen,
+    } = services;
+    let Some(service) = signer else {
         let signer = MemSigner::new(alloc, Vec::new(alloc), Vec::new(alloc));
         return run_asking(rt, alloc, words, disks, signer, nodes, listen);
     };
@@ -327,36 +198,157 @@ fn run<
     ending.status
 }
 
-/// The status of a run whose words are known: over the files of the journal that they name, else over disks
-/// in memory; and with the services that they name.
-fn main(rt: HostRuntime) -> ExitCode {
-    let alloc = rt.alloc();
-    let Ok(words) = words(&rt) else {
-        return ExitCode::from(Status::OutOfMemory.code());
-    };
-    let Ok(
-        Places {
-            files,
-            signer,
-            nodes,
-            listen,
-        },
-    ) = named(alloc, words.as_slice())
-    else {
-        return ExitCode::from(Status::OutOfMemory.code());
-    };
-    let words = words.as_slice();
-    if let Some((first, second)) = files {
-        let disks = Disks {
-            first: FileDisk::new(&rt, first),
-            second: FileDisk::new(&rt, second),
-        };
-        let status = run_signing(&rt, alloc, words, disks, signer, nodes, listen);
-        return ExitCode::from(status.code());
+/// Two disks over files, each apart from the other.
+fn file_disks<'a, R: Files<File = File> + Eprint>(
+    rt: &'a R,
+    alloc: Global,
+    first: String,
+    second: String,
+) -> Result<Disks<FileDisk<&'a R>>, AllocError> {
+    let other = String::from_str(alloc, second.as_str())?;
+    let another = String::from_str(alloc, first.as_str())?;
+    Ok(Disks {
+        first: FileDisk::new(rt, first).apart_from(other),
+        second: FileDisk::new(rt, second).apart_from(another),
+    })
+}
+
+/// The paths of the files of the journal that the words name, if they name one.
+fn journal_paths(places: &Places) -> Option<(&str, &str)> {
+    match &places.files {
+        Some((first, second)) => Some((first.as_str(), second.as_str())),
+        None => None,
     }
-    let Ok(disks) = memory_disks(alloc) else {
-        return ExitCode::from(Status::OutOfMemory.code());
+}
+
+/// Writes a line to standard error, unless its file is a journal's, or may be.
+fn tell<R: Files<File = File> + Eprint>(rt: &R, places: &Places, why: &str) {
+    if StandardStream::Error.standing(rt, journal_paths(places)) == Standing::Apart {
+        let _ = eprintln!(rt; "validator: {why}");
+    }
+}
+
+/// Whether nothing that is written to standard output or standard error goes into a file of a journal. Where something
+/// would, or may, only the other of the two streams reports it; where both would, none does. Where the words name no
+/// journal, what the system does not show bars nothing.
+fn are_apart<R: Files<File = File> + Print + Eprint>(rt: &R, places: &Places) -> bool {
+    let journal = journal_paths(places);
+    let output = StandardStream::Output.standing(rt, journal);
+    let error = StandardStream::Error.standing(rt, journal);
+    match (output, error) {
+        (Standing::Apart, Standing::Apart) => true,
+        (Standing::Journal, Standing::Apart) => {
+            let _ = eprintln!(rt; "validator: standard output is a file of a journal");
+            false
+        }
+        (Standing::Apart, Standing::Journal) => {
+            let _ = println!(rt; "validator: standard error is a file of a journal");
+            false
+        }
+        (Standing::Journal, _) | (_, Standing::Journal) => false,
+        _ => journal.is_none() || tell_unknown(rt, output, error),
+    }
+}
+
+/// Reports that of one stream it cannot be seen whether its file is the journal's, on the other one, where that is apart.
+/// Answers that the run may not go on.
+fn tell_unknown<R: Print + Eprint>(rt: &R, output: Standing, error: Standing) -> bool {
+    const UNKNOWN: &str =
+        "validator: it cannot be seen whether the other output is a file of the journal";
+    match (output, error) {
+        (Standing::Apart, _) => {
+            let _ = println!(rt; "{UNKNOWN}");
+        }
+        (_, Standing::Apart) => {
+            let _ = eprintln!(rt; "{UNKNOWN}");
+        }
+        _ => {}
+    }
+    false
+}
+
+/// What a run begins with.
+struct Begun {
+    /// What keeps the numbers of the standard streams from what is opened.
+    streams: StandardStreams,
+    /// The words of the command line.
+    words: Vec<String>,
+    /// What they name of the outside.
+    places: Places,
+}
+
+/// The words of the command line, and what they name of the outside.
+fn named_words<R: Env + AllocGlobal>(rt: &R) -> Result<(Vec<String>, Places), AllocError> {
+    let words = words(rt)?;
+    let places = named(rt.alloc(), words.as_slice())?;
+    Ok((words, places))
+}
+
+/// Reads the words, and takes the standard streams before anything is opened. Without a standard output nothing is begun,
+/// since nothing could be answered; nor where an output is a file of a journal.
+fn begin<R: Files<File = File> + Env + Print + Eprint + AllocGlobal>(
+    rt: &R,
+) -> Result<Begun, Status> {
+    let Ok((words, places)) = named_words(rt) else {
+        return Err(Status::OutOfMemory);
     };
-    let status = run_signing(&rt, alloc, words, disks, signer, nodes, listen);
+    match take_streams(rt, &places) {
+        Ok(streams) => Ok(Begun {
+            streams,
+            words,
+            places,
+        }),
+        Err(status) => Err(status),
+    }
+}
+
+/// Takes the standard streams, and looks whether the outputs are there and apart from the journal.
+fn take_streams<R: Files<File = File> + Print + Eprint>(
+    rt: &R,
+    places: &Places,
+) -> Result<StandardStreams, Status> {
+    let Ok(streams) = StandardStreams::take(rt) else {
+        tell(
+            rt,
+            places,
+            "the standard streams cannot be taken: no /dev/null, or too many open files",
+        );
+        return Err(Status::WriteFault);
+    };
+    if !streams.has_output() {
+        tell(rt, places, "standard output is closed");
+        return Err(Status::WriteFault);
+    }
+    if are_apart(rt, places) {
+        Ok(streams)
+    } else {
+        Err(Status::DiskFault)
+    }
+}
+
+/// The status of the run: over the files of the journal that the words name, else over disks in memory; and with the
+/// services that they name. The standard streams are kept to the end.
+fn main(rt: HostRuntime) -> ExitCode {
+    let Begun {
+        streams,
+        words,
+        places,
+    } = match begin(&rt) {
+        Ok(begun) => begun,
+        Err(status) => return ExitCode::from(status.code()),
+    };
+    let alloc = rt.alloc();
+    let Places { files, services } = places;
+    let status = match files {
+        Some((first, second)) => match file_disks(&rt, alloc, first, second) {
+            Ok(disks) => run_signing(&rt, alloc, words.as_slice(), disks, services),
+            Err(AllocError) => Status::OutOfMemory,
+        },
+        None => match memory_disks(alloc) {
+            Ok(disks) => run_signing(&rt, alloc, words.as_slice(), disks, services),
+            Err(AllocError) => Status::OutOfMemory,
+        },
+    };
+    drop(streams);
     ExitCode::from(status.code())
 }

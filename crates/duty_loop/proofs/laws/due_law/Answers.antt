@@ -1,4 +1,4 @@
-use Rattle.duty_loop.proofs.PlacedLemmas.{due_placed}
+use Rattle.duty_work.proofs.PlacedLemmas.{due_placed}
 use Rattle.duty_loop.proofs.laws.due_law.Goals as goal
 
 pub returns : goal.returns

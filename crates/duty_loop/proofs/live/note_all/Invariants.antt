@@ -5,7 +5,7 @@ use Rattle.duty_plans.specs.Seats.{Seat}
 use Rattle.duty_turns.specs.Standing.{Standing}
 use Rattle.duty_turns.specs.Turns.{notes_plan}
 use Rattle.duty_turns.specs.TurnSteps.{Does, Fits, SinkSeen}
-use Rattle.duty_loop.specs.Houses.{house}
+use Rattle.duty_work.specs.Houses.{house}
 use Rattle.duty_loop.proofs.live.note_all.Given as goal
 
 abbrev pub invariant-notes : goal.invariant-notes

@@ -1,4 +1,4 @@
-use Rattle.duty_loop.proofs.TurnLemmas.{turns_begun, turns_over, turns_end, turns_go}
+use Rattle.duty_work.proofs.TurnLemmas.{turns_begun, turns_over, turns_end, turns_go}
 use Rattle.duty_loop.proofs.run.run_duties.Goals as goal
 
 pub turns-init : goal.turns-init

@@ -3,8 +3,8 @@ use Rattle.duty_plans.specs.Seats.{nodes_seen}
 use Rattle.duty_turns.specs.TurnSteps.{sink_seen}
 use Rattle.duty_asks.specs.Placed.{HoldsPlaced}
 use Rattle.duty_workers.specs.Working.{IsReady, lanes_seen}
-use Rattle.duty_loop.specs.Houses.{house}
-use Rattle.duty_loop.proofs.TurnLemmas.{TurnsSoFar}
+use Rattle.duty_work.specs.Houses.{house}
+use Rattle.duty_work.proofs.TurnLemmas.{TurnsSoFar}
 use Rattle.duty_loop.proofs.run.run_duties.Given as goal
 
 abbrev pub invariant-turns : goal.invariant-turns

@@ -1,6 +1,6 @@
 use Rattle.duty_turns.specs.Turns.{duties_plan, renewed_plan, then_on, watch_plan}
-use Rattle.duty_loop.proofs.HouseLemmas.{part_stops, part_then}
-use Rattle.duty_loop.proofs.RunLemmas.{kept}
+use Rattle.duty_work.proofs.HouseLemmas.{part_stops, part_then}
+use Rattle.duty_work.proofs.RunLemmas.{kept}
 use Rattle.duty_loop.proofs.turn.ask_all.Goals as goal
 
 pub returns-in-Err-clause-runs : goal.returns-in-Err-clause-runs

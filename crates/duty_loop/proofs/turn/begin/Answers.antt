@@ -1,7 +1,7 @@
 use Rattle.std.proofs.Common.{◌<◌, ◌≤◌, [], refl, subst}
 use Rattle.duty_turns.specs.Turns.{at_slot, woken_plan}
-use Rattle.duty_loop.proofs.RunLemmas.{closed_as, holds_at, lanes_short, refreshed, refreshed_short}
-use Rattle.duty_loop.proofs.TurnLemmas.{woken_late, woken_now}
+use Rattle.duty_work.proofs.RunLemmas.{closed_as, holds_at, lanes_short, refreshed, refreshed_short}
+use Rattle.duty_work.proofs.TurnLemmas.{woken_late, woken_now}
 use Rattle.duty_loop.proofs.turn.begin.Goals as goal
 
 pub returns-then-slot-later-clause-runs : goal.returns-then-slot-later-clause-runs

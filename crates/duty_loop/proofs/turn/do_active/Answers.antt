@@ -1,9 +1,9 @@
 use Rattle.std.proofs.Common.{◌≡◌, true, refl, sym, subst, List}
 use Rattle.duty_schedule.specs.declared.rows.Duty.{Duty}
 use Rattle.duty_turns.specs.Turns.{with_active}
-use Rattle.duty_workers.specs.Hands.{are_placed}
-use Rattle.duty_loop.proofs.PlacedLemmas.{due_placed}
-use Rattle.duty_loop.proofs.RunLemmas.{looked, short}
+use Rattle.duty_workers.specs.Places.{are_placed}
+use Rattle.duty_work.proofs.PlacedLemmas.{due_placed}
+use Rattle.duty_work.proofs.RunLemmas.{looked, short}
 use Rattle.duty_loop.proofs.turn.do_active.Goals as goal
 
 pub do_due-requires-clause-places : goal.do_due-requires-clause-places

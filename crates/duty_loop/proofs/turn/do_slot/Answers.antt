@@ -1,5 +1,5 @@
 use Rattle.std.proofs.Common.{None, []}
-use Rattle.duty_loop.proofs.RunLemmas.{short, slot_goes, slot_stops}
+use Rattle.duty_work.proofs.RunLemmas.{short, slot_goes, slot_stops}
 use Rattle.duty_loop.proofs.turn.do_slot.Goals as goal
 
 pub do_active-requires-clause-held : goal.do_active-requires-clause-held

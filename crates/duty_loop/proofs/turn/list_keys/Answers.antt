@@ -1,4 +1,4 @@
-use Rattle.duty_loop.proofs.RunLemmas.{listed_goes, listed_short}
+use Rattle.duty_work.proofs.RunLemmas.{listed_goes, listed_short}
 use Rattle.duty_loop.proofs.turn.list_keys.Goals as goal
 
 pub returns-in-Keys-clause-runs : goal.returns-in-Keys-clause-runs

@@ -1,6 +1,6 @@
 use Rattle.std.proofs.lemmas.Result.{on_ok_weaker}
 use Rattle.duty_asks.specs.Placed.{HoldsPlaced}
-use Rattle.duty_loop.proofs.RunLemmas.{waited}
+use Rattle.duty_work.proofs.RunLemmas.{waited}
 use Rattle.duty_loop.proofs.turn.take_turn.Goals as goal
 
 pub returns-clause-held : goal.returns-clause-held

@@ -5,7 +5,7 @@ use Rattle.duty_turns.specs.Standing.{IsHeld, Standing}
 use Rattle.duty_turns.specs.Times.{epoch_of}
 use Rattle.duty_turns.specs.Turns.{epochs_plan, missing_epochs}
 use Rattle.duty_turns.specs.TurnSteps.{Does, Fits, sink_seen}
-use Rattle.duty_loop.specs.Houses.{house}
+use Rattle.duty_work.specs.Houses.{house}
 use Rattle.duty_loop.specs.Missing.{is_missed, missing_from}
 use Rattle.duty_loop.proofs.watch.watch_epochs.Given as goal
 

@@ -4,7 +4,7 @@ use Rattle.node_calls.specs.declared.ask.Ask.TheVariants as ask
 use Rattle.duty_plans.specs.Hands.{Holds}
 use Rattle.duty_plans.specs.Reading.{block_of}
 use Rattle.duty_plans.specs.Plans.{made_plan, settles, with_got}
-use Rattle.duty_workers.proofs.StepLemmas.{runs_ask, runs_settle, runs_dropped, got_is}
+use Rattle.duty_sends.proofs.StepLemmas.{runs_ask, runs_settle, runs_dropped, got_is}
 use Rattle.duty_workers.proofs.block.ask.Goals as goal
 
 pub returns-in-Given-clause-runs : goal.returns-in-Given-clause-runs

@@ -2,7 +2,7 @@ use Rattle.std.proofs.Common.{refl}
 use Rattle.desk_machine.specs.declared.call.DeskCall.TheVariants as call
 use Rattle.duty_plans.specs.Messages.{block_post, block_request}
 use Rattle.duty_plans.specs.Plans.{granted_plan}
-use Rattle.duty_workers.proofs.StepLemmas.{runs_leave}
+use Rattle.duty_sends.proofs.StepLemmas.{runs_leave}
 use Rattle.duty_workers.proofs.block.propose.Goals as goal
 
 pub returns-clause-runs : goal.returns-clause-runs

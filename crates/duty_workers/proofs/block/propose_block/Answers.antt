@@ -1,7 +1,7 @@
 use Rattle.std.proofs.Common.{refl}
 use Rattle.desk_machine.specs.declared.call.DeskCall.TheVariants as call
 use Rattle.duty_plans.specs.Plans.{allowed_plan}
-use Rattle.duty_workers.proofs.StepLemmas.{runs_leave}
+use Rattle.duty_sends.proofs.StepLemmas.{runs_leave}
 use Rattle.duty_workers.proofs.block.propose_block.Goals as goal
 
 pub returns-clause-runs : goal.returns-clause-runs

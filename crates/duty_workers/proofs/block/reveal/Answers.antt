@@ -4,7 +4,7 @@ use Rattle.duty_plans.specs.Steps.{Fits}
 use Rattle.duty_plans.specs.Seats.{Does}
 use Rattle.duty_plans.specs.Plans.{revealed_plan, under}
 use Rattle.duty_plans.specs.Reading.{signature_of}
-use Rattle.duty_workers.proofs.StepLemmas.{runs_reveal, under_is}
+use Rattle.duty_sends.proofs.StepLemmas.{runs_reveal, under_is}
 use Rattle.duty_workers.proofs.block.reveal.Goals as goal
 
 pub returns-in-Given-clause-runs : goal.returns-in-Given-clause-runs

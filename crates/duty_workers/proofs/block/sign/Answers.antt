@@ -5,7 +5,7 @@ use Rattle.duty_plans.specs.Seats.{Does}
 use Rattle.duty_plans.specs.Messages.{block_post}
 use Rattle.duty_plans.specs.Plans.{post_plan, under}
 use Rattle.duty_plans.specs.Reading.{signature_of}
-use Rattle.duty_workers.proofs.StepLemmas.{runs_sign, block_is, under_is}
+use Rattle.duty_sends.proofs.StepLemmas.{runs_sign, block_is, under_is}
 use Rattle.duty_workers.proofs.block.sign.Goals as goal
 
 pub returns-in-Given-clause-runs : goal.returns-in-Given-clause-runs

@@ -3,7 +3,7 @@ use Rattle.call_plans.proofs.PathLemmas.{carries_cut}
 use Rattle.duty_schedule.specs.declared.rows.Duty.{Duty}
 use Rattle.duty_plans.specs.Seats.{Does}
 use Rattle.duty_plans.specs.Steps.{Fits}
-use Rattle.duty_workers.specs.Hands.{are_placed, is_placed}
+use Rattle.duty_workers.specs.Places.{are_placed, is_placed}
 use Rattle.duty_workers.proofs.DealLemmas.{dealt_all}
 use Rattle.duty_workers.proofs.lanes.do_lane.Goals as goal
 

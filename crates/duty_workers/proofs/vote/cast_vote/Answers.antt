@@ -3,7 +3,7 @@ use Rattle.node_calls.specs.declared.ask.Ask.TheVariants as ask
 use Rattle.duty_plans.specs.Hands.{Free}
 use Rattle.duty_plans.specs.Reading.{vote_of}
 use Rattle.duty_plans.specs.Plans.{voted_plan, with_got}
-use Rattle.duty_workers.proofs.StepLemmas.{runs_ask, got_is}
+use Rattle.duty_sends.proofs.StepLemmas.{runs_ask, got_is}
 use Rattle.duty_workers.proofs.vote.cast_vote.Goals as goal
 
 pub returns-clause-runs : goal.returns-clause-runs

@@ -1,5 +1,5 @@
 use Rattle.std.proofs.Common.{refl}
-use Rattle.duty_workers.proofs.StepLemmas.{runs_dropped}
+use Rattle.duty_sends.proofs.StepLemmas.{runs_dropped}
 use Rattle.duty_workers.proofs.vote.post.Goals as goal
 
 pub returns-in-Given-clause-runs : goal.returns-in-Given-clause-runs

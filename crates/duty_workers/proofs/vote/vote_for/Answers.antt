@@ -5,7 +5,7 @@ use Rattle.duty_plans.specs.Messages.{vote_post, vote_request}
 use Rattle.duty_plans.specs.Plans.{granted_plan}
 use Rattle.duty_plans.specs.Steps.{Fits}
 use Rattle.duty_plans.specs.Seats.{Does}
-use Rattle.duty_workers.proofs.StepLemmas.{runs_leave}
+use Rattle.duty_sends.proofs.StepLemmas.{runs_leave}
 use Rattle.duty_workers.proofs.vote.vote_for.Goals as goal
 
 pub returns-in_default-clause-runs : goal.returns-in_default-clause-runs

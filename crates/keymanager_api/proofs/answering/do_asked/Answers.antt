@@ -1,5 +1,5 @@
 use Rattle.keymanager_api.specs.Plans.{asked_plan}
-use Rattle.keymanager_api.specs.declared.asked.Asked.TheVariants as asked
+use Rattle.keymanager_bodies.specs.declared.asked.Asked.TheVariants as asked
 use Rattle.keymanager_api.proofs.RunLemmas.{ran_at}
 use Rattle.keymanager_api.proofs.answering.do_asked.Goals as goal
 

@@ -1,6 +1,6 @@
 use Rattle.call_plans.specs.Plans.{Done}
 use Rattle.key_custody.specs.Plans.{deletion_plan}
-use Rattle.keymanager_api.specs.Bodies.{deletion_reply}
+use Rattle.keymanager_bodies.specs.Bodies.{deletion_reply}
 use Rattle.keymanager_api.proofs.RunLemmas.{ran_then, ran_short, at_most}
 use Rattle.keymanager_api.proofs.answering.do_delete.Goals as goal
 

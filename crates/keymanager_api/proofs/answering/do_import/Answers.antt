@@ -1,6 +1,6 @@
 use Rattle.call_plans.specs.Plans.{Done}
 use Rattle.key_custody.specs.Plans.{import_plan}
-use Rattle.keymanager_api.specs.Bodies.{import_reply}
+use Rattle.keymanager_bodies.specs.Bodies.{import_reply}
 use Rattle.keymanager_api.proofs.RunLemmas.{ran_then, ran_short, ran_at, at_most}
 use Rattle.keymanager_api.proofs.answering.do_import.Goals as goal
 

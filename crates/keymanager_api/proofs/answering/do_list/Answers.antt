@@ -3,7 +3,7 @@ use Rattle.edge_kit.specs.declared.bytes.PubKey.{PubKey}
 use Rattle.call_plans.specs.Plans.{Done}
 use Rattle.client_calls.proofs.SeatLemmas.{ran_of}
 use Rattle.key_custody.specs.Plans.{list_plan}
-use Rattle.keymanager_api.specs.Bodies.{listed_reply}
+use Rattle.keymanager_bodies.specs.Bodies.{listed_reply}
 use Rattle.keymanager_api.proofs.RunLemmas.{ran_then, ran_short, at_most}
 use Rattle.keymanager_api.proofs.answering.do_list.Goals as goal
 

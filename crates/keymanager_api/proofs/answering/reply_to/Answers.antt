@@ -1,6 +1,6 @@
 use Rattle.std.proofs.Common.{◌∙◌, ap}
 use Rattle.keymanager_routes.specs.Refusals.{refusal_reply}
-use Rattle.keymanager_api.specs.Asking.{asked_of}
+use Rattle.keymanager_bodies.specs.Asking.{asked_of}
 use Rattle.keymanager_api.specs.Plans.{checked_plan}
 use Rattle.keymanager_api.proofs.RunLemmas.{at_most, ran_at, ran_cut, ran_none}
 use Rattle.keymanager_api.proofs.answering.reply_to.Goals as goal

@@ -1,0 +1,95 @@
+//! The duties of one slot.
+use crate::answers::{FORK, attester, proposer};
+use crate::lanes::MemLane;
+use crate::words::{Unread, number_in, numbers_in};
+use duty_plans::DutySetup;
+use duty_schedule::Duty;
+use duty_workers::{DutyResult, run_slot};
+use edge_kit::Root;
+use sign_roots::Domains;
+use std::alloc::{AllocError, Global};
+
+const SETUP: &DutySetup = &DutySetup {
+    genesis: Root([0; 32]),
+    genesis_time: 0,
+    fork: FORK,
+    watch: false,
+    slots: 1,
+};
+
+/// Casts three votes of a slot.
+fn vote(
+    alloc: Global,
+    lane: &mut MemLane,
+    slot: u64,
+    keys: [u64; 3],
+) -> Result<Vec<DutyResult>, AllocError> {
+    run_slot(
+        alloc,
+        SETUP,
+        &Domains::new(FORK, SETUP.genesis),
+        slot,
+        1,
+        &[
+            Duty::Vote(attester(keys[0], slot)),
+            Duty::Vote(attester(keys[1], slot)),
+            Duty::Vote(attester(keys[2], slot)),
+        ],
+        &mut lane.desk,
+        &mut lane.signer,
+        &mut lane.nodes,
+    )
+}
+
+/// Proposes three blocks of a slot.
+fn propose(
+    alloc: Global,
+    lane: &mut MemLane,
+    slot: u64,
+    keys: [u64; 3],
+) -> Result<Vec<DutyResult>, AllocError> {
+    run_slot(
+        alloc,
+        SETUP,
+        &Domains::new(FORK, SETUP.genesis),
+        slot,
+        1,
+        &[
+            Duty::Block(proposer(keys[0], slot)),
+            Duty::Block(proposer(keys[1], slot)),
+            Duty::Block(proposer(keys[2], slot)),
+        ],
+        &mut lane.desk,
+        &mut lane.signer,
+        &mut lane.nodes,
+    )
+}
+
+fn write_results(text: &mut String, results: &[DutyResult]) -> Result<(), AllocError> {
+    for result in results {
+        writeln!(text, "{result}")?;
+    }
+    Ok(())
+}
+
+/// `vote slot=N keys=K,K,K` or `propose slot=N keys=K,K,K`: three duties of a slot in epoch 1, one after another.
+pub fn do_duties(
+    alloc: Global,
+    text: &mut String,
+    lane: &mut MemLane,
+    are_blocks: bool,
+    rest: &str,
+) -> Result<(), Unread> {
+    let slot = number_in(alloc, rest, "slot")?;
+    let keys = numbers_in(alloc, rest, "keys")?;
+    let [first, second, third] = keys.as_slice() else {
+        return Err(Unread);
+    };
+    let keys = [*first, *second, *third];
+    let results = if are_blocks {
+        propose(alloc, lane, slot, keys)?
+    } else {
+        vote(alloc, lane, slot, keys)?
+    };
+    Ok(write_results(text, results.as_slice())?)
+}

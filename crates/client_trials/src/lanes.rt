@@ -1,0 +1,70 @@
+//! Lanes, as a part of a line describes them. Its words, each of which may lack: `active=1,2` keys that are active at the
+//! desk, since `epoch=N`; `watches=1` where the desk watches keys; `lacks=1` keys that the signer lacks; `signer-fails=0,1`
+//! and `node-fails=0,1` the calls of the signer and of the node that fail; and `says` before the answers of the node.
+use crate::answers::answers_in;
+use crate::desks::activate;
+use crate::words::{Unread, keys_in, number_in, numbers_in, root};
+use check_sign::{Desk, MOMENT_LIMIT};
+use duty_workers::Lane;
+use edge_kit::{Disks, MemDisk, PubKey};
+use node_calls::MemNode;
+use node_fallback::Nodes;
+use signer_link::MemSigner;
+use std::alloc::Global;
+
+/// A lane with a desk of its own.
+pub type MemLane = Lane<Desk<MemDisk>, MemSigner, MemNode>;
+
+/// Opens a desk over disks of which the first has these bytes and stops at a call, if one is given.
+pub fn desk_over(
+    alloc: Global,
+    bytes: Vec<u8>,
+    stop: Option<u64>,
+    watches: bool,
+    epoch: u64,
+) -> Result<Desk<MemDisk>, Unread> {
+    let first = MemDisk::new(alloc, bytes, Vec::new(alloc), stop)?;
+    let second = MemDisk::new(alloc, Vec::new(alloc), Vec::new(alloc), None)?;
+    let now = epoch.min(MOMENT_LIMIT);
+    match Desk::open(alloc, Disks { first, second }, root(0), watches, now) {
+        Ok(desk) => Ok(desk),
+        Err(_) => Err(Unread),
+    }
+}
+
+/// Makes keys active at an epoch.
+pub fn activate_all(desk: &mut Desk<MemDisk>, keys: &[PubKey], epoch: u64) {
+    for key in keys {
+        activate(desk, *key, epoch);
+    }
+}
+
+fn desk_of(alloc: Global, part: &str) -> Result<Desk<MemDisk>, Unread> {
+    let keys = keys_in(alloc, part, "active")?;
+    let epoch = number_in(alloc, part, "epoch")?;
+    let watches = number_in(alloc, part, "watches")? == 1;
+    let mut desk = desk_over(alloc, Vec::new(alloc), None, watches, epoch)?;
+    activate_all(&mut desk, keys.as_slice(), epoch);
+    Ok(desk)
+}
+
+fn signer_of(alloc: Global, part: &str) -> Result<MemSigner, Unread> {
+    let lacking = keys_in(alloc, part, "lacks")?;
+    let failing = numbers_in(alloc, part, "signer-fails")?;
+    Ok(MemSigner::new(alloc, lacking, failing))
+}
+
+fn nodes_of(alloc: Global, part: &str) -> Result<Nodes<MemNode>, Unread> {
+    let answers = answers_in(alloc, part)?;
+    let failing = numbers_in(alloc, part, "node-fails")?;
+    let nodes = vec![in alloc; MemNode::new(alloc, answers, failing)]?;
+    Ok(Nodes::new(alloc, nodes))
+}
+
+/// The lane that a part of a line describes.
+pub fn lane_of(alloc: Global, part: &str) -> Result<MemLane, Unread> {
+    let signer = signer_of(alloc, part)?;
+    let nodes = nodes_of(alloc, part)?;
+    let desk = desk_of(alloc, part)?;
+    Ok(Lane::new(desk, signer, nodes))
+}

@@ -1,0 +1,114 @@
+//! What desks, nodes and lanes have come to, in words.
+use crate::desks::standings;
+use crate::lanes::MemLane;
+use crate::words::key;
+use check_sign::{Desk, DeskEvent, Event};
+use edge_kit::{MemDisk, hex_text};
+use node_calls::{Ask, MemNode, NodeCall, Post, PostCall};
+use node_fallback::Nodes;
+use std::alloc::{AllocError, Global};
+
+fn word(ask: &Ask) -> &'static str {
+    match ask {
+        Ask::Genesis => "genesis",
+        Ask::Fork => "fork",
+        Ask::Syncing => "syncing",
+        Ask::Validators { keys: _ } => "validators",
+        Ask::Proposer { epoch: _ } => "proposer",
+        Ask::Attester {
+            epoch: _,
+            indices: _,
+        } => "attester",
+        Ask::Data {
+            slot: _,
+            committee_index: _,
+        } => "data",
+        Ask::Block {
+            slot: _,
+            randao_reveal: _,
+        } => "block",
+        Ask::Liveness {
+            epoch: _,
+            indices: _,
+        } => "liveness",
+    }
+}
+
+/// Writes what was posted, with its slot, and a star where it is not of key 1.
+fn write_post(text: &mut String, call: &PostCall) -> Result<(), AllocError> {
+    let star = if call.key == key(1) { "" } else { "*" };
+    match &call.post {
+        Post::Vote(vote) => write!(text, " vote@{}{star}", vote.details.slot),
+        Post::Block(signed) => write!(text, " block@{}{star}", signed.message.slot),
+    }
+}
+
+/// Writes the calls of a node: each question by its name, each post by what was posted.
+fn write_calls(text: &mut String, calls: &[NodeCall]) -> Result<(), AllocError> {
+    for call in calls {
+        match call {
+            NodeCall::Asked(ask, _) => write!(text, " {}", word(ask))?,
+            NodeCall::Posted(call, _) => write_post(text, call)?,
+        }
+    }
+    Ok(())
+}
+
+/// Writes what the first of some nodes was asked and handed over.
+fn write_nodes(text: &mut String, nodes: Nodes<MemNode>) -> Result<(), AllocError> {
+    text.push_str("node")?;
+    if let Some(node) = nodes.into_nodes().first() {
+        write_calls(text, node.told())?;
+    }
+    text.push_str("\n")
+}
+
+/// Writes how each key at a desk stands.
+fn write_keys(
+    alloc: Global,
+    text: &mut String,
+    desk: &mut Desk<MemDisk>,
+) -> Result<(), AllocError> {
+    let Some(listed) = standings(desk) else {
+        return Ok(());
+    };
+    for (key, standing) in listed.as_slice() {
+        let key = hex_text(alloc, &key.0)?;
+        writeln!(text, "key {} {standing:?}", key.as_str())?;
+    }
+    Ok(())
+}
+
+fn compactions(events: &[DeskEvent]) -> u64 {
+    let mut count: u64 = 0;
+    for event in events {
+        if let Event::Compacted {
+            before: _,
+            after: _,
+        } = event.event
+        {
+            count = count.saturating_add(1);
+        }
+    }
+    count
+}
+
+/// Writes how many events a desk has, how many of them are compactions, and whether its second file is begun.
+fn write_desk(text: &mut String, desk: Desk<MemDisk>) -> Result<(), AllocError> {
+    let events = desk.events().len();
+    let compactions = compactions(desk.events());
+    let (disks, _) = desk.end();
+    let begun = !disks.second.bytes().is_empty();
+    writeln!(
+        text,
+        "desk {events} events, {compactions} compactions, second file begun: {begun}"
+    )
+}
+
+/// Writes what a lane has come to: how the keys at its desk stand, the desk, and the calls of its node.
+pub fn write_lane(alloc: Global, text: &mut String, lane: MemLane) -> Result<(), AllocError> {
+    let (mut desk, _signer, nodes) = lane.into_parts();
+    write_keys(alloc, text, &mut desk)?;
+    write_desk(text, desk)?;
+    write_nodes(text, nodes)
+}

@@ -1,0 +1,193 @@
+//! The subject `turns`: turns of the duty loop. The first part of a line has the words `start=N`, when the clock starts;
+//! `turns=N`, how many are taken; `watches=1` where keys are watched; `late=MOMENT,SECONDS`, the wait that is over
+//! late; and `joins=KEY`, the keys that become active after the first of two turns. The second part describes the
+//! loop's own desk and node, and each further part a lane. The chain began at second 1000.
+ghost use Rattle.std.specs.Prelude.{OnOk};
+ghost use Rattle.duty_work.specs.Houses.{IsHolding};
+
+use crate::answers::FORK;
+use crate::lanes::{MemLane, activate_all, lane_of};
+use crate::telling::write_lane;
+use crate::words::{Unread, keys_in, number_in, numbers_in, root};
+use duty_loop::{DutyEnd, Held, first_held, run_duties, take_turn};
+use duty_plans::DutySetup;
+use edge_clock::{Clock, Delay, MemClock};
+use edge_kit::{MemSink, PubKey};
+use std::alloc::Global;
+use std::sync::Wait;
+use std::thread::Threads;
+
+/// What turns are taken by.
+#[derive(Drop)]
+struct Course {
+    setup: DutySetup,
+    clock: MemClock,
+    joining: Vec<PubKey>,
+}
+
+fn clock_of(alloc: Global, part: &str) -> Result<MemClock, Unread> {
+    let start = number_in(alloc, part, "start")?;
+    let late = numbers_in(alloc, part, "late")?;
+    let mut delays = Vec::new(alloc);
+    if let [moment, seconds] = late.as_slice() {
+        delays.push(Delay {
+            moment: *moment,
+            seconds: *seconds,
+        })?;
+    }
+    Ok(MemClock::new(start, delays))
+}
+
+fn course_of(alloc: Global, part: &str) -> Result<Course, Unread> {
+    let watch = number_in(alloc, part, "watches")? == 1;
+    let slots = number_in(alloc, part, "turns")?;
+    let clock = clock_of(alloc, part)?;
+    let joining = keys_in(alloc, part, "joins")?;
+    let setup = DutySetup {
+        genesis: root(0),
+        genesis_time: 1000,
+        fork: FORK,
+        watch,
+        slots,
+    };
+    Ok(Course {
+        setup,
+        clock,
+        joining,
+    })
+}
+
+fn lanes_of(alloc: Global, parts: &str) -> Result<Vec<MemLane>, Unread> {
+    let mut lanes = Vec::new(alloc);
+    for part in parts.split(" | ") {
+        lanes.push(lane_of(alloc, part)?)?;
+    }
+    Ok(lanes)
+}
+
+/// Takes one turn, where there is a lane.
+fn turn<R: Threads + Wait + Sync>(
+    rt: &R,
+    alloc: Global,
+    course: &Course,
+    held: &mut Held,
+    own: &mut MemLane,
+    lanes: &mut [MemLane],
+    out: &mut MemSink,
+) -> Result<(), DutyEnd>
+    requires { IsHolding held.old }
+    ensures { OnOk result (IsHolding held.new) }
+{
+    if lanes.is_empty() {
+        return Ok(());
+    }
+    take_turn(
+        rt,
+        alloc,
+        &course.setup,
+        &course.clock,
+        held,
+        &mut own.desk,
+        &mut own.nodes,
+        lanes,
+        out,
+    )
+}
+
+/// Makes keys active at the loop's own desk and at those of the lanes.
+fn join(keys: &[PubKey], own: &mut MemLane, lanes: &mut [MemLane]) {
+    activate_all(&mut own.desk, keys, 1);
+    for lane in lanes {
+        activate_all(&mut lane.desk, keys, 1);
+    }
+}
+
+/// Takes two turns, and makes the joining keys active between them.
+fn take_two<R: Threads + Wait + Sync>(
+    rt: &R,
+    alloc: Global,
+    course: &Course,
+    own: &mut MemLane,
+    lanes: &mut [MemLane],
+    out: &mut MemSink,
+) -> Result<(), DutyEnd> {
+    let mut held = first_held(alloc, &course.setup, course.clock.now());
+    turn(rt, alloc, course, &mut held, own, lanes, out)?;
+    join(course.joining.as_slice(), own, lanes);
+    turn(rt, alloc, course, &mut held, own, lanes, out)
+}
+
+/// Takes the turns of a course, where there is a lane.
+fn take_turns<R: Threads + Wait + Sync>(
+    rt: &R,
+    alloc: Global,
+    course: &Course,
+    own: &mut MemLane,
+    lanes: &mut [MemLane],
+    out: &mut MemSink,
+) -> Result<(), DutyEnd> {
+    if lanes.is_empty() {
+        return Ok(());
+    }
+    if !course.joining.is_empty() {
+        return take_two(rt, alloc, course, own, lanes, out);
+    }
+    run_duties(
+        rt,
+        alloc,
+        &course.setup,
+        &course.clock,
+        &mut own.desk,
+        &mut own.nodes,
+        lanes,
+        out,
+    )
+}
+
+/// Takes the turns of a course, and writes what they print and how they end.
+fn write_turns<R: Threads + Wait + Sync>(
+    rt: &R,
+    alloc: Global,
+    text: &mut String,
+    course: &Course,
+    own: &mut MemLane,
+    lanes: &mut [MemLane],
+) -> Result<(), Unread> {
+    let mut out = MemSink::new(alloc, 4096, Vec::new(alloc))?;
+    let ended = take_turns(rt, alloc, course, own, lanes, &mut out);
+    let printed = String::from_utf8_lossy(alloc, out.into_bytes().as_slice())?;
+    Ok(write!(text, "{}ended {ended:?}\n", printed.as_str())?)
+}
+
+/// Takes the turns over the loop's own desk and node and over lanes, and writes what comes of them.
+fn play_over<R: Threads + Wait + Sync>(
+    rt: &R,
+    alloc: Global,
+    text: &mut String,
+    course: &Course,
+    own: &str,
+    lanes: &str,
+) -> Result<(), Unread> {
+    let mut own = lane_of(alloc, own)?;
+    let mut lanes = lanes_of(alloc, lanes)?;
+    write_turns(rt, alloc, text, course, &mut own, lanes.as_mut_slice())?;
+    write_lane(alloc, text, own)?;
+    for lane in lanes {
+        write_lane(alloc, text, lane)?;
+    }
+    Ok(())
+}
+
+/// Takes the turns of a line, and gives what comes of them.
+pub fn play<R: Threads + Wait + Sync>(rt: &R, alloc: Global, line: &str) -> Result<String, Unread> {
+    let Some((first, parts)) = line.split_once(" | ") else {
+        return Err(Unread);
+    };
+    let Some((own, lanes)) = parts.split_once(" | ") else {
+        return Err(Unread);
+    };
+    let mut text = String::new(alloc);
+    let course = course_of(alloc, first)?;
+    play_over(rt, alloc, &mut text, &course, own, lanes)?;
+    Ok(text)
+}

@@ -1,2 +1,0 @@
-pub mod PassLemmas
-pub mod StandingLemmas

@@ -1,4 +1,0 @@
-use Rattle.desk_cases.proofs.lent.sign.Goals as goal
-
-pub returns-clause-led : goal.returns-clause-led
-returns-clause-led g c = (_, g.met.K.DeskCalls.leads_more _ _ _ _ _ c.call.ensures.leads c.settle.ensures.led.1)

@@ -1,0 +1,4 @@
+pub mod HouseLemmas
+pub mod TurnLemmas
+pub mod RunLemmas
+pub mod PlacedLemmas

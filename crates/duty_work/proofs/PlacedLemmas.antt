@@ -1,0 +1,128 @@
+-- What is due has its places, where each vote duty of the answers that were taken has.
+use Rattle.std.proofs.Common.{◌≡◌, ℕ, ◌/◌, ◌⊎◌, inl, inr, Bool, true, false, cond, ◌&&◌, List, [], ◌∷◌, ◌++◌, filter, map, Option, Some, None, refl, sym, ◌∙◌, ap, append_assoc, subst}
+use Rattle.std.specs.Prelude.{◌||◌, not, nat_eq, nat_le, nat_lt}
+use Rattle.std.specs.List.{list_all, list_any}
+use Rattle.std.specs.List.Sorted.{IsPermutation}
+use Rattle.std.proofs.lemmas.Bool.{and_parts, cases_eq}
+use Rattle.std.proofs.lemmas.List.{append-nil}
+use Rattle.std.proofs.lemmas.List.Sorted.{list_any-IsPermutation}
+use Rattle.edge_kit.specs.declared.bytes.PubKey.{PubKey}
+use Rattle.node_calls.specs.declared.answer.AttesterRow.{AttesterRow}
+use Rattle.node_calls.specs.declared.answer.ProposerRow.{ProposerRow}
+use Rattle.duty_schedule.specs.Answers.{TakenAnswer, attester_answers, held, is_kept, same_basis}
+use Rattle.duty_schedule.specs.Due.{IsDue, is_active, kept_attesters, rows_of}
+use Rattle.duty_schedule.specs.Holding.{next_held}
+use Rattle.duty_schedule.specs.declared.answer.Basis.{Basis}
+use Rattle.duty_schedule.specs.declared.answer.DutyAnswer.{DutyAnswer}
+use Rattle.duty_schedule.specs.declared.rows.Duty.{Duty}
+use Rattle.duty_schedule.specs.declared.rows.Duty.TheVariants as duty
+use Rattle.duty_schedule.specs.declared.rows.DutyRows.{DutyRows}
+use Rattle.duty_schedule.specs.declared.rows.DutyRows.TheVariants as kind
+use Rattle.duty_schedule.proofs.HeldLemmas.{answer_at, attesters_elsewhere, attesters_here, attesters_none, attesters_of_proposers, held-append, one_kind}
+use Rattle.duty_workers.specs.Places as workers
+use Rattle.duty_asks.specs.Placed.{are_placed, has_place, have_places}
+use Rattle.duty_asks.proofs.PlaceLemmas.{both_true}
+
+-- ---- all elements of a list
+
+pub all_kept : {X : Type 0} (p q : X → Bool) (xs : List X) → list_all p xs ≡ true → list_all p (filter q xs) ≡ true
+all_kept p q [] h = refl
+all_kept {X} p q (x ∷ xs) h = at (q x) (all_kept p q xs (and_parts (p x) (list_all p xs) h).1) where
+  at : (t : Bool) → list_all p (filter q xs) ≡ true → list_all p (cond t (x ∷ filter q xs) (filter q xs)) ≡ true
+  at true rest = both_true (p x) (list_all p (filter q xs)) (and_parts (p x) (list_all p xs) h).0 rest
+  at false rest = rest
+
+all_joined : {X : Type 0} (p : X → Bool) (xs ys : List X) → list_all p xs ≡ true → list_all p ys ≡ true → list_all p (xs ++ ys) ≡ true
+all_joined p [] ys h k = k
+all_joined p (x ∷ xs) ys h k =
+    let q = and_parts (p x) (list_all p xs) h in
+    both_true (p x) (list_all p (xs ++ ys)) q.0 (all_joined p xs ys q.1 k)
+
+none_fails : {X : Type 0} (p : X → Bool) (xs : List X) → list_all p xs ≡ true → list_any (λ x. not (p x)) xs ≡ false
+none_fails p [] h = refl
+none_fails p (x ∷ xs) h =
+    let q = and_parts (p x) (list_all p xs) h in
+    ap (λ (b : Bool). not b || list_any (λ y. not (p y)) xs) q.0 ∙ none_fails p xs q.1
+
+all_pass : {X : Type 0} (p : X → Bool) (xs : List X) → list_any (λ x. not (p x)) xs ≡ false → list_all p xs ≡ true
+all_pass p [] h = refl
+all_pass p (x ∷ xs) h = at (p x) refl (all_pass p xs) where
+  at : (t : Bool) → p x ≡ t → (list_any (λ y. not (p y)) xs ≡ false → list_all p xs ≡ true) → (p x && list_all p xs) ≡ true
+  at true e rest = both_true (p x) (list_all p xs) e (rest (ap (λ (b : Bool). not b || list_any (λ y. not (p y)) xs) (sym e) ∙ h))
+  at false e rest = absurd (let bad : true ≡ false = ap (λ (b : Bool). not b || list_any (λ y. not (p y)) xs) (sym e) ∙ h in cc)
+
+all_moved : {X : Type 0} (p : X → Bool) (xs ys : List X) → IsPermutation xs ys → list_all p xs ≡ true → list_all p ys ≡ true
+all_moved p xs ys moved h = all_pass p ys (sym (list_any-IsPermutation (λ x. not (p x)) xs ys moved) ∙ none_fails p xs h)
+
+-- ---- the held answers
+
+abbrev HeldPlaced : List TakenAnswer → Type 0
+HeldPlaced answers = (epoch : ℕ) → list_all has_place (rows_of (held (attester_answers epoch answers))) ≡ true
+
+next_placed : (before : Option (DutyAnswer AttesterRow)) (basis : Basis) (rows : List AttesterRow) → list_all has_place (rows_of before) ≡ true → list_all has_place rows ≡ true
+    → list_all has_place (rows_of (Some (next_held before (one_kind basis rows)))) ≡ true
+next_placed None basis rows h k = k
+next_placed (Some before) basis rows h k = at (same_basis before.basis basis) where
+  at : (t : Bool) → list_all has_place (rows_of (Some (cond t before (one_kind basis rows)))) ≡ true
+  at true = h
+  at false = k
+
+placed_by : (answers : List TakenAnswer) (epoch : ℕ) (basis : Basis) (rows : DutyRows) → HeldPlaced answers → have_places rows ≡ true → HeldPlaced (answers ++ answer_at epoch basis rows ∷ [])
+placed_by answers epoch basis (kind.Proposer rows) p h = λ other.
+    subst (λ (l : List (DutyAnswer AttesterRow)). list_all has_place (rows_of (held l)) ≡ true) (sym (attesters_of_proposers answers epoch basis rows other)) (p other)
+placed_by answers epoch basis (kind.Attester rows) p h = λ other. at other (cases_eq other epoch) where
+  new : List TakenAnswer
+  new = answers ++ answer_at epoch basis (kind.Attester rows) ∷ []
+
+  here : list_all has_place (rows_of (held (attester_answers epoch new))) ≡ true
+  here =
+      subst (λ (l : List (DutyAnswer AttesterRow)). list_all has_place (rows_of (held l)) ≡ true) (sym (attesters_here answers epoch basis rows))
+      (subst (λ (o : Option (DutyAnswer AttesterRow)). list_all has_place (rows_of o) ≡ true) (sym (held-append (attester_answers epoch answers) (one_kind basis rows)))
+      (next_placed (held (attester_answers epoch answers)) basis rows (p epoch) h))
+
+  at : (other : ℕ) → (other ≡ epoch) ⊎ (other ≡ epoch → ⊥) → list_all has_place (rows_of (held (attester_answers other new))) ≡ true
+  at other (inl e) = subst (λ (n : ℕ). list_all has_place (rows_of (held (attester_answers n new))) ≡ true) (sym e) here
+  at other (inr apart) = subst (λ (l : List (DutyAnswer AttesterRow)). list_all has_place (rows_of (held l)) ≡ true) (sym (attesters_elsewhere answers epoch basis rows other apart)) (p other)
+
+placed_behind : (front rest : List TakenAnswer) → HeldPlaced front → are_placed rest ≡ true → HeldPlaced (front ++ rest)
+placed_behind front [] p h = subst (λ (l : List TakenAnswer). HeldPlaced l) (sym (append-nil front)) p
+placed_behind front (a ∷ rest) p h =
+    let q = and_parts (have_places a.rows) (are_placed rest) h in
+    subst (λ (l : List TakenAnswer). HeldPlaced l) (append_assoc front (a ∷ []) rest) (placed_behind (front ++ a ∷ []) rest (placed_by front a.epoch a.basis a.rows p q.0) q.1)
+
+held_placed : (answers : List TakenAnswer) → are_placed answers ≡ true → HeldPlaced answers
+held_placed answers h = placed_behind [] answers (λ epoch. subst (λ (o : Option (DutyAnswer AttesterRow)). list_all has_place (rows_of o) ≡ true) (sym (attesters_none epoch)) refl) h
+
+kept_placed : (answers : List TakenAnswer) (slot : ℕ) → are_placed answers ≡ true → list_all has_place (kept_attesters answers slot) ≡ true
+unfolding kept_attesters
+kept_placed answers slot h = at (is_kept answers (slot / 32)) where
+  at : (t : Bool) → list_all has_place (cond t (rows_of (held (attester_answers (slot / 32) answers))) []) ≡ true
+  at true = held_placed answers h (slot / 32)
+  at false = refl
+
+-- ---- what is due
+
+place_same : (row : AttesterRow) → has_place row ≡ true → workers.has_place row ≡ true
+place_same row h =
+    let q = and_parts (nat_le row.committee_length 2048) (nat_lt row.validator_committee_index row.committee_length) h in
+    both_true (nat_lt row.validator_committee_index row.committee_length) (nat_le row.committee_length 2048) q.1 q.0
+
+votes_placed : (rows : List AttesterRow) → list_all has_place rows ≡ true → workers.are_placed (map duty.Vote rows) ≡ true
+votes_placed [] h = refl
+votes_placed (row ∷ rows) h =
+    let q = and_parts (has_place row) (list_all has_place rows) h in
+    both_true (workers.has_place row) (workers.are_placed (map duty.Vote rows)) (place_same row q.0) (votes_placed rows q.1)
+
+blocks_placed : (rows : List ProposerRow) → workers.are_placed (map duty.Block rows) ≡ true
+blocks_placed [] = refl
+blocks_placed (row ∷ rows) = blocks_placed rows
+
+pub due_placed : (answers : List TakenAnswer) (slot : ℕ) (active : List PubKey) (ds : List Duty) → IsDue answers slot active ds → are_placed answers ≡ true → workers.are_placed ds ≡ true
+due_placed answers slot active ds due h =
+    let of_kept = all_kept has_place (λ row. nat_eq row.slot slot && is_active active row.pubkey) (kept_attesters answers slot) (kept_placed answers slot h) in
+    let votes : list_all has_place due.votes ≡ true = all_moved has_place _ due.votes due.are_votes.same_rows of_kept in
+    subst (λ (l : List Duty). workers.are_placed l ≡ true) (sym due.are_both)
+    (all_joined workers.is_placed (map duty.Block due.blocks) (map duty.Vote due.votes) (blocks_placed due.blocks) (votes_placed due.votes votes))
+
+pub kind_placed : (q : Duty → Bool) (ds : List Duty) → workers.are_placed ds ≡ true → workers.are_placed (filter q ds) ≡ true
+kind_placed q ds h = all_kept workers.is_placed q ds h

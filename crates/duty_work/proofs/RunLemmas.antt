@@ -1,0 +1,275 @@
+-- A turn, part behind part.
+use Rattle.std.proofs.Common.{◌≡◌, ℕ, ◌≤◌, ◌++◌, List, [], ◌∷◌, length, Option, Some, None, Result, Ok, Err, true, false, refl, sym, ◌∙◌, ap, subst}
+use Rattle.std.specs.Prelude.{OnOk}
+use Rattle.edge_kit.specs.declared.bytes.PubKey.{PubKey}
+use Rattle.sign_roots.specs.declared.domains.Domains.{Domains}
+use Rattle.edge_clock.specs.Clocks.{IsWaited}
+use Rattle.desk_machine.specs.Grants.{IsGrantFor}
+use Rattle.desk_machine.specs.Kinds.{IsKind}
+use Rattle.desk_machine.specs.declared.call.DeskCall.TheVariants as call
+use Rattle.desk_machine.specs.declared.call.DeskReply.{DeskReply}
+use Rattle.desk_machine.specs.declared.call.DeskReply.TheVariants as reply
+use Rattle.desk_machine.specs.declared.call.KeyStanding.{KeyStanding}
+use Rattle.client_calls.proofs.SeatLemmas.{Leads}
+use Rattle.node_fallback.specs.Refreshing.{AreAskedFirst, AreFlagged, WithReplies}
+use Rattle.node_fallback.specs.Seen.{Seen}
+use Rattle.call_plans.specs.Plans.{Done, bind}
+use Rattle.call_plans.specs.Paths.{Carries}
+use Rattle.call_plans.proofs.PathLemmas.{carries_cut, carries_end, carries_on, carries_short}
+use Rattle.duty_schedule.specs.Due.{IsDue}
+use Rattle.duty_schedule.specs.declared.rows.Duty.{Duty}
+use Rattle.duty_plans.specs.Hands.{Free, hand_given}
+use Rattle.duty_plans.specs.Plans.{slot_work}
+use Rattle.duty_plans.specs.Seats.{Seat}
+use Rattle.duty_plans.specs.declared.result.DutyResult.{DutyResult}
+use Rattle.duty_plans.specs.declared.setup.DutySetup.{DutySetup}
+use Rattle.duty_plans.specs.declared.work.SlotWork.{SlotWork}
+use Rattle.duty_turns.specs.Lines.{duty_lines}
+use Rattle.duty_turns.specs.Standing.{Standing}
+use Rattle.duty_turns.specs.Times.{epoch_of, next_slot, slot_of, slot_start, votes_start}
+use Rattle.duty_turns.specs.Turns.{NextPlan, PartPlan, active_of, asked_plan, at_slot, blocks_in, calls, close_plan, closed_plan, due_plan, failed_plan, listed_plan, ready_plan, refreshes, refreshes_lanes, shortens, turn_plan, votes_in, votes_plan, waits, with_active, woken_plan, work_of, works}
+use Rattle.duty_turns.specs.TurnSteps.{Does, Fits, House, SinkSeen}
+use Rattle.duty_turns.specs.declared.held.DutyEnd.{DutyEnd}
+use Rattle.duty_turns.specs.declared.held.DutyEnd.TheVariants as end
+use Rattle.duty_turns.specs.declared.held.Held.{Held}
+use Rattle.duty_asks.specs.Placed.{HoldsPlaced}
+use Rattle.duty_asks.specs.Quiet.{WritesText, done_value}
+use Rattle.duty_asks.specs.declared.ask.Stop.{Stop}
+use Rattle.duty_asks.specs.declared.ask.Stop.TheVariants as stop
+use Rattle.duty_workers.specs.Working.{WereRefreshed, WorksDone}
+use Rattle.duty_work.specs.Houses.{IsFailed, PartTurns, Turns, end_by, end_of, house, next_value}
+use Rattle.duty_work.proofs.HouseLemmas.{turn_calls, turn_looks, turn_refresh_cut, turn_refresh_lanes_cut, turn_refreshes, turn_refreshes_lanes, turn_waits, turn_works, turn_works_cut, turn_write_fails, turn_writes}
+use Rattle.duty_work.proofs.TurnLemmas.{votes_now}
+
+pub kept : {E P : Type 0} (r : Result (Unit {0}) E) → P → OnOk r P
+kept (Ok x) p = p
+kept (Err e) p = tt
+
+-- what stands is held with another slot, or other active keys
+pub holds_at : (before now : Held) (s : Standing) (slot : ℕ) → HoldsPlaced before s → now.slot ≡ slot → now.fork ≡ before.fork → now.indices ≡ before.indices → now.schedule ≡ before.schedule → now.active ≡ before.active → HoldsPlaced now (at_slot slot s)
+holds_at before now s slot h at fork indices schedule active = record {
+  is = record {
+    slot = at;
+    fork = fork ∙ h.is.fork;
+    indices = ap (λ m. m.entries) indices ∙ h.is.indices;
+    schedule = rw schedule h.is.schedule;
+    active = active ∙ h.is.active;
+  };
+  places = h.places;
+}
+
+pub kind_failed : (r : DeskReply) → IsKind call.HasFailed r → IsFailed r
+kind_failed (reply.HasFailed failed) h = tt
+kind_failed r h = absurd h
+
+pub keys_hand : (r : DeskReply) → IsKind call.Keys r → hand_given Free r ≡ Free
+keys_hand (reply.Keys listed) h = refl
+keys_hand reply.OutOfMemory h = refl
+keys_hand r h = absurd h
+
+failed_hand : (r : DeskReply) → IsFailed r → hand_given Free r ≡ Free
+failed_hand (reply.HasFailed failed) h = refl
+failed_hand r h = absurd h
+
+module _ {K : Type 0} (leads : Leads K) (start : Option ℕ) where
+  -- ---- the end of a turn
+
+  failed_by : (s : Standing) (r : DeskReply) (a : House K) → IsFailed r → Carries Fits (Does leads start) (failed_plan s r) a a (next_value s (end_by r))
+  failed_by s (reply.HasFailed true) a h = carries_end Fits (Does leads start) (Done (Err end.Disk)) a (Some (Err end.Disk)) refl
+  failed_by s (reply.HasFailed false) a h = carries_end Fits (Does leads start) (Done (Ok s)) a (Some (Ok s)) refl
+  failed_by s r a h = absurd h
+
+  pub asked_failed : (d e : K) (ls : List (Seat K)) (nodes : List Seen) (out : SinkSeen) (s : Standing) (r : DeskReply) (result : Result (Unit {0}) DutyEnd) → leads d ((call.HasFailed, r) ∷ []) e → IsKind call.HasFailed r → IsGrantFor call.HasFailed r → result ≡ end_by r
+      → Carries Fits (Does leads start) (calls call.HasFailed (failed_plan s)) (house d ls nodes out) (house e ls nodes out) (next_value s result)
+  asked_failed d e ls nodes out s r result led kind for is =
+      subst (λ (x : Result (Unit {0}) DutyEnd). Carries Fits (Does leads start) (calls call.HasFailed (failed_plan s)) (house d ls nodes out) (house e ls nodes out) (next_value s x)) (sym is)
+      (turn_calls leads start d e ls nodes out (house e ls nodes out) call.HasFailed r (failed_plan s) (next_value s (end_by r)) refl (failed_hand r (kind_failed r kind)) led kind for (failed_by s r (house e ls nodes out) (kind_failed r kind)))
+
+  pub closed : (d e : K) (ls : List (Seat K)) (nodes : List Seen) (o p : SinkSeen) (s : Standing) (slot : ℕ) (ds : List Duty) (rs : List DutyResult) (text bytes : List ℕ) (wrote : Result (Unit {0}) Stop) (result : Result (Unit {0}) DutyEnd)
+      → text ≡ duty_lines slot ds rs → bytes ≡ text → wrote ≡ Ok tt → WritesText o p bytes wrote → Carries Fits (Does leads start) (calls call.HasFailed (failed_plan s)) (house d ls nodes p) (house e ls nodes p) (next_value s result)
+      → Carries Fits (Does leads start) (close_plan slot ds rs s) (house d ls nodes o) (house e ls nodes p) (next_value s result)
+  closed d e ls nodes o p s slot ds rs text bytes wrote result of same ok writes run =
+      let all : bytes ≡ duty_lines slot ds rs = same ∙ of in
+      let taken = subst (λ (w : Result (Unit {0}) Stop). WritesText o p bytes w) ok writes in
+      turn_writes leads start d ls nodes o p (house e ls nodes p) (duty_lines slot ds rs) (closed_plan s) (next_value s result) (subst (λ (l : List ℕ). WritesText o p l (Ok tt)) all taken) run
+
+  pub close_fails : (d : K) (ls : List (Seat K)) (nodes : List Seen) (o p : SinkSeen) (s : Standing) (slot : ℕ) (ds : List Duty) (rs : List DutyResult) (text bytes : List ℕ) (wrote : Result (Unit {0}) Stop) (why : Stop)
+      → text ≡ duty_lines slot ds rs → bytes ≡ text → wrote ≡ Err why → WritesText o p bytes wrote
+      → Carries Fits (Does leads start) (close_plan slot ds rs s) (house d ls nodes o) (house d ls nodes p) (Some (Err end.Write))
+  close_fails d ls nodes o p s slot ds rs text bytes wrote stop.Write of same err writes =
+      let all : bytes ≡ duty_lines slot ds rs = same ∙ of in
+      let failed = subst (λ (w : Result (Unit {0}) Stop). WritesText o p bytes w) err writes in
+      let cut = subst (λ (l : List ℕ). WritesText o p l (Err stop.Write)) all failed in
+      turn_write_fails leads start d ls nodes o p (house d ls nodes p) (duty_lines slot ds rs) cut.0 (closed_plan s) (Some (Err end.Write)) cut.1 cut.2 (carries_end Fits (Does leads start) (Done (Err end.Write)) (house d ls nodes p) (Some (Err end.Write)) refl)
+  close_fails d ls nodes o p s slot ds rs text bytes wrote stop.OutOfMemory of same err writes =
+      absurd (subst (λ (w : Result (Unit {0}) Stop). WritesText o p bytes w) err writes)
+
+  -- the lines of these duties are those that were meant
+  pub closed_as : (Holds : Standing → Type 0) (plan : NextPlan) (s t : Standing) (a b : House K) (slot : ℕ) (ds es : List Duty) (rs qs : List DutyResult) (result : Result (Unit {0}) DutyEnd)
+      → plan ≡ close_plan s.slot es qs t → slot ≡ s.slot → ds ≡ es → rs ≡ qs → Holds t → Carries Fits (Does leads start) (close_plan slot ds rs t) a b (next_value t result) → Turns leads start Holds plan a b result
+  closed_as Holds plan s t a b slot ds es rs qs result is at of by h run =
+      let at_slot_run = subst (λ (n : ℕ). Carries Fits (Does leads start) (close_plan n ds rs t) a b (next_value t result)) at run in
+      let of_run = subst (λ (l : List Duty). Carries Fits (Does leads start) (close_plan s.slot l rs t) a b (next_value t result)) of at_slot_run in
+      let by_run = subst (λ (l : List DutyResult). Carries Fits (Does leads start) (close_plan s.slot es l t) a b (next_value t result)) by of_run in
+      record { after = t; held = kept result h; runs = subst (λ (q : NextPlan). Carries Fits (Does leads start) q a b (next_value t result)) (sym is) by_run }
+
+  pub closing : (s : Standing) (a b : House K) (slot : ℕ) (ds es : List Duty) (rs qs : List DutyResult) (v : Option (Result Standing DutyEnd)) → ds ≡ es → rs ≡ qs
+      → Carries Fits (Does leads start) (close_plan slot ds rs s) a b v → Carries Fits (Does leads start) (close_plan slot es qs s) a b v
+  closing s a b slot ds es rs qs v of by run =
+      subst (λ (l : List DutyResult). Carries Fits (Does leads start) (close_plan slot es l s) a b v) by (subst (λ (l : List Duty). Carries Fits (Does leads start) (close_plan slot l rs s) a b v) of run)
+
+  -- ---- part behind part
+
+  pub short : (Holds : Standing → Type 0) (plan : NextPlan) (s : Standing) (a : House K) → Turns leads start Holds plan a a (Err end.OutOfMemory)
+  short Holds plan s a = record { after = s; held = tt; runs = carries_cut Fits (Does leads start) plan a }
+
+  pub waited : (Holds : Standing → Type 0) (setup : DutySetup) (s : Standing) (a b : House K) (moment slot reached : ℕ) (result : Result (Unit {0}) DutyEnd) → moment ≡ slot_start setup.genesis_time slot → slot ≡ s.slot → IsWaited start moment reached
+      → Turns leads start Holds (woken_plan setup s reached) a b result → Turns leads start Holds (turn_plan setup s) a b result
+  waited Holds setup s a b moment slot reached result is at timed t =
+      let same : moment ≡ slot_start setup.genesis_time s.slot = is ∙ ap (λ n. slot_start setup.genesis_time n) at in
+      record {
+        after = t.after;
+        held = t.held;
+        runs = turn_waits leads start a b (slot_start setup.genesis_time s.slot) reached (woken_plan setup s) (next_value t.after result) (subst (λ n. IsWaited start n reached) same timed) t.runs;
+      }
+
+  module _ (Holds : Standing → Type 0) (setup : DutySetup) (s : Standing) (d : K) (ls : List (Seat K)) (ns ms : List Seen) (o : SinkSeen) (reached : ℕ)
+      (is : woken_plan setup s reached ≡ refreshes (refreshes_lanes (shortens s (calls call.Keys (listed_plan setup s))))) where
+    pub refreshed : (ks : List (Seat K)) (b : House K) (result : Result (Unit {0}) DutyEnd) → WithReplies (λ replies. AreFlagged ns replies ms) → WereRefreshed true ls ks
+        → Turns leads start Holds (shortens s (calls call.Keys (listed_plan setup s))) (house d ks ms o) b result → Turns leads start Holds (woken_plan setup s reached) (house d ls ns o) b result
+    refreshed ks b result flagged asked t =
+        let rest = turn_refreshes_lanes leads start d ls ks ms o b asked.0 (shortens s (calls call.Keys (listed_plan setup s))) (next_value t.after result) asked.1 t.runs in
+        let run = turn_refreshes leads start d ls ns ms o b flagged.0 (refreshes_lanes (shortens s (calls call.Keys (listed_plan setup s)))) (next_value t.after result) flagged.1 rest in
+        record { after = t.after; held = t.held; runs = subst (λ (q : NextPlan). Carries Fits (Does leads start) q (house d ls ns o) b (next_value t.after result)) (sym is) run }
+
+    -- memory ran out at the loop's own nodes
+    pub refreshed_short : WithReplies (λ replies. AreAskedFirst ns replies ms) → Turns leads start Holds (woken_plan setup s reached) (house d ls ns o) (house d ls ms o) (Err end.OutOfMemory)
+    refreshed_short asked =
+        let run = turn_refresh_cut leads start d ls ns ms o asked.0 (refreshes_lanes (shortens s (calls call.Keys (listed_plan setup s)))) asked.1 in
+        record { after = s; held = tt; runs = subst (λ (q : NextPlan). Carries Fits (Does leads start) q (house d ls ns o) (house d ls ms o) None) (sym is) run }
+
+    -- or at those of a lane
+    pub lanes_short : (ks : List (Seat K)) → WithReplies (λ replies. AreFlagged ns replies ms) → WereRefreshed false ls ks → Turns leads start Holds (woken_plan setup s reached) (house d ls ns o) (house d ks ms o) (Err end.OutOfMemory)
+    lanes_short ks flagged asked =
+        let rest = turn_refresh_lanes_cut leads start d ls ks ms o asked.0 (shortens s (calls call.Keys (listed_plan setup s))) asked.1 in
+        let run = turn_refreshes leads start d ls ns ms o (house d ks ms o) flagged.0 (refreshes_lanes (shortens s (calls call.Keys (listed_plan setup s)))) None flagged.1 rest in
+        record { after = s; held = tt; runs = subst (λ (q : NextPlan). Carries Fits (Does leads start) q (house d ls ns o) (house d ks ms o) None) (sym is) run }
+
+  pub listed_goes : (Holds : Standing → Type 0) (setup : DutySetup) (s : Standing) (d e : K) (ls : List (Seat K)) (ns : List Seen) (o : SinkSeen) (b : House K) (r : DeskReply) (listed slice : List (PubKey × KeyStanding)) (result : Result (Unit {0}) DutyEnd)
+      → leads d ((call.Keys, r) ∷ []) e → IsKind call.Keys r → IsGrantFor call.Keys r → r ≡ reply.Keys listed → slice ≡ listed
+      → Turns leads start Holds (listed_plan setup s (reply.Keys slice)) (house e ls ns o) b result → Turns leads start Holds (calls call.Keys (listed_plan setup s)) (house d ls ns o) b result
+  listed_goes Holds setup s d e ls ns o b r listed slice result led kind for is same t =
+      let reply_is : reply.Keys slice ≡ r = ap reply.Keys same ∙ sym is in
+      record {
+        after = t.after;
+        held = t.held;
+        runs = turn_calls leads start d e ls ns o b call.Keys r (listed_plan setup s) (next_value t.after result) refl (keys_hand r kind) led kind for
+            (subst (λ (x : DeskReply). Carries Fits (Does leads start) (listed_plan setup s x) (house e ls ns o) b (next_value t.after result)) reply_is t.runs);
+      }
+
+  pub listed_short : (Holds : Standing → Type 0) (setup : DutySetup) (s : Standing) (d e : K) (ls : List (Seat K)) (ns : List Seen) (o : SinkSeen) (r : DeskReply)
+      → leads d ((call.Keys, r) ∷ []) e → IsKind call.Keys r → IsGrantFor call.Keys r → Turns leads start Holds (calls call.Keys (listed_plan setup s)) (house d ls ns o) (house e ls ns o) (Err end.OutOfMemory)
+  listed_short Holds setup s d e ls ns o r led kind for = record {
+    after = s;
+    held = tt;
+    runs = turn_calls leads start d e ls ns o (house e ls ns o) call.Keys r (listed_plan setup s) None refl (keys_hand r kind) led kind for (carries_cut Fits (Does leads start) (listed_plan setup s r) (house e ls ns o));
+  }
+
+  -- what the nodes were asked, and then what is due
+  pub slot_goes : (P Holds : Standing → Type 0) (setup : DutySetup) (listed : List (PubKey × KeyStanding)) (active slice : List PubKey) (s : Standing) (a b c : House K) (first : Result (Unit {0}) Stop) (result : Result (Unit {0}) DutyEnd)
+      → active ≡ active_of listed → slice ≡ active → first ≡ Ok tt → PartTurns leads start P (asked_plan setup listed slice s) a b first
+      → ((t : Standing) → P t → Turns leads start Holds (ready_plan setup active (Some t)) b c result) → Turns leads start Holds (listed_plan setup s (reply.Keys listed)) a c result
+  slot_goes P Holds setup listed active slice s a b c first result of same ok part next =
+      let one = subst (λ (l : List PubKey). PartTurns leads start P (asked_plan setup listed l s) a b first) (same ∙ of) part in
+      let held : P one.after = subst (λ (r : Result (Unit {0}) Stop). OnOk r (P one.after)) ok one.held in
+      let run = subst (λ (r : Result (Unit {0}) Stop). Carries Fits (Does leads start) (asked_plan setup listed (active_of listed) s) a b (done_value one.after r)) ok one.runs in
+      let rest = subst (λ (l : List PubKey). Turns leads start Holds (ready_plan setup l (Some one.after)) b c result) of (next one.after held) in
+      record {
+        after = rest.after;
+        held = rest.held;
+        runs = carries_on Fits (Does leads start) a b c (asked_plan setup listed (active_of listed) s) (ready_plan setup (active_of listed)) (Some one.after) (next_value rest.after result) run rest.runs;
+      }
+
+  stopped_by : (setup : DutySetup) (active : List PubKey) (p : PartPlan) (s : Standing) (a b : House K) (why : Stop) → Carries Fits (Does leads start) p a b (done_value s (Err why))
+      → Carries Fits (Does leads start) (bind p (ready_plan setup active)) a b (next_value s (Err (end_of why)))
+  stopped_by setup active p s a b stop.Write run = carries_on Fits (Does leads start) a b b p (ready_plan setup active) None (Some (Err end.Write)) run (carries_end Fits (Does leads start) (Done (Err end.Write)) b (Some (Err end.Write)) refl)
+  stopped_by setup active p s a b stop.OutOfMemory run = carries_short Fits (Does leads start) a b p (ready_plan setup active) run
+
+  pub slot_stops : (P Holds : Standing → Type 0) (setup : DutySetup) (listed : List (PubKey × KeyStanding)) (active slice : List PubKey) (s : Standing) (a b : House K) (first : Result (Unit {0}) Stop) (why : Stop) (ended : DutyEnd)
+      → active ≡ active_of listed → slice ≡ active → first ≡ Err why → ended ≡ end_of why → PartTurns leads start P (asked_plan setup listed slice s) a b first → Turns leads start Holds (listed_plan setup s (reply.Keys listed)) a b (Err ended)
+  slot_stops P Holds setup listed active slice s a b first why ended of same err is part =
+      let one = subst (λ (l : List PubKey). PartTurns leads start P (asked_plan setup listed l s) a b first) (same ∙ of) part in
+      let run = subst (λ (r : Result (Unit {0}) Stop). Carries Fits (Does leads start) (asked_plan setup listed (active_of listed) s) a b (done_value one.after r)) err one.runs in
+      record {
+        after = one.after;
+        held = tt;
+        runs = subst (λ (x : DutyEnd). Carries Fits (Does leads start) (listed_plan setup s (reply.Keys listed)) a b (next_value one.after (Err x))) (sym is)
+            (stopped_by setup (active_of listed) (asked_plan setup listed (active_of listed) s) one.after a b why run);
+      }
+
+  pub looked : (Holds : Standing → Type 0) (setup : DutySetup) (s : Standing) (a b : House K) (slot : ℕ) (active slice : List PubKey) (ds es : List Duty) (result : Result (Unit {0}) DutyEnd) → slot ≡ s.slot → slice ≡ active → es ≡ ds → IsDue s.answers slot slice ds
+      → Turns leads start Holds (due_plan setup (with_active active s) es) a b result → Turns leads start Holds (ready_plan setup active (Some s)) a b result
+  looked Holds setup s a b slot active slice ds es result at same all due t =
+      let due_at = subst (λ n. IsDue s.answers n slice ds) at due in
+      let due_of = subst (λ (l : List PubKey). IsDue s.answers s.slot l ds) same due_at in
+      record {
+        after = t.after;
+        held = t.held;
+        runs = turn_looks leads start a b s.answers s.slot active ds (due_plan setup (with_active active s)) (next_value t.after result) due_of
+            (subst (λ (l : List Duty). Carries Fits (Does leads start) (due_plan setup (with_active active s) l) a b (next_value t.after result)) all t.runs);
+      }
+
+  -- ---- what is due
+
+  pub blocks_done : (Holds : Standing → Type 0) (setup : DutySetup) (s : Standing) (d : K) (ls ks : List (Seat K)) (ns : List Seen) (o : SinkSeen) (b : House K) (ds blocks : List Duty) (rs : List DutyResult) (moment slot reached : ℕ) (result : Result (Unit {0}) DutyEnd)
+      → blocks ≡ blocks_in ds → WorksDone leads (work_of setup s) 0 blocks ls ks (Some rs) → moment ≡ votes_start setup.genesis_time slot → slot ≡ s.slot → IsWaited start moment reached
+      → Turns leads start Holds (votes_plan setup s ds rs reached) (house d ks ns o) b result → Turns leads start Holds (due_plan setup s ds) (house d ls ns o) b result
+  blocks_done Holds setup s d ls ks ns o b ds blocks rs moment slot reached result of work is at timed rest =
+      let same : moment ≡ votes_start setup.genesis_time s.slot = is ∙ ap (λ n. votes_start setup.genesis_time n) at in
+      let done = subst (λ (l : List Duty). WorksDone leads (work_of setup s) 0 l ls ks (Some rs)) of work in
+      record {
+        after = rest.after;
+        held = rest.held;
+        runs = turn_works leads start d ls ks ns o b (work_of setup s) 0 (blocks_in ds) rs (λ proposed. waits (votes_start setup.genesis_time s.slot) (votes_plan setup s ds proposed)) (next_value rest.after result) done
+            (turn_waits leads start (house d ks ns o) b (votes_start setup.genesis_time s.slot) reached (votes_plan setup s ds rs) (next_value rest.after result) (subst (λ n. IsWaited start n reached) same timed) rest.runs);
+      }
+
+  pub blocks_short : (Holds : Standing → Type 0) (setup : DutySetup) (s : Standing) (d : K) (ls ks : List (Seat K)) (ns : List Seen) (o : SinkSeen) (ds blocks : List Duty)
+      → blocks ≡ blocks_in ds → WorksDone leads (work_of setup s) 0 blocks ls ks None → Turns leads start Holds (due_plan setup s ds) (house d ls ns o) (house d ks ns o) (Err end.OutOfMemory)
+  blocks_short Holds setup s d ls ks ns o ds blocks of work =
+      let done = subst (λ (l : List Duty). WorksDone leads (work_of setup s) 0 l ls ks None) of work in
+      record {
+        after = s;
+        held = tt;
+        runs = turn_works_cut leads start d ls ks ns o (work_of setup s) 0 (blocks_in ds) (λ proposed. waits (votes_start setup.genesis_time s.slot) (votes_plan setup s ds proposed)) done;
+      }
+
+  module _ (Holds : Standing → Type 0) (setup : DutySetup) (s : Standing) (d : K) (ls ks : List (Seat K)) (ns : List Seen) (o : SinkSeen) (ds votes : List Duty) (rs : List DutyResult) (reached later slot place : ℕ)
+      (is : later ≡ slot_of setup.genesis_time reached) (at : slot ≡ s.slot) (due : later ≤ slot) (of : votes ≡ votes_in ds) (behind : place ≡ length (blocks_in ds)) where
+    now : votes_plan setup s ds rs reached ≡ works (work_of setup s) (length (blocks_in ds)) (votes_in ds) (λ cast. close_plan s.slot (blocks_in ds ++ votes_in ds) (rs ++ cast) (at_slot (next_slot s.slot) s))
+    now = votes_now setup s ds rs reached later is (subst (λ n. later ≤ n) at due)
+
+    dealt_so : (v : Option (List DutyResult)) → WorksDone leads (work_of setup s) place votes ls ks v → WorksDone leads (work_of setup s) (length (blocks_in ds)) (votes_in ds) ls ks v
+    dealt_so v work =
+        let done = subst (λ (l : List Duty). WorksDone leads (work_of setup s) place l ls ks v) of work in
+        subst (λ (n : ℕ). WorksDone leads (work_of setup s) n (votes_in ds) ls ks v) behind done
+
+    pub votes_short : WorksDone leads (work_of setup s) place votes ls ks None → Turns leads start Holds (votes_plan setup s ds rs reached) (house d ls ns o) (house d ks ns o) (Err end.OutOfMemory)
+    votes_short work =
+        let run = turn_works_cut leads start d ls ks ns o (work_of setup s) (length (blocks_in ds)) (votes_in ds) (λ cast. close_plan s.slot (blocks_in ds ++ votes_in ds) (rs ++ cast) (at_slot (next_slot s.slot) s)) (dealt_so None work) in
+        record { after = s; held = tt; runs = subst (λ (q : NextPlan). Carries Fits (Does leads start) q (house d ls ns o) (house d ks ns o) None) (sym now) run }
+
+    pub votes_done : (b : House K) (cast : List DutyResult) (result : Result (Unit {0}) DutyEnd) → WorksDone leads (work_of setup s) place votes ls ks (Some cast)
+        → Turns leads start Holds (close_plan s.slot (blocks_in ds ++ votes_in ds) (rs ++ cast) (at_slot (next_slot s.slot) s)) (house d ks ns o) b result → Turns leads start Holds (votes_plan setup s ds rs reached) (house d ls ns o) b result
+    votes_done b cast result work rest =
+        let run = turn_works leads start d ls ks ns o b (work_of setup s) (length (blocks_in ds)) (votes_in ds) cast (λ x. close_plan s.slot (blocks_in ds ++ votes_in ds) (rs ++ x) (at_slot (next_slot s.slot) s)) (next_value rest.after result) (dealt_so (Some cast) work) rest.runs in
+        record { after = rest.after; held = rest.held; runs = subst (λ (q : NextPlan). Carries Fits (Does leads start) q (house d ls ns o) b (next_value rest.after result)) (sym now) run }
+
+  pub works_done : (setup : DutySetup) (held : Held) (s : Standing) (ls ks : List (Seat K)) (domains : Domains) (moment place : ℕ) (ds : List Duty) (v : Option (List DutyResult)) → HoldsPlaced held s → domains ≡ record { fork = held.fork; genesis = setup.genesis } → moment ≡ epoch_of held.slot
+      → WorksDone leads (slot_work setup.genesis domains held.slot moment) place ds ls ks v → WorksDone leads (work_of setup s) place ds ls ks v
+  works_done setup held s ls ks domains moment place ds v h by epoch work =
+      let P : SlotWork → Type 0 = λ w. WorksDone leads w place ds ls ks v in
+      let same : ◌≡◌ {A = Domains} (record { fork = held.fork; genesis = setup.genesis }) (record { fork = s.fork; genesis = setup.genesis }) = rw h.is.fork refl in
+      let one : P (slot_work setup.genesis (record { fork = s.fork; genesis = setup.genesis }) held.slot moment) = subst (λ (x : Domains). P (slot_work setup.genesis x held.slot moment)) (by ∙ same) work in
+      let two : P (slot_work setup.genesis (record { fork = s.fork; genesis = setup.genesis }) held.slot (epoch_of held.slot)) = subst (λ n. P (slot_work setup.genesis (record { fork = s.fork; genesis = setup.genesis }) held.slot n)) epoch one in
+      subst (λ n. P (slot_work setup.genesis (record { fork = s.fork; genesis = setup.genesis }) n (epoch_of n))) h.is.slot two

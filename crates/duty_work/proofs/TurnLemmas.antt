@@ -1,0 +1,121 @@
+-- Late, or in time; and turn behind turn.
+use Rattle.std.proofs.Common.{◌≡◌, ℕ, suc, ◌+◌, ◌-◌, ◌<◌, ◌≤◌, nat_lt, true, false, List, [], ◌++◌, length, Option, Some, Result, Ok, Err, refl, ap, subst, arith}
+use Rattle.std.proofs.lemmas.Bool.{lt-ltb, le-ltb}
+use Rattle.client_calls.proofs.SeatLemmas.{Leads}
+use Rattle.edge_clock.specs.Clocks.{IsNow}
+use Rattle.desk_machine.specs.declared.call.DeskCall.TheVariants as call
+use Rattle.call_plans.specs.Plans.{Done, bind}
+use Rattle.call_plans.specs.Paths.{Carries, Comes}
+use Rattle.call_plans.proofs.PathLemmas.{comes_on, comes_cut, comes_end, comes_none}
+use Rattle.duty_schedule.specs.declared.rows.Duty.{Duty}
+use Rattle.duty_plans.specs.declared.result.DutyResult.{DutyResult}
+use Rattle.duty_plans.specs.declared.setup.DutySetup.{DutySetup}
+use Rattle.duty_turns.specs.Standing.{Standing}
+use Rattle.duty_turns.specs.Times.{next_slot, slot_of}
+use Rattle.duty_turns.specs.Turns.{at_slot, blocks_in, calls, close_plan, first_standing, listed_plan, next_turn, refreshes, refreshes_lanes, shortens, turn_plan, turns_plan, votes_in, votes_plan, woken_plan, work_of, works}
+use Rattle.duty_turns.specs.TurnSteps.{Does, Fits, House, TurnPlan}
+use Rattle.duty_turns.specs.declared.held.DutyEnd.{DutyEnd}
+use Rattle.duty_turns.specs.declared.held.DutyEnd.TheVariants as end
+use Rattle.duty_work.specs.Houses.{RunsFrom, Turns, end_value, next_value}
+
+pub woken_late : (setup : DutySetup) (s : Standing) (reached later : ℕ) → later ≡ slot_of setup.genesis_time reached → s.slot < later → woken_plan setup s reached ≡ close_plan s.slot [] [] (at_slot later s)
+woken_late setup s reached later e h =
+    let late : nat_lt s.slot (slot_of setup.genesis_time reached) ≡ true = lt-ltb s.slot (slot_of setup.genesis_time reached) (subst (λ n. s.slot < n) e h) in
+    rw (late, e) refl
+
+pub woken_now : (setup : DutySetup) (s : Standing) (reached later : ℕ) → later ≡ slot_of setup.genesis_time reached → later ≤ s.slot → woken_plan setup s reached ≡ refreshes (refreshes_lanes (shortens s (calls call.Keys (listed_plan setup s))))
+woken_now setup s reached later e h =
+    let now : nat_lt s.slot (slot_of setup.genesis_time reached) ≡ false = le-ltb s.slot (slot_of setup.genesis_time reached) (subst (λ n. n ≤ s.slot) e h) in
+    rw now refl
+
+pub votes_late : (setup : DutySetup) (s : Standing) (ds : List Duty) (rs : List DutyResult) (reached later : ℕ) → later ≡ slot_of setup.genesis_time reached → s.slot < later
+    → votes_plan setup s ds rs reached ≡ close_plan s.slot (blocks_in ds) rs (at_slot later s)
+votes_late setup s ds rs reached later e h =
+    let late : nat_lt s.slot (slot_of setup.genesis_time reached) ≡ true = lt-ltb s.slot (slot_of setup.genesis_time reached) (subst (λ n. s.slot < n) e h) in
+    rw (late, e) refl
+
+pub votes_now : (setup : DutySetup) (s : Standing) (ds : List Duty) (rs : List DutyResult) (reached later : ℕ) → later ≡ slot_of setup.genesis_time reached → later ≤ s.slot
+    → votes_plan setup s ds rs reached ≡ works (work_of setup s) (length (blocks_in ds)) (votes_in ds) (λ cast. close_plan s.slot (blocks_in ds ++ votes_in ds) (rs ++ cast) (at_slot (next_slot s.slot) s))
+votes_now setup s ds rs reached later e h =
+    let now : nat_lt s.slot (slot_of setup.genesis_time reached) ≡ false = le-ltb s.slot (slot_of setup.genesis_time reached) (subst (λ n. n ≤ s.slot) e h) in
+    rw now refl
+
+-- ---- turn behind turn
+
+turns_next : (setup : DutySetup) (n i : ℕ) (s : Standing) → i < n → turns_plan setup (n - i) s ≡ bind (turn_plan setup s) (next_turn (turns_plan setup (n - (i + 1))))
+turns_next setup n i s h =
+    let e : n - i ≡ suc (n - (i + 1)) = omega arith in
+    ap (λ k. turns_plan setup k s) e
+
+module _ {K : Type 0} (leads : Leads K) (start : Option ℕ) (setup : DutySetup) where
+  pub turn_goes : (p : TurnPlan (Result (Unit {0}) DutyEnd)) (n i : ℕ) (s t : Standing) (a b c : House K) → i < n
+      → Comes Fits (Does leads start) p (turns_plan setup (n - i) s) a b → Carries Fits (Does leads start) (turn_plan setup s) b c (Some (Ok t))
+      → Comes Fits (Does leads start) p (turns_plan setup (n - (i + 1)) t) a c
+  turn_goes p n i s t a b c h g r =
+      comes_on Fits (Does leads start) a b c p (turn_plan setup s) (next_turn (turns_plan setup (n - (i + 1)))) (Ok t)
+      (subst (λ (q : TurnPlan (Result (Unit {0}) DutyEnd)). Comes Fits (Does leads start) p q a b) (turns_next setup n i s h) g) r
+
+  ended : (p : TurnPlan (Result (Unit {0}) DutyEnd)) (n i : ℕ) (s : Standing) (a b c : House K) (e : DutyEnd) → i < n
+      → Comes Fits (Does leads start) p (turns_plan setup (n - i) s) a b → Carries Fits (Does leads start) (turn_plan setup s) b c (Some (Err e)) → Carries Fits (Does leads start) p a c (Some (Err e))
+  ended p n i s a b c e h g r =
+      comes_end Fits (Does leads start) a c p (Done (Err e)) (Some (Err e))
+      (comes_on Fits (Does leads start) a b c p (turn_plan setup s) (next_turn (turns_plan setup (n - (i + 1)))) (Err e)
+      (subst (λ (q : TurnPlan (Result (Unit {0}) DutyEnd)). Comes Fits (Does leads start) p q a b) (turns_next setup n i s h) g) r) refl
+
+  pub turn_ends : (p : TurnPlan (Result (Unit {0}) DutyEnd)) (n i : ℕ) (s t : Standing) (a b c : House K) (e : DutyEnd) → i < n
+      → Comes Fits (Does leads start) p (turns_plan setup (n - i) s) a b → Carries Fits (Does leads start) (turn_plan setup s) b c (next_value t (Err e)) → Carries Fits (Does leads start) p a c (end_value (Err e))
+  turn_ends p n i s t a b c end.Disk h g r = ended p n i s a b c end.Disk h g r
+  turn_ends p n i s t a b c end.Write h g r = ended p n i s a b c end.Write h g r
+  turn_ends p n i s t a b c end.OutOfMemory h g r =
+      comes_cut Fits (Does leads start) a b c p (turn_plan setup s) (next_turn (turns_plan setup (n - (i + 1))))
+      (subst (λ (q : TurnPlan (Result (Unit {0}) DutyEnd)). Comes Fits (Does leads start) p q a b) (turns_next setup n i s h) g) r
+
+  pub turns_done : (p : TurnPlan (Result (Unit {0}) DutyEnd)) (n i : ℕ) (s : Standing) (a b : House K) → n ≤ i
+      → Comes Fits (Does leads start) p (turns_plan setup (n - i) s) a b → Carries Fits (Does leads start) p a b (Some (Ok tt))
+  turns_done p n i s a b h g =
+      let e : n - i ≡ 0 = omega arith in
+      comes_end Fits (Does leads start) a b p (Done (Ok tt)) (Some (Ok tt)) (subst (λ k. Comes Fits (Does leads start) p (turns_plan setup k s) a b) e g) refl
+
+-- so many turns were carried out, from the clock's moment on, and this stands then
+pub record TurnsSoFar {K : Type 0} (leads : Leads K) (start : Option ℕ) (setup : DutySetup) (Holds : Standing → Type 0) (taken : ℕ) (a b : House K) : Type 0 where
+  pub now : ℕ
+  pub is_now : IsNow start now
+  pub after : Standing
+  pub held : Holds after
+  pub comes : Comes Fits (Does leads start) (turns_plan setup setup.slots (first_standing setup now)) (turns_plan setup (setup.slots - taken) after) a b
+
+module _ {K : Type 0} (leads : Leads K) (start : Option ℕ) (setup : DutySetup) where
+  pub turns_begun : (Holds : Standing → Type 0) (a : House K) (now : ℕ) → IsNow start now → Holds (first_standing setup now) → TurnsSoFar leads start setup Holds 0 a a
+  turns_begun Holds a now is held =
+      let e : setup.slots ≡ setup.slots - 0 = omega arith in
+      record {
+        now = now;
+        is_now = is;
+        after = first_standing setup now;
+        held = held;
+        comes = subst (λ n. Comes Fits (Does leads start) (turns_plan setup setup.slots (first_standing setup now)) (turns_plan setup n (first_standing setup now)) a a) e
+            (comes_none Fits (Does leads start) (turns_plan setup setup.slots (first_standing setup now)) a);
+      }
+
+  pub turns_go : (P Q : Standing → Type 0) (a b c : House K) (i : ℕ) → i < setup.slots → (w : TurnsSoFar leads start setup P i a b) → Turns leads start Q (turn_plan setup w.after) b c (Ok tt) → TurnsSoFar leads start setup Q (i + 1) a c
+  turns_go P Q a b c i h w t = record {
+    now = w.now;
+    is_now = w.is_now;
+    after = t.after;
+    held = t.held;
+    comes = turn_goes leads start setup (turns_plan setup setup.slots (first_standing setup w.now)) setup.slots i w.after t.after a b c h w.comes t.runs;
+  }
+
+  pub turns_end : (P Q : Standing → Type 0) (a b c : House K) (i : ℕ) → i < setup.slots → (e : DutyEnd) → (w : TurnsSoFar leads start setup P i a b) → Turns leads start Q (turn_plan setup w.after) b c (Err e) → RunsFrom leads start setup a c (end_value (Err e))
+  turns_end P Q a b c i h e w t = record {
+    now = w.now;
+    is_now = w.is_now;
+    runs = turn_ends leads start setup (turns_plan setup setup.slots (first_standing setup w.now)) setup.slots i w.after t.after a b c e h w.comes t.runs;
+  }
+
+  pub turns_over : (P : Standing → Type 0) (a b : House K) (i : ℕ) → setup.slots ≤ i → (w : TurnsSoFar leads start setup P i a b) → RunsFrom leads start setup a b (Some (Ok tt))
+  turns_over P a b i h w = record {
+    now = w.now;
+    is_now = w.is_now;
+    runs = turns_done leads start setup (turns_plan setup setup.slots (first_standing setup w.now)) setup.slots i w.after a b h w.comes;
+  }

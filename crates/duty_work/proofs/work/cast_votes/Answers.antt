@@ -1,0 +1,39 @@
+use Rattle.std.proofs.Common.{◌≡◌, ◌<◌, ◌∙◌, ◌++◌, List, length, true, refl, sym, ap, subst}
+use Rattle.std.specs.Prelude.{not}
+use Rattle.duty_schedule.specs.declared.rows.Duty.{Duty}
+use Rattle.duty_turns.specs.Times.{next_slot}
+use Rattle.duty_turns.specs.Turns.{at_slot, blocks_in, close_plan, is_block, votes_in, votes_plan}
+use Rattle.duty_workers.specs.Places.{are_placed}
+use Rattle.duty_work.proofs.PlacedLemmas.{kind_placed}
+use Rattle.duty_work.proofs.RunLemmas.{closed_as, holds_at, short, votes_done, votes_short}
+use Rattle.duty_work.proofs.TurnLemmas.{votes_late}
+use Rattle.duty_work.proofs.work.cast_votes.Goals as goal
+
+pub do_duties-requires-clause-places : goal.do_duties-requires-clause-places
+do_duties-requires-clause-places g c = λ lifetimes outlives. subst (λ (l : List Duty). are_placed l ≡ true) (sym (c.as_slice-votes.ensures.value ∙ c.in-Ok.ensures)) (kind_placed (λ d. not (is_block d)) c.args.due.now c.requires.places)
+
+pub returns-then-slot-later-clause-runs : goal.returns-then-slot-later-clause-runs
+returns-then-slot-later-clause-runs g c = λ start nodes s h.
+    let later = c.slot_of-later.result in
+    closed_as g.K.DeskCalls.leads start _ (votes_plan c.args.setup.now s c.args.due.now c.args.proposed.now c.args.reached) s (at_slot later s) _ _ c.args.held.now.slot c.args.blocks.now (blocks_in c.args.due.now) c.args.proposed.now c.args.proposed.now c.close.result
+    (votes_late c.args.setup.now s c.args.due.now c.args.proposed.now c.args.reached later c.slot_of-later.ensures (subst (λ n. n < later) h.is.slot c.if-slot-later.true)) h.is.slot c.requires.blocks refl (holds_at c.args.held.now _ s later h refl refl refl refl refl)
+    (c.close.ensures.runs start _ _ (at_slot later s))
+
+pub returns-in_default-clause-runs : goal.returns-in_default-clause-runs
+returns-in_default-clause-runs g c = λ start nodes s h. short g.K.DeskCalls.leads start _ _ s _
+
+pub returns-in_default-do_duties-clause-runs : goal.returns-in_default-do_duties-clause-runs
+returns-in_default-do_duties-clause-runs g c = λ start nodes s h.
+    votes_short g.K.DeskCalls.leads start _ c.args.setup.now s _ _ _ nodes _ c.args.due.now c.as_slice-votes.result.now c.args.proposed.now c.args.reached c.slot_of-later.result c.args.held.now.slot (length c.args.blocks.now) c.slot_of-later.ensures h.is.slot c.if-slot-later.false (c.as_slice-votes.ensures.value ∙ c.in-Ok.ensures)
+    (ap (λ (l : List Duty). length l) c.requires.blocks)
+    (c.in_default-do_duties.ensures.works s h)
+
+pub returns-clause-runs : goal.returns-clause-runs
+returns-clause-runs g c = λ start nodes s h.
+    votes_done g.K.DeskCalls.leads start _ c.args.setup.now s _ _ _ nodes _ c.args.due.now c.as_slice-votes.result.now c.args.proposed.now c.args.reached c.slot_of-later.result c.args.held.now.slot (length c.args.blocks.now) c.slot_of-later.ensures h.is.slot c.if-slot-later.false (c.as_slice-votes.ensures.value ∙ c.in-Ok.ensures)
+    (ap (λ (l : List Duty). length l) c.requires.blocks)
+    _ c.as_slice-cast.result.now c.close_both.result (rw c.as_slice-cast.ensures.value (c.in-Ok-do_duties.ensures.works s h))
+    (closed_as g.K.DeskCalls.leads start _ (close_plan s.slot (blocks_in c.args.due.now ++ votes_in c.args.due.now) (c.args.proposed.now ++ c.as_slice-cast.result.now) (at_slot (next_slot s.slot) s)) s (at_slot (next_slot s.slot) s) _ _ c.args.held.now.slot
+    (c.args.blocks.now ++ c.as_slice-votes.result.now) (blocks_in c.args.due.now ++ votes_in c.args.due.now) (c.args.proposed.now ++ c.as_slice-cast.result.now) (c.args.proposed.now ++ c.as_slice-cast.result.now) c.close_both.result refl h.is.slot
+    (ap (λ (l : List Duty). l ++ c.as_slice-votes.result.now) c.requires.blocks ∙ ap (λ (l : List Duty). blocks_in c.args.due.now ++ l) (c.as_slice-votes.ensures.value ∙ c.in-Ok.ensures)) refl
+    (holds_at c.args.held.now _ s (next_slot s.slot) h (c.next_slot-held.ensures ∙ ap (λ n. next_slot n) h.is.slot) refl refl refl refl) (c.close_both.ensures.runs start _ _ (at_slot (next_slot s.slot) s)))

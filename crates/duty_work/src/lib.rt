@@ -1,0 +1,6 @@
+//! What is due in a slot is done in the lanes: its blocks at once, its votes a third into it; each has its line.
+#![tactic(auto)]
+
+mod work;
+
+pub use work::{close, do_due};

@@ -1,0 +1,96 @@
+//! Readers as sources, and writers as sinks.
+use crate::words::{bytes_of, bytes_text, found, number_of};
+use edge_kit::{Failed, Sink, Source};
+use edge_system::{Reading, Writing};
+use std::alloc::{AllocError, Global};
+use std::io;
+use std::io::{Eprint, Read, Write};
+
+/// Takes or gives at most three bytes at a call, and fails at every third.
+#[derive(Drop)]
+struct Halting<T> {
+    inner: T,
+    calls: u8,
+}
+
+impl<T> Halting<T> {
+    /// How many bytes a call moves.
+    fn turn(&mut self, len: usize) -> io::Result<usize> {
+        self.calls = self.calls % 3 + 1;
+        if self.calls == 3 {
+            return Err(io::Error::from(io::ErrorKind::WouldBlock));
+        }
+        Ok(len.min(3))
+    }
+}
+
+impl<T: Read> Read for Halting<T> {
+    fn read(&mut self, buf: &mut [u8]) -> io::Result<usize> {
+        let len = self.turn(buf.len())?.min(buf.len());
+        self.inner.read(&mut buf[..len])
+    }
+}
+
+impl<T: Write> Write for Halting<T> {
+    fn write(&mut self, buf: &[u8]) -> io::Result<usize> {
+        let len = self.turn(buf.len())?.min(buf.len());
+        self.inner.write(&buf[..len])
+    }
+
+    fn flush(&mut self) -> io::Result<()> {
+        Ok(())
+    }
+}
+
+/// Reads a piece of at most four bytes, and puts what is answered to a text, with the bytes that came.
+fn push_read<S: Source>(
+    alloc: Global,
+    text: &mut String,
+    source: &mut S,
+) -> Result<(), AllocError> {
+    let mut piece = [0; 4];
+    let answer = source.read(&mut piece);
+    let count = answer.unwrap_or(0).min(piece.len());
+    let came = bytes_text(alloc, &piece[..count])?;
+    writeln!(text, "{answer:?} [{}]", came.as_str())
+}
+
+/// What that many reads of a source of these bytes answer.
+pub fn reads<E: Eprint + Copy + Drop>(rt: E, alloc: Global, words: &str) -> io::Result<String> {
+    let (count, bytes) = found(words.split_once(' '))?;
+    let bytes = bytes_of(alloc, bytes)?;
+    let inner = bytes.as_slice();
+    let mut source = Reading::new(Halting { inner, calls: 0 }, rt);
+    let mut text = String::new(alloc);
+    for _ in 0..found(number_of(count))? {
+        push_read(alloc, &mut text, &mut source)?;
+    }
+    Ok(text)
+}
+
+/// Writes pieces to a sink, and puts what is answered to a text.
+fn push_writes<S: Sink>(
+    alloc: Global,
+    text: &mut String,
+    sink: &mut S,
+    pieces: &str,
+) -> io::Result<()> {
+    for piece in pieces.split(',') {
+        let piece = bytes_of(alloc, piece.trim())?;
+        let answer: Result<usize, Failed> = sink.write(piece.as_slice());
+        writeln!(text, "{answer:?}")?;
+    }
+    Ok(())
+}
+
+/// What writes of pieces to a sink of five bytes answer, and what it then holds.
+pub fn writes<E: Eprint + Copy + Drop>(rt: E, alloc: Global, pieces: &str) -> io::Result<String> {
+    let mut text = String::new(alloc);
+    let mut held = [0; 5];
+    let inner: &mut [u8] = &mut held;
+    let mut sink = Writing::new(Halting { inner, calls: 0 }, rt);
+    push_writes(alloc, &mut text, &mut sink, pieces)?;
+    let held = bytes_text(alloc, &held)?;
+    writeln!(text, "holds [{}]", held.as_str())?;
+    Ok(text)
+}

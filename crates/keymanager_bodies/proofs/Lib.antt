@@ -1,0 +1,2 @@
+mod KeystoreLemmas
+mod ReplyLemmas

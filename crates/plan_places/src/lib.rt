@@ -1,0 +1,154 @@
+//! What a command line names of the outside: the files of its journal, the services that it calls, and where it takes
+//! connections.
+#![tactic(auto)]
+
+ghost use Rattle.std.specs.Prelude.{◌≡◌, [], IfOk, None, Ok, Some, map, option_map, string_bytes, ◌++◌};
+ghost use Rattle.command_line.specs.Plans.{asked_of, taken_as};
+ghost use Rattle.plan_places.specs.Files.{files_at, files_of};
+ghost use Rattle.plan_places.specs.Services.{listen_of, nodes_of, signer_of};
+
+use command_line::{ListenAddress, Plan, ServeOptions, plan};
+use service_url::ServiceUrl;
+use std::alloc::{AllocError, Global};
+
+/// What words name of the outside.
+#[derive(Drop)]
+pub struct Places {
+    /// The paths of the two files of the journal, if they name one.
+    pub files: Option<(String, String)>,
+    /// The services, and where connections are taken.
+    pub services: Services,
+}
+
+/// What words name of the network.
+#[derive(Drop)]
+pub struct Services {
+    /// The address of the signing service, if they name one.
+    pub signer: Option<ServiceUrl>,
+    /// The addresses of the beacon nodes, in their order.
+    pub nodes: Vec<ServiceUrl>,
+    /// Where connections are taken, if anywhere.
+    pub listen: Option<ListenAddress>,
+}
+
+/// What the words of a command line name of the outside; nothing where they are no command.
+///
+/// # Errors
+///
+/// `AllocError` where memory was wanted.
+pub fn named(alloc: Global, words: &[String]) -> Result<Places, AllocError>
+    ensures files { IfOk result (λ x. option_map (λ f. (string_bytes f.0, string_bytes f.1)) x.files ≡ files_of (asked_of (map string_bytes words.now))) }
+    ensures signer { IfOk result (λ x. x.services.signer ≡ signer_of (asked_of (map string_bytes words.now))) }
+    ensures nodes { IfOk result (λ x. x.services.nodes.items ≡ nodes_of (asked_of (map string_bytes words.now))) }
+    ensures listen { IfOk result (λ x. x.services.listen ≡ listen_of (asked_of (map string_bytes words.now))) }
+{
+    match plan(alloc, words)? {
+        Ok(plan) => named_by(alloc, plan),
+        Err(_) => Ok(Places {
+            files: None,
+            services: no_services(alloc),
+        }),
+    }
+}
+
+/// What a plan names of the outside.
+fn named_by(alloc: Global, plan: Plan) -> Result<Places, AllocError>
+    ensures files { IfOk result (λ x. option_map (λ f. (string_bytes f.0, string_bytes f.1)) x.files ≡ files_of (taken_as (Ok plan))) }
+    ensures signer { IfOk result (λ x. x.services.signer ≡ signer_of (taken_as (Ok plan))) }
+    ensures nodes { IfOk result (λ x. x.services.nodes.items ≡ nodes_of (taken_as (Ok plan))) }
+    ensures listen { IfOk result (λ x. x.services.listen ≡ listen_of (taken_as (Ok plan))) }
+{
+    let files = plan_files(alloc, &plan)?;
+    let services = services_in(alloc, plan);
+    Ok(Places { files, services })
+}
+
+/// No service, and no place for connections.
+fn no_services(alloc: Global) -> Services
+    ensures signer { result.signer ≡ None }
+    ensures nodes { result.nodes.items ≡ [] }
+    ensures listen { result.listen ≡ None }
+{
+    Services {
+        signer: None,
+        nodes: Vec::new(alloc),
+        listen: None,
+    }
+}
+
+/// What a plan names of the network.
+fn services_in(alloc: Global, plan: Plan) -> Services
+    ensures signer { result.signer ≡ signer_of (taken_as (Ok plan)) }
+    ensures nodes { result.nodes.items ≡ nodes_of (taken_as (Ok plan)) }
+    ensures listen { result.listen ≡ listen_of (taken_as (Ok plan)) }
+{
+    match plan {
+        Plan::Serve(options) => services_of(options),
+        Plan::Session { signer, .. } => Services {
+            signer,
+            nodes: Vec::new(alloc),
+            listen: None,
+        },
+        _ => no_services(alloc),
+    }
+}
+
+/// What the options of a server name of the network.
+fn services_of(options: ServeOptions) -> Services
+    ensures signer { result.signer ≡ Some options.signer }
+    ensures nodes { result.nodes.items ≡ options.nodes }
+    ensures listen { result.listen ≡ Some options.listen }
+{
+    let ServeOptions {
+        genesis: _genesis,
+        journal: _journal,
+        signer,
+        listen,
+        token: _token,
+        watch: _watch,
+        slots: _slots,
+        connections: _connections,
+        lanes: _lanes,
+        nodes,
+    } = options;
+    Services {
+        signer: Some(signer),
+        nodes: nodes.into_vec(),
+        listen: Some(listen),
+    }
+}
+
+/// The paths of the two files of a plan's journal, if it has one.
+fn plan_files(alloc: Global, plan: &Plan) -> Result<Option<(String, String)>, AllocError>
+    ensures { IfOk result (λ files. option_map (λ f. (string_bytes f.0, string_bytes f.1)) files ≡ files_of (taken_as (Ok plan.now))) }
+{
+    let path = match plan {
+        Plan::Session { journal, .. } => match journal {
+            Some(path) => path.as_str(),
+            None => return Ok(None),
+        },
+        Plan::Serve(options) => options.journal.as_str(),
+        Plan::Merge { journal, .. } | Plan::Show { journal, .. } => journal.as_str(),
+        Plan::Rehearse { .. } | Plan::Shown(_) => return Ok(None),
+    };
+    let files = path_files(alloc, path)?;
+    Ok(Some(files))
+}
+
+/// The paths of the two files of a journal's path.
+fn path_files(alloc: Global, path: &str) -> Result<(String, String), AllocError>
+    ensures { IfOk result (λ f. (string_bytes f.0, string_bytes f.1) ≡ files_at path.now) }
+{
+    let first = with_ending(alloc, path, ".a")?;
+    let second = with_ending(alloc, path, ".b")?;
+    Ok((first, second))
+}
+
+/// A path with an ending.
+fn with_ending(alloc: Global, path: &str, ending: &str) -> Result<String, AllocError>
+    ensures { IfOk result (λ text. string_bytes text ≡ path.now ++ ending.now) }
+{
+    let mut text = String::from_str(alloc, path)?;
+    text.push_str(ending)?;
+    Ok(text)
+}

@@ -1,0 +1,89 @@
+//! Containers as JSON.
+//!
+//! | Subject | What comes of it |
+//! |---|---|
+//! | `root KIND JSON` | the root of a container and the JSON that is written of it, or the fault of the JSON |
+//! | `header JSON` | as above, of a block's header |
+//! | `bits JSON` | the bits of an attestation, or the fault of the JSON |
+use crate::{chains, merkle};
+use edge_kit::hex_text;
+use phase0_blocks::{Attestation, BeaconBlock, BeaconBlockBody, SignedBeaconBlock};
+use phase0_types::{
+    BeaconBlockHeader, Checkpoint, Eth1Data, Fork, ForkData, ReadFault, Shaped, SigningData,
+};
+use serde_json::Value;
+use std::alloc::Global;
+
+/// The root of a value, and its JSON.
+fn root_and_json<T: Shaped>(alloc: Global, value: &T) -> Option<String> {
+    let json = value.to_value(alloc).ok()?;
+    let root = hex_text(alloc, &value.root().0).ok()?;
+    format!(in alloc; "{}\n{json}", root.as_str()).ok()
+}
+
+/// The root of what JSON writes and the JSON that is written of that, or the fault.
+fn read<T: Shaped>(alloc: Global, json: &Value) -> Option<String> {
+    match T::read_value(alloc, json).ok()? {
+        Ok(value) => root_and_json(alloc, &value),
+        Err(fault) => fault.to_string(alloc).ok(),
+    }
+}
+
+/// As above, of a container that a block or a body is or has as a field.
+fn read_of_block(alloc: Global, kind: &str, json: &Value) -> Option<String> {
+    match kind {
+        "signed_block" => read::<SignedBeaconBlock>(alloc, json),
+        "block" => read::<BeaconBlock>(alloc, json),
+        "body" => read::<BeaconBlockBody>(alloc, json),
+        "eth1_data" => read::<Eth1Data>(alloc, json),
+        _ => None,
+    }
+}
+
+fn root(alloc: Global, kind: &str, json: &Value) -> Option<String> {
+    match kind {
+        "checkpoint" => read::<Checkpoint>(alloc, json),
+        "header" => read::<BeaconBlockHeader>(alloc, json),
+        "fork" => read::<Fork>(alloc, json),
+        "fork_data" => read::<ForkData>(alloc, json),
+        "signing_data" => read::<SigningData>(alloc, json),
+        _ => read_of_block(alloc, kind, json),
+    }
+}
+
+fn header(alloc: Global, json: &Value) -> Option<String> {
+    match BeaconBlock::read_value(alloc, json).ok()? {
+        Ok(block) => root_and_json(alloc, &block.header()),
+        Err(fault) => fault.to_string(alloc).ok(),
+    }
+}
+
+/// How many bits there are, and each.
+fn bits_text(alloc: Global, bits: &[bool]) -> Option<String> {
+    let mut text = format!(in alloc; "{} bits ", bits.len()).ok()?;
+    for bit in bits {
+        text.push(if *bit { '1' } else { '0' }).ok()?;
+    }
+    Some(text)
+}
+
+fn bits(alloc: Global, json: &Value) -> Option<String> {
+    match Attestation::read_value(alloc, json).ok()? {
+        Ok(vote) => bits_text(alloc, vote.aggregation_bits.as_slice()),
+        Err(fault) => fault.to_string(alloc).ok(),
+    }
+}
+
+/// What comes of a line.
+pub fn outcome(alloc: Global, subject: &str, text: &str) -> Option<String> {
+    match subject {
+        "root" => {
+            let (kind, json) = text.split_once(' ')?;
+            root(alloc, kind, &Value::from_str(alloc, json).ok()?)
+        }
+        "header" => header(alloc, &Value::from_str(alloc, text).ok()?),
+        "bits" => bits(alloc, &Value::from_str(alloc, text).ok()?),
+        "chain" => chains::outcome(alloc, text),
+        _ => merkle::outcome(alloc, subject, text),
+    }
+}

@@ -1,7 +1,0 @@
-pub mod Starting
-pub mod Clients
-pub mod Equipping
-pub mod Serving
-pub mod Seating
-pub mod Ends
-pub mod Views

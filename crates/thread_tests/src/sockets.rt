@@ -1,0 +1,205 @@
+//! A listener of the system as a door, and a connection of it as a link.
+use edge_kit::{Door, Failed, Link};
+use edge_system::{TcpConn, TcpDoor, TcpLink};
+use std::alloc::Global;
+use std::io;
+use std::io::{Eprint, Read, Write};
+use std::net::{Net, OpenListener, TcpListener, TcpStream};
+use std::process::Abort;
+use std::test::Fail;
+use std::time::Duration;
+
+/// A call of a link, and what it answers.
+#[derive(Clone, Copy)]
+enum Step {
+    Connect(Result<(), Failed>),
+    /// The byte `z` is sent.
+    Send(Result<usize, Failed>),
+    /// A byte is received, which is 0 where none comes.
+    Recv(Result<usize, Failed>, u8),
+    HangUp,
+}
+
+/// Nothing is sent before the link is connected.
+const BEGUN: [Step; 2] = [Step::Send(Err(Failed)), Step::Connect(Ok(()))];
+
+/// A peer says two bytes, and no more for now.
+const HEARD: [Step; 3] = [
+    Step::Recv(Ok(1), b'a'),
+    Step::Recv(Ok(1), b'b'),
+    Step::Recv(Err(Failed), 0),
+];
+
+/// Each call of a connection that is not there fails.
+const ABSENT: [Step; 3] = [
+    Step::Send(Err(Failed)),
+    Step::Recv(Err(Failed), 0),
+    Step::Connect(Err(Failed)),
+];
+
+/// A connection is ended, and its calls fail.
+const ENDED: [Step; 3] = [
+    Step::HangUp,
+    Step::Send(Err(Failed)),
+    Step::Connect(Err(Failed)),
+];
+
+/// Receives a byte, and compares it with what is wanted.
+fn receive<T: Abort, L: Link>(rt: &T, link: &mut L, wanted: (Result<usize, Failed>, u8)) {
+    let mut byte = [0];
+    let answer = link.recv(&mut byte);
+    assert_eq!(rt; (answer, byte[0]), wanted);
+}
+
+/// Makes calls of a link, and compares what they answer.
+fn play<T: Abort, L: Link>(rt: &T, link: &mut L, steps: &[Step]) {
+    for step in steps {
+        match *step {
+            Step::Connect(wanted) => assert_eq!(rt; link.connect(), wanted),
+            Step::Send(wanted) => assert_eq!(rt; link.send(b"z"), wanted),
+            Step::Recv(wanted, byte) => receive(rt, link, (wanted, byte)),
+            Step::HangUp => assert_eq!(rt; link.hang_up(), Ok(())),
+        }
+    }
+}
+
+/// Sends a byte to a peer, which hears it.
+fn speak<T: Abort, L: Link, S: Read>(rt: &T, link: &mut L, peer: &mut S) -> io::Result<()> {
+    play(rt, link, &[Step::Send(Ok(1))]);
+    let mut byte = [0];
+    peer.read_exact(&mut byte)?;
+    assert_eq!(rt; byte, *b"z");
+    Ok(())
+}
+
+/// A door at a port of this machine, which can't be opened while another listener has the port.
+fn shut_door<N: Net + Eprint + Abort + Copy + Drop>(
+    rt: N,
+    alloc: Global,
+) -> Result<(TcpDoor<N>, u16), Fail> {
+    let free = TcpListener::bind(&rt, "127.0.0.1:0")?;
+    let port = free.local_addr()?.port();
+    let mut door = TcpDoor::new(alloc, rt, String::from_str(alloc, "127.0.0.1")?, port);
+    assert!(rt; door.accept().is_err());
+    Ok((door, port))
+}
+
+/// Talks with a peer that has said a byte, over a connection, and ends it. Each call of a twin of it fails.
+fn talk<T: Abort, S: Read + Write + Drop>(
+    rt: &T,
+    alloc: Global,
+    conn: &mut TcpConn<S>,
+    peer: &mut S,
+) -> Result<(), Fail> {
+    play(rt, conn, &[Step::Recv(Ok(1), b'a')]);
+    let mut twin = conn.twin(alloc)?;
+    play(rt, &mut twin, &ABSENT);
+    assert_eq!(rt; twin.faults(), 3);
+    speak(rt, conn, peer)?;
+    play(rt, conn, &ENDED);
+    assert_eq!(rt; conn.faults(), 2);
+    Ok(())
+}
+
+/// Talks with a peer over the connection that a door accepts next.
+fn serve<N: Net + Eprint + Abort + Copy + Drop>(
+    rt: N,
+    alloc: Global,
+    door: &mut TcpDoor<N>,
+    port: u16,
+) -> Result<(), Fail> {
+    let mut peer = TcpStream::connect(&rt, ("127.0.0.1", port))?;
+    peer.write_all(b"a")?;
+    let Ok(Some(mut conn)) = door.accept() else {
+        return Err(Fail::new("a door accepts none"));
+    };
+    talk(&rt, alloc, &mut conn, &mut peer)?;
+    door.finish(conn);
+    Ok(())
+}
+
+#[test]
+fn a_listener_is_a_door(rt: HostRuntime) -> Result<(), Fail> {
+    let (mut door, port) = shut_door(&rt, rt.alloc())?;
+    assert_eq!(rt; door.listen(), Ok(()));
+    serve(&rt, rt.alloc(), &mut door, port)?;
+    assert_eq!(rt; door.faults(), 1);
+    Ok(())
+}
+
+/// A link with a short limit to a listener at a free port of this machine.
+fn link_to<N: Net + Eprint + Drop>(
+    rt: N,
+    alloc: Global,
+    listener: &N::Listener,
+) -> io::Result<TcpLink<N>> {
+    let port = listener.local_addr()?.port();
+    let mut link = TcpLink::new(alloc, rt, String::from_str(alloc, "localhost")?, port);
+    link.set_limit(Duration::from_millis(200));
+    Ok(link)
+}
+
+/// Connects a link to a listener, after a send that fails, and says a byte to the peer, which is given.
+fn connected<T: Abort, L: Link, O: OpenListener>(
+    rt: &T,
+    link: &mut L,
+    listener: &O,
+) -> Result<O::Stream, Fail>
+where
+    O::Stream: Read,
+{
+    play(rt, link, &BEGUN);
+    let (mut peer, _) = listener.accept()?;
+    speak(rt, link, &mut peer)?;
+    Ok(peer)
+}
+
+/// Talks over a link with the peer at a listener, which says two bytes and then ends.
+fn hear<T: Abort, L: Link, O: OpenListener>(rt: &T, link: &mut L, listener: &O) -> Result<(), Fail>
+where
+    O::Stream: Read + Write,
+{
+    let mut peer = connected(rt, link, listener)?;
+    peer.write_all(b"ab")?;
+    play(rt, link, &HEARD);
+    Ok(())
+}
+
+#[test]
+fn a_connection_is_a_link(rt: HostRuntime) -> Result<(), Fail> {
+    let listener = TcpListener::bind(&rt, "127.0.0.1:0")?;
+    let mut link = link_to(&rt, rt.alloc(), &listener)?;
+    hear(&rt, &mut link, &listener)?;
+    play(&rt, &mut link, &[Step::Recv(Ok(0), 0), Step::HangUp]);
+    drop(listener);
+    play(&rt, &mut link, &[Step::Connect(Err(Failed))]);
+    assert_eq!(rt; link.faults(), 3);
+    Ok(())
+}
+
+/// Talks over the twin of a link with a peer of its own.
+fn talk_as_twin<N: Net + Eprint + Abort + Copy + Drop>(
+    rt: N,
+    alloc: Global,
+    link: &mut TcpLink<N>,
+    listener: &N::Listener,
+) -> Result<(), Fail> {
+    let mut twin = link.twin(alloc)?;
+    assert_eq!(rt; twin.faults(), 0);
+    let _peer = connected(&rt, &mut twin, listener)?;
+    play(&rt, &mut twin, &[Step::Recv(Err(Failed), 0), Step::HangUp]);
+    assert_eq!(rt; twin.faults(), 2);
+    Ok(())
+}
+
+#[test]
+fn a_twin_is_a_connection_of_its_own(rt: HostRuntime) -> Result<(), Fail> {
+    let listener = TcpListener::bind(&rt, "127.0.0.1:0")?;
+    let mut link = link_to(&rt, rt.alloc(), &listener)?;
+    play(&rt, &mut link, &BEGUN);
+    let (mut peer, _) = listener.accept()?;
+    talk_as_twin(&rt, rt.alloc(), &mut link, &listener)?;
+    speak(&rt, &mut link, &mut peer)?;
+    assert_eq!(rt; link.faults(), 1);
+    Ok(())
+}

@@ -1,0 +1,140 @@
+//! The signing service over a link in memory.
+use crate::links::{link, sent};
+use crate::permits::{KEY, PERMIT};
+use crate::reading::{Stop, first_part, numbers_in, service_of, value_of, with_bytes};
+use crate::scenes::Scene;
+use edge_kit::{MemLink, Root, hex_text};
+use phase0_blocks::VoluntaryExit;
+use phase0_types::Fork;
+use signer_link::{
+    DeleteReply, ImportReply, PlainObject, PlainRequest, SignObject, SignReply, SignRequest, Signer,
+};
+use std::alloc::Global;
+use web3_signer::Web3Signer;
+
+const FORK: Fork = Fork {
+    previous_version: [0, 0, 0, 1],
+    current_version: [0, 0, 0, 2],
+    epoch: 7,
+};
+
+const GENESIS: Root = Root([3; 32]);
+
+/// A Web3Signer over a link whose peer says this, and whose calls of these numbers fail.
+pub fn signer(alloc: Global, setting: &str, failing: &[u64]) -> Result<Web3Signer<MemLink>, Stop> {
+    let link = link(alloc, setting, failing)?;
+    let service = service_of(alloc, "http://signer:9000/base/")?;
+    Ok(Web3Signer::new(link, service))
+}
+
+/// The object of a message.
+fn object(alloc: Global, words: &str) -> Result<SignObject, Stop> {
+    match first_part(words, " ") {
+        ("header", json) => Ok(SignObject::Header(value_of(alloc, json)?)),
+        ("block", json) => Ok(SignObject::Block(value_of(alloc, json)?)),
+        _ => Err(Stop::Unread),
+    }
+}
+
+/// Another object that is signed.
+fn plain_object(alloc: Global, words: &str) -> Result<PlainObject, Stop> {
+    let (kind, _) = first_part(words, " ");
+    match (kind, numbers_in(alloc, words)?.as_slice()) {
+        ("reveal", [epoch]) => Ok(PlainObject::RandaoReveal { epoch: *epoch }),
+        ("aggregation", [slot]) => Ok(PlainObject::AggregationSlot { slot: *slot }),
+        ("exit", [epoch, validator_index]) => Ok(PlainObject::VoluntaryExit(VoluntaryExit {
+            epoch: *epoch,
+            validator_index: *validator_index,
+        })),
+        _ => Err(Stop::Unread),
+    }
+}
+
+fn sign_words(alloc: Global, reply: &SignReply) -> Result<String, Stop> {
+    match reply {
+        SignReply::Signed(signature) => {
+            let digits = hex_text(alloc, &signature.0)?;
+            let digits = digits.as_str();
+            Ok(format!(in alloc; "signed {digits}")?)
+        }
+        SignReply::NoKey(status) => Ok(format!(in alloc; "no key {status:?}")?),
+        SignReply::Denied(status) => Ok(format!(in alloc; "denied {status}")?),
+        SignReply::Fault => Ok(String::from_str(alloc, "fault")?),
+        SignReply::BadAnswer(body) => with_bytes(alloc, "bad", body.as_slice()),
+        SignReply::OutOfMemory => Err(Stop::OutOfMemory),
+    }
+}
+
+fn import_words(alloc: Global, reply: &ImportReply) -> Result<String, Stop> {
+    match reply {
+        ImportReply::Imported => Ok(String::from_str(alloc, "imported")?),
+        ImportReply::Duplicate => Ok(String::from_str(alloc, "duplicate")?),
+        ImportReply::Refused(text) => with_bytes(alloc, "refused", text.as_slice()),
+        ImportReply::Fault => Ok(String::from_str(alloc, "fault")?),
+        ImportReply::BadAnswer(body) => with_bytes(alloc, "bad", body.as_slice()),
+        ImportReply::OutOfMemory => Err(Stop::OutOfMemory),
+    }
+}
+
+fn delete_words(alloc: Global, reply: &DeleteReply) -> Result<String, Stop> {
+    match reply {
+        DeleteReply::Deleted => Ok(String::from_str(alloc, "deleted")?),
+        DeleteReply::NotActive => Ok(String::from_str(alloc, "not active")?),
+        DeleteReply::NotFound => Ok(String::from_str(alloc, "not found")?),
+        DeleteReply::Refused(text) => with_bytes(alloc, "refused", text.as_slice()),
+        DeleteReply::Fault => Ok(String::from_str(alloc, "fault")?),
+        DeleteReply::BadAnswer(body) => with_bytes(alloc, "bad", body.as_slice()),
+        DeleteReply::OutOfMemory => Err(Stop::OutOfMemory),
+    }
+}
+
+/// Asks for the signature of the block that is allowed, which was made of this object.
+fn sign(alloc: Global, signer: &mut Web3Signer<MemLink>, words: &str) -> Result<String, Stop> {
+    let object = object(alloc, words)?;
+    let request = SignRequest {
+        fork: FORK,
+        genesis: GENESIS,
+        object: Some(object),
+    };
+    let reply = signer.sign(&request, &PERMIT);
+    sign_words(alloc, &reply)
+}
+
+/// Asks for the signature of another object.
+fn sign_plain(
+    alloc: Global,
+    signer: &mut Web3Signer<MemLink>,
+    words: &str,
+) -> Result<String, Stop> {
+    let request = PlainRequest {
+        fork: FORK,
+        genesis: GENESIS,
+        object: plain_object(alloc, words)?,
+    };
+    let reply = signer.sign_plain(&request, &PERMIT);
+    sign_words(alloc, &reply)
+}
+
+/// Has the key taken in, from this keystore and this password.
+fn import(alloc: Global, signer: &mut Web3Signer<MemLink>, words: &str) -> Result<String, Stop> {
+    let (keystore, password) = first_part(words, " ");
+    let reply = signer.import(&KEY, keystore, password);
+    import_words(alloc, &reply)
+}
+
+impl Scene for Web3Signer<MemLink> {
+    fn call(&mut self, alloc: Global, name: &str, arguments: &str) -> Result<String, Stop> {
+        match name {
+            "sign" => sign(alloc, self, arguments),
+            "sign-plain" => sign_plain(alloc, self, arguments),
+            "import" => import(alloc, self, arguments),
+            "delete" => delete_words(alloc, &self.delete(&KEY)),
+            "sent" => sent(alloc, self.twin(alloc)?.into_link()),
+            _ => Err(Stop::Unread),
+        }
+    }
+
+    fn another(&self, alloc: Global) -> Result<Self, Stop> {
+        Ok(self.twin(alloc)?)
+    }
+}

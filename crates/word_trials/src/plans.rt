@@ -1,0 +1,141 @@
+//! Words of the command line, and the plans that they are.
+use crate::reading::{Stop, push_digits, push_ended};
+use command_line::{PathText, Plan, ServeOptions, Usage, plan};
+use edge_kit::{Root, push_hex};
+use service_url::ServiceUrl;
+use sign_roots::Fork;
+use std::alloc::{AllocError, Global};
+
+/// The root that a `%` stands for.
+const ROOT: &str = "0xabababababababababababababababababababababababababababababababab";
+
+/// The text with the root in the place of a `%`.
+fn with_root(alloc: Global, marked: &str) -> Result<String, AllocError> {
+    match marked.split_once('%') {
+        Some((before, after)) => format!(in alloc; "{before}{}{after}", ROOT),
+        None => String::from_str(alloc, marked),
+    }
+}
+
+/// The plan of words, the first of which is the program's name. Each word ends at a `|` or with the line.
+fn plan_of(alloc: Global, line: &str) -> Result<Result<Plan, Usage>, AllocError> {
+    let mut words = Vec::new(alloc);
+    for word in line.split_terminator('|') {
+        words.push(with_root(alloc, word)?)?;
+    }
+    plan(alloc, words.as_slice())
+}
+
+/// Appends what words come to: a plan in words, or what is said of words that are none.
+pub(crate) fn push_plan_of(alloc: Global, line: &str, out: &mut String) -> Result<(), Stop> {
+    match &plan_of(alloc, line)? {
+        Ok(planned) => push_plan(alloc, planned, out)?,
+        Err(usage) => push_text(out, "usage ", usage.as_str())?,
+    }
+    Ok(())
+}
+
+/// Appends what `{:?}` writes of what words come to.
+pub(crate) fn push_debug_of(alloc: Global, line: &str, out: &mut String) -> Result<(), Stop> {
+    let planned = plan_of(alloc, line)?;
+    write!(out, "{planned:?}")?;
+    Ok(())
+}
+
+/// Appends a text after a word.
+fn push_text(out: &mut String, word: &str, text: &str) -> Result<(), AllocError> {
+    out.push_str(word)?;
+    push_ended(out, text)
+}
+
+/// Appends a plan in words.
+fn push_plan(alloc: Global, planned: &Plan, out: &mut String) -> Result<(), AllocError> {
+    match planned {
+        Plan::Session {
+            genesis,
+            journal,
+            fork,
+            signer,
+            watch,
+        } => {
+            push_place(alloc, out, "session", genesis, journal.as_ref())?;
+            push_signing(alloc, out, fork, signer.is_some(), *watch)
+        }
+        Plan::Serve(options) => push_options(alloc, out, options),
+        Plan::Merge { genesis, journal } => {
+            push_place(alloc, out, "merge", genesis, Some(journal))
+        }
+        Plan::Show { genesis, journal } => push_place(alloc, out, "show", genesis, Some(journal)),
+        Plan::Rehearse { number, size } => {
+            write!(out, "rehearse {number} {} {}", size.clients(), size.steps())
+        }
+        Plan::Shown(text) => push_text(out, "shown ", text.as_str()),
+    }
+}
+
+/// Appends a command, its chain and its journal, if it has one.
+fn push_place(
+    alloc: Global,
+    out: &mut String,
+    command: &str,
+    genesis: &Root,
+    journal: Option<&PathText>,
+) -> Result<(), AllocError> {
+    write!(out, "{command} ")?;
+    push_hex(alloc, out, &genesis.0)?;
+    match journal {
+        Some(path) => write!(out, " at {}", path.as_str()),
+        None => out.push_str(" nowhere"),
+    }
+}
+
+/// Appends a fork, whether a service signs, and whether keys are watched.
+fn push_signing(
+    alloc: Global,
+    out: &mut String,
+    fork: &Fork,
+    has_signer: bool,
+    watch: bool,
+) -> Result<(), AllocError> {
+    out.push(' ')?;
+    push_digits(alloc, out, &fork.previous_version)?;
+    out.push(' ')?;
+    push_digits(alloc, out, &fork.current_version)?;
+    write!(out, " {} {has_signer} {watch}", fork.epoch)
+}
+
+/// Appends the address of a service.
+fn push_service(out: &mut String, service: &ServiceUrl) -> Result<(), AllocError> {
+    write!(out, " {}{}", service.authority(), service.path())
+}
+
+/// Appends the options of a server.
+fn push_options(alloc: Global, out: &mut String, options: &ServeOptions) -> Result<(), AllocError> {
+    push_place(
+        alloc,
+        out,
+        "serve",
+        &options.genesis,
+        Some(&options.journal),
+    )?;
+    push_service(out, &options.signer)?;
+    push_door(out, options)?;
+    for node in options.nodes.as_slice() {
+        push_service(out, node)?;
+    }
+    Ok(())
+}
+
+/// Appends where a server answers, its token, whether it watches, when it ends, and how many lanes it has.
+fn push_door(out: &mut String, options: &ServeOptions) -> Result<(), AllocError> {
+    let listen = options.listen;
+    let token = options.token.as_str();
+    let watch = options.watch;
+    let slots = options.slots;
+    let connections = options.connections;
+    let lanes = options.lanes.get();
+    write!(
+        out,
+        " {listen} {token} {watch} {slots} {connections} {lanes}"
+    )
+}

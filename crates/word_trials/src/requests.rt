@@ -1,0 +1,96 @@
+//! Lines of a session, and the requests that they are.
+use crate::reading::{Stop, bytes, push_digits, push_ended};
+use edge_kit::Root;
+use session_format::{Answer, Member, Op, Request, read_request};
+use sign_roots::{Domains, Fork};
+use signer_link::SignObject;
+use slash_defs::Message;
+use std::alloc::{AllocError, Global};
+
+/// A chain whose version changes at epoch 10.
+fn domains() -> Domains {
+    let fork = Fork {
+        previous_version: [0, 0, 0, 1],
+        current_version: [0, 0, 0, 2],
+        epoch: 10,
+    };
+    Domains::new(fork, Root([0xcc; 32]))
+}
+
+/// Appends the request that a line is, or the member that it is refused for and the answer.
+pub(crate) fn push_request_of(alloc: Global, text: &str, out: &mut String) -> Result<(), Stop> {
+    let line = bytes(alloc, text)?;
+    match &read_request(alloc, &domains(), line.as_slice())? {
+        Ok(request) => push_request(alloc, out, request)?,
+        Err(member) => push_refusal(alloc, out, *member)?,
+    }
+    Ok(())
+}
+
+/// Appends the name of a member, and the answer that names it.
+fn push_refusal(alloc: Global, out: &mut String, member: Member) -> Result<(), AllocError> {
+    writeln!(out, "no {}", member.name())?;
+    let answer = Answer::BadRequest(member);
+    let line = answer.line(alloc)?;
+    push_ended(out, line.as_str())
+}
+
+/// Appends a request in words.
+fn push_request(alloc: Global, out: &mut String, request: &Request) -> Result<(), AllocError> {
+    push_op(alloc, out, &request.op)?;
+    match request.epoch {
+        Some(epoch) => write!(out, " at {epoch}"),
+        None => Ok(()),
+    }
+}
+
+/// Appends what a request asks for.
+fn push_op(alloc: Global, out: &mut String, op: &Op) -> Result<(), AllocError> {
+    match op {
+        Op::Merge { file } => write!(out, "merge {}", file.books.len()),
+        Op::BadFile { fault } => write!(out, "{fault}"),
+        Op::Activate { .. } => out.push_str("activate"),
+        Op::Import { file, keystores } => {
+            let (keystores, _passwords) = keystores.texts();
+            let merged = if file.is_some() { " and a file" } else { "" };
+            write!(out, "import {}{merged}", keystores.len())
+        }
+        Op::Delete { keys } => write!(out, "delete {}", keys.len()),
+        Op::List => out.push_str("list"),
+        Op::Propose {
+            message,
+            object,
+            ..
+        } => push_proposal(alloc, out, message, object.as_ref()),
+        Op::Export { keys: Some(keys) } => write!(out, "export {}", keys.len()),
+        Op::Export { keys: None } => out.push_str("export all"),
+        Op::Prune { .. } => out.push_str("prune"),
+        Op::Live { of, is_live, .. } => write!(out, "live {of} {is_live}"),
+        Op::Compact => out.push_str("compact"),
+    }
+}
+
+/// Appends a message, and the kind of the object that it is of.
+fn push_proposal(
+    alloc: Global,
+    out: &mut String,
+    message: &Message,
+    object: Option<&SignObject>,
+) -> Result<(), AllocError> {
+    match message {
+        Message::Block { slot, .. } => write!(out, "block {slot} ")?,
+        Message::Vote { source, target, .. } => write!(out, "vote {source} {target} ")?,
+    }
+    push_digits(alloc, out, &message.signing_root().0)?;
+    out.push_str(object_words(object))
+}
+
+/// The kind of an object.
+fn object_words(object: Option<&SignObject>) -> &'static str {
+    match object {
+        None => "",
+        Some(SignObject::Header(_)) => " header",
+        Some(SignObject::Block(_)) => " whole block",
+        Some(SignObject::Attestation(_)) => " attestation",
+    }
+}
