@@ -3,14 +3,14 @@
 # up the same targets by an index on (key, target): by a prepared statement from Python, one a lookup, and as one statement
 # that looks them all up by itself. SQLite only looks for a vote of the target, and not for votes that surround. Then a
 # merge of a file of 1,000 votes into the votes that are kept, and 10,000 random records beside a plain walk.
-# Run it at the top of the repository. A program that is built is measured as it stands, else it is built first.
+# Run it at the top of the repository. The program is built as lay_out.sh says.
 set -eu
 work=$(mktemp -d)
 trap 'rm -rf "$work"' EXIT
 
-[ -x crates/benches/out/benches ] || (cd crates/benches && rt run -- all <stdin >"$work/build" 2>&1) || { cat "$work/build"; exit 1; }
+. bench/lay_out.sh
 
-python3 - crates/benches/out/benches <<'PY'
+python3 - "$program" <<'PY'
 import random, sqlite3, subprocess, sys, time
 program = sys.argv[1]
 CHECKS = 200000

@@ -3,14 +3,14 @@
 # length and in chunks of 1,024 and of 65,536 bytes, beside Python's standard library on the same bytes in the same run.
 # Python reads requests by length with http.server's parser. It has no reader of chunked requests, so there http.client
 # reads a response with the same fields and the same chunks. Last, how long a flood of 65,536 empty lines takes.
-# Run it at the top of the repository. A program that is built is measured as it stands, else it is built first.
+# Run it at the top of the repository. The program is built as lay_out.sh says.
 set -eu
 work=$(mktemp -d)
 trap 'rm -rf "$work"' EXIT
 
-[ -x crates/benches/out/benches ] || (cd crates/benches && rt run -- all <stdin >"$work/build" 2>&1) || { cat "$work/build"; exit 1; }
+. bench/lay_out.sh
 
-python3 - crates/benches/out/benches <<'PY'
+python3 - "$program" <<'PY'
 import http.client, http.server, io, subprocess, sys, time
 program = sys.argv[1]
 

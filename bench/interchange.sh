@@ -4,16 +4,14 @@
 # in the same run: a file of 10,000 keys with 100 entries each, one of a single key with 1,000,000 entries, and one of 2,000,000 blocks
 # of 13 bytes each. Speeds are bytes of the interchange file by the whole time of the process, and by the processor time that it took; memory is
 # its peak, and how often that is the file.
-# Run it at the top of the repository. A program that is built is measured as it stands, else it is built first. The first argument, if any,
+# Run it at the top of the repository. The program is built as lay_out.sh says. The first argument, if any,
 # divides the numbers of keys and entries.
 set -eu
 part=${1:-1}
-here=$(pwd)
 work=$(mktemp -d)
 trap 'rm -rf "$work"' EXIT
 
-program=crates/benches/out/benches
-[ -x "$program" ] || (cd crates/benches && rt run -- all <stdin >"$work/build" 2>&1) || { cat "$work/build"; exit 1; }
+. bench/lay_out.sh
 
 cat >"$work/rows.py" <<'PY'
 ROOT, KEY = "0x%064x", "0x%096x"
@@ -71,8 +69,8 @@ measure() {
 for name in many_keys one_key slots; do
     file="$work/$name.json"
     echo "$name: $(($(wc -c <"$file") / 1000000)) MB"
-    measure "$file" "read" sh -c 'exec "$1" interchange read <"$2"' sh "$here/$program" "$file"
-    measure "$file" "read and written back" sh -c 'exec "$1" interchange <"$2"' sh "$here/$program" "$file"
+    measure "$file" "read" sh -c 'exec "$1" interchange read <"$2"' sh "$program" "$file"
+    measure "$file" "read and written back" sh -c 'exec "$1" interchange <"$2"' sh "$program" "$file"
     measure "$file" "python3 json.load" python3 -c 'import json, sys; json.load(open(sys.argv[1]))' "$file"
     if command -v jq >/dev/null; then measure "$file" "jq" jq '.data | length' "$file"; fi
     measure "$file" "sqlite3 inserts" python3 "$work/import.py" "$name" "$part" "$work/$name.db"

@@ -4,13 +4,11 @@
 # members come twice and in any order, numbers overflow, lists nest, elements are of other kinds, and bytes are broken. Of a file that is
 # read the written text has to be the same, of one that is refused the reason. Prints what was compared; the first difference is shown
 # and ends it with status 1.
-# A program that is built is run as it stands, else it is built first.
+# The program is built as lay_out.sh says.
 # Usage: bench/interchange_reference.sh [FILES] [SEED]: so many files (10,000) of random numbers from this seed (1).
 set -eu
 cd "$(dirname "$0")/.."
-program=$PWD/crates/benches/out/benches
-[ -x "$program" ] || (cd crates/benches && rt run -- all <stdin >/dev/null 2>&1) || true
-[ -x "$program" ] || { echo "the program is not built: run 'rt run' in crates/benches" >&2; exit 1; }
+. bench/lay_out.sh
 python3 - "$program" "${1:-10000}" "${2:-1}" <<'PY'
 import json, math, random, re, subprocess, sys
 program, count, seed = sys.argv[1], int(sys.argv[2]), int(sys.argv[3])

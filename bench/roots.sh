@@ -2,14 +2,14 @@
 # Hashes per second for the root of a phase 0 block whose lists are all full, beside Python's hashlib doing the same
 # number of hashes of 64 bytes in the same run, and the number of SHA-256 calls for the root. The number is counted by
 # a walk in Python over the same trees, which also computes the root that the program has to print.
-# Run it at the top of the repository. A program that is built is measured as it stands, else it is built first.
+# Run it at the top of the repository. The program is built as lay_out.sh says.
 set -eu
 work=$(mktemp -d)
 trap 'rm -rf "$work"' EXIT
 
-[ -x crates/benches/out/benches ] || (cd crates/benches && rt run -- all <stdin >"$work/build" 2>&1) || { cat "$work/build"; exit 1; }
+. bench/lay_out.sh
 
-python3 - "$work" crates/benches/out/benches <<'PY'
+python3 - "$work" "$program" <<'PY'
 import hashlib, json, subprocess, sys, time
 work, program = sys.argv[1], sys.argv[2]
 TIMES = 100
