@@ -12,7 +12,10 @@ use crate::types::{Held, View};
 use crate::wide::Single;
 use std::snapshot::Snapshot;
 use std::sync::Wait;
-use std::thread;
+use std::time::Duration;
+
+/// After how many milliseconds a pass that waits looks again, though nobody woke it.
+const NAP_MILLIS: u64 = 20;
 
 /// What one thread makes its turns with: it knows a beginning of the history and its own calls.
 pub type Pass<S> = Place<S>;
@@ -28,7 +31,7 @@ pub type Shared<S> = Single<
 impl<S: Seq> Shared<S> {
     ghost use Rattle.desk_lock.specs.Sharing.{opening, IsPassAt};
 
-    /// Takes the value out of its slot. It waits while another pass has it.
+    /// Takes the value out of its slot. It sleeps while another pass has it: until it is woken, and not long.
     fn take<W: Wait>(&self, rt: &W, pass: &mut Pass<S>)
         requires { IsPassAt S.steps S.may self.now pass.old }
         ensures seat { (pass.new.table_id ≡ pass.old.table_id) × (pass.new.id ≡ pass.old.id) }
@@ -38,7 +41,9 @@ impl<S: Seq> Shared<S> {
             if self.table.shared.swap::<Tries<S>>(pass, 0, 1) == 0 {
                 return;
             }
-            thread::yield_now();
+            self.table
+                .shared
+                .park_timeout(rt, 0, 1, Duration::from_millis(NAP_MILLIS));
         }
         unreachable!()
     }
@@ -68,7 +73,9 @@ impl<S: Seq> Shared<S> {
         if self.table.shared.load::<Counts>(pass, 1) < u64::MAX {
             return;
         }
-        for _ in rt.forever() {}
+        for _ in rt.forever() {
+            self.table.shared.park(rt, 1, u32::MAX);
+        }
         unreachable!()
     }
 
@@ -86,6 +93,7 @@ impl<S: Seq> Shared<S> {
         let reply = self.apply(pass, call);
         self.table.shared.fetch_add::<Advances>(pass, 1, 1);
         self.table.shared.store::<PutsBack>(pass, 0, 0);
+        self.table.shared.wake_one(0);
         reply
     }
 

@@ -17,7 +17,11 @@ use desk_lock::{Pass, Shared};
 use desk_machine::{DeskCall, DeskCalls, DeskReply};
 use edge_kit::{Disk, PubKey};
 use std::sync::Wait;
-use std::thread;
+use std::sync::atomic::AtomicU64;
+use std::time::Duration;
+
+/// How many microseconds a close sleeps between two of its turns.
+const PAUSE_MICROS: u64 = 500;
 
 /// A seat at a shared desk: a pass that takes the desk's calls by turns. What was made of it are the pass's own calls,
 /// each answered as the desk answers it at its place in the history of all passes.
@@ -78,7 +82,7 @@ impl<'a, D: Disk, W: Wait> Seated<'a, D, W> {
     {
         for _ in self.rt.forever() {
             match DeskCalls::call(self, DeskCall::FinishClose { key: *key }) {
-                DeskReply::Busy { grants: _ } => thread::yield_now(),
+                DeskReply::Busy { grants: _ } => pause(self.rt),
                 reply => return reply,
             }
         }
@@ -96,4 +100,9 @@ impl<'a, D: Disk, W: Wait> Seated<'a, D, W> {
         } = self;
         pass
     }
+}
+
+/// Sleeps a while, so that others make their turns. No thread knows the word, so none wakes it.
+fn pause<W: Wait>(rt: &W) {
+    AtomicU64::new(0).park_timeout(rt, 0, Duration::from_micros(PAUSE_MICROS));
 }

@@ -27,7 +27,7 @@ use crate::verdict::Verdict;
 use crate::walk::{block_verdict, vote_verdict};
 use edge_kit::Items;
 use slash_defs::{BlockEntry, Book, Message, VoteEntry};
-use sorted_search::{SourceBounds, Steps};
+use sorted_search::{SourceBounds, Steps, reserve_sparingly};
 use std::alloc::{AllocError, Global};
 use std::marker::{Brand, Model};
 use std::sync::ledger::{Blank, Ledger};
@@ -78,7 +78,8 @@ impl Record {
         }
     }
 
-    /// The record of these floors and of those of these entries that still count under them, each once.
+    /// The record of these floors and of those of these entries that still count under them, each once. Memory that
+    /// the lists have beyond that is given back.
     ///
     /// # Errors
     ///
@@ -94,6 +95,8 @@ impl Record {
     {
         keep_live_blocks(&mut blocks, floors);
         keep_live_votes(&mut votes, floors);
+        blocks.shrink_to_fit();
+        votes.shrink_to_fit();
         let mut sources = SourceBounds::new(*votes.allocator());
         sources.reserve(votes.len())?;
         sources.rebuild(votes.as_slice());
@@ -186,9 +189,8 @@ impl Record {
         ensures same { SameParts self.old self.new }
     {
         // A merge sorts its entries behind the place where they go.
-        self.blocks
-            .reserve(blocks.checked_mul(2).ok_or(AllocError)?)?;
-        self.votes.reserve(votes.checked_mul(2).ok_or(AllocError)?)?;
+        reserve_sparingly(&mut self.blocks, blocks.checked_mul(2).ok_or(AllocError)?)?;
+        reserve_sparingly(&mut self.votes, votes.checked_mul(2).ok_or(AllocError)?)?;
         let wanted = self.votes.len().checked_add(votes).ok_or(AllocError)?;
         self.sources.reserve(wanted)
     }
@@ -224,6 +226,20 @@ impl Record {
                 }
             }
         }
+    }
+
+    /// How many blocks are kept. Takes no memory.
+    pub fn block_count(&self) -> usize
+        ensures { result ≡ length self.now.blocks }
+    {
+        self.blocks.len()
+    }
+
+    /// How many votes are kept. Takes no memory.
+    pub fn vote_count(&self) -> usize
+        ensures { result ≡ length self.now.votes }
+    {
+        self.votes.len()
     }
 
     /// The kept blocks, in file order, each once. Takes no memory.

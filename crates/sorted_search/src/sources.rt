@@ -4,6 +4,7 @@ ghost use Rattle.std.specs.List.{remove};
 ghost use Rattle.sorted_search.specs.Sources.{AreGreatest, AreLeast};
 
 use crate::raising::{lower_before, raise_from};
+use crate::sparing::reserve_sparingly;
 use slash_defs::VoteEntry;
 use std::alloc::{AllocError, Global};
 use std::marker::Model;
@@ -47,9 +48,10 @@ impl SourceBounds {
         ensures least { self.new.least ≡ self.old.least }
         ensures capacity { self.old.capacity ≤ self.new.capacity }
     {
-        self.greatest
-            .reserve(wanted.saturating_sub(self.greatest.len()))?;
-        self.least.reserve(wanted.saturating_sub(self.least.len()))
+        let more = wanted.saturating_sub(self.greatest.len());
+        reserve_sparingly(&mut self.greatest, more)?;
+        let more = wanted.saturating_sub(self.least.len());
+        reserve_sparingly(&mut self.least, more)
     }
 
     /// The greatest source up to each place.

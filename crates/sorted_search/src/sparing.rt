@@ -1,0 +1,30 @@
+//! Room for more elements of a list, with little of it empty.
+ghost use Rattle.std.specs.Prelude.{◌≡◌, ◌+◌, ◌/◌, ◌≤◌, ◌<◌, OnOk, OnErr, IsOk, vec_len, vec_capacity};
+
+use std::alloc::AllocError;
+
+/// Makes room for so many more elements. Where room is lacking, the list grows to the length that is wanted and a
+/// sixteenth of the length that it has. So little of it stays empty, and elements that are added one at a time
+/// are moved a fixed number of times each on average.
+///
+/// # Errors
+///
+/// `AllocError` where memory was wanted. The list is as it was.
+pub fn reserve_sparingly<T>(list: &mut Vec<T>, more: usize) -> Result<(), AllocError>
+    ensures items { list.new.items ≡ list.old.items }
+    ensures len { vec_len list.new ≡ vec_len list.old }
+    ensures ok { OnOk result (vec_len list.new + more ≤ vec_capacity list.new) }
+    ensures capacity { vec_capacity list.old ≤ vec_capacity list.new }
+    ensures succeeds { vec_len list.old + more ≤ vec_capacity list.old → IsOk result }
+    ensures enough { vec_len list.old + more ≤ vec_capacity list.old → vec_capacity list.new ≡ vec_capacity list.old }
+    ensures grown { OnOk result (vec_capacity list.old < vec_len list.old + more
+        → vec_capacity list.new ≡ vec_len list.old + (more + vec_len list.old / 16)) }
+    ensures err { OnErr result (vec_capacity list.new ≡ vec_capacity list.old) }
+{
+    let len = list.len();
+    if more <= list.capacity() - len {
+        return Ok(());
+    }
+    let wanted = more.checked_add(len / 16).ok_or(AllocError)?;
+    list.reserve_exact(wanted)
+}
