@@ -1,13 +1,35 @@
 //! The options of a command, and its values in their place, as `clap` takes them.
 ghost use Rattle.std.specs.Prelude.{◌≡◌, false};
 ghost use Rattle.clap.specs.Words.{rule_of};
+ghost use Rattle.command_table.specs.Rows.{row_rule};
 ghost use Rattle.command_table.specs.Table.{fork_rule, genesis_rule, nodes_rule, option_rule, value_rule, watch_rule};
 
+use crate::row::Row;
 use clap::{Arg, ArgAction};
 use std::alloc::Global;
 
+/// The argument that a row says.
+pub(crate) fn argument<'a>(alloc: Global, row: &Row) -> Arg<'a>
+    ensures local { result.global ≡ false }
+    ensures rule { rule_of result ≡ row_rule row.now }
+{
+    match *row {
+        Row::Genesis => genesis(alloc),
+        Row::Fork => fork(alloc),
+        Row::Watch => watch(alloc),
+        Row::Nodes => nodes(alloc),
+        Row::Value { id, name, about } => value(alloc, id, name, about),
+        Row::Choice {
+            id,
+            name,
+            about,
+            is_required,
+        } => value_option(alloc, id, name, about, is_required),
+    }
+}
+
 /// A value that must be given, in its place.
-pub(crate) fn value<'a>(alloc: Global, id: &'a str, name: &'a str, about: &'a str) -> Arg<'a>
+fn value<'a>(alloc: Global, id: &'a str, name: &'a str, about: &'a str) -> Arg<'a>
     ensures local { result.global ≡ false }
     ensures rule { rule_of result ≡ value_rule id.now }
 {
@@ -19,7 +41,7 @@ pub(crate) fn value<'a>(alloc: Global, id: &'a str, name: &'a str, about: &'a st
 }
 
 /// An option of one value, which a command cannot do without, or can.
-pub(crate) fn value_option<'a>(
+fn value_option<'a>(
     alloc: Global,
     id: &'a str,
     name: &'a str,
@@ -38,7 +60,7 @@ pub(crate) fn value_option<'a>(
 }
 
 /// The option `--genesis`.
-pub(crate) fn genesis<'a>(alloc: Global) -> Arg<'a>
+fn genesis<'a>(alloc: Global) -> Arg<'a>
     ensures local { result.global ≡ false }
     ensures rule { rule_of result ≡ genesis_rule }
 {
@@ -52,7 +74,7 @@ pub(crate) fn genesis<'a>(alloc: Global) -> Arg<'a>
 }
 
 /// The option `--fork`.
-pub(crate) fn fork<'a>(alloc: Global) -> Arg<'a>
+fn fork<'a>(alloc: Global) -> Arg<'a>
     ensures local { result.global ≡ false }
     ensures rule { rule_of result ≡ fork_rule }
 {
@@ -67,7 +89,7 @@ pub(crate) fn fork<'a>(alloc: Global) -> Arg<'a>
 }
 
 /// The option `--watch`.
-pub(crate) fn watch<'a>(alloc: Global) -> Arg<'a>
+fn watch<'a>(alloc: Global) -> Arg<'a>
     ensures local { result.global ≡ false }
     ensures rule { rule_of result ≡ watch_rule }
 {
@@ -80,7 +102,7 @@ pub(crate) fn watch<'a>(alloc: Global) -> Arg<'a>
 }
 
 /// The nodes, which stand behind the options.
-pub(crate) fn nodes<'a>(alloc: Global) -> Arg<'a>
+fn nodes<'a>(alloc: Global) -> Arg<'a>
     ensures local { result.global ≡ false }
     ensures rule { rule_of result ≡ nodes_rule }
 {

@@ -1,9 +1,11 @@
 //! The commands, each with its options.
-ghost use Rattle.std.specs.Prelude.{◌≡◌, [], ◌∷◌, IfOk, fold};
-ghost use Rattle.clap.specs.Words.{app_of, shape_of, with_rule, with_subcommand};
-ghost use Rattle.command_table.specs.Table.{table, door_rules, end_rules, help_shape, journal_shape, merge_shape, rehearse_shape, serve_shape, session_shape, show_shape, signing_rules};
+ghost use Rattle.std.specs.Prelude.{◌≡◌, [], IfOk, fold};
+ghost use Rattle.clap.specs.Words.{app_of, shape_of};
+ghost use Rattle.command_table.specs.Rows.{name_shape, with_name, with_row};
+ghost use Rattle.command_table.specs.Table.{table, help_shape, journal_shape, merge_shape, program_shape, rehearse_shape, serve_shape, session_shape, show_shape};
 
-use crate::argument::{fork, genesis, nodes, value, value_option, watch};
+use crate::argument::argument;
+use crate::row::Row;
 use clap::{Arg, ArgAction, Command};
 use std::alloc::{AllocError, Global};
 
@@ -54,52 +56,198 @@ Options of merge and show:
 A session reads requests from standard input, one JSON object a line, and writes the answer to each
 to standard output, until the input ends. Hex digits may be of either case.";
 
-/// What `--journal` names where a command works on one that there is.
-const JOURNAL_OF_A_RUN: &str = "Journal of a session or of serve, in PATH.a and PATH.b";
+/// The options of `session`.
+const SESSION: [Row; 5] = [
+    Row::Genesis,
+    Row::Choice {
+        id: "journal",
+        name: "PATH",
+        about: "Remembers over restarts, in PATH.a and PATH.b; without{n}it the record ends with the run",
+        is_required: false,
+    },
+    Row::Choice {
+        id: "signer",
+        name: "URL",
+        about: "Signing service (Web3Signer), as http://127.0.0.1:9000; without{n}it a stand-in signs, whose signatures are no BLS signatures",
+        is_required: false,
+    },
+    Row::Fork,
+    Row::Watch,
+];
+
+/// The options of `serve`, and its nodes last.
+const SERVE: [Row; 10] = [
+    Row::Genesis,
+    Row::Choice {
+        id: "journal",
+        name: "PATH",
+        about: "Remembers over restarts, in PATH.a and PATH.b",
+        is_required: true,
+    },
+    Row::Choice {
+        id: "signer",
+        name: "URL",
+        about: "Signing service (Web3Signer), as http://127.0.0.1:9000",
+        is_required: true,
+    },
+    Row::Choice {
+        id: "listen",
+        name: "ADDR:PORT",
+        about: "Where the Keymanager API is served, as 127.0.0.1:5062 or localhost:5062",
+        is_required: true,
+    },
+    Row::Choice {
+        id: "token",
+        name: "TEXT",
+        about: "Requests of the Keymanager API must carry it: 1 to 256 characters{n}from ! to ~",
+        is_required: true,
+    },
+    Row::Watch,
+    Row::Choice {
+        id: "slots",
+        name: "N",
+        about: "Duties end after so many slots; for tests and scripts [default: no end]",
+        is_required: false,
+    },
+    Row::Choice {
+        id: "connections",
+        name: "N",
+        about: "The Keymanager API ends after so many connections;{n}for tests and scripts [default: no end]",
+        is_required: false,
+    },
+    Row::Choice {
+        id: "lanes",
+        name: "N",
+        about: "How many duties are done beside each other, 1 to 64 [default: 4]",
+        is_required: false,
+    },
+    Row::Nodes,
+];
+
+/// The options of a command over a journal that there is.
+const JOURNAL_OF_A_RUN: [Row; 2] = [
+    Row::Genesis,
+    Row::Choice {
+        id: "journal",
+        name: "PATH",
+        about: "Journal of a session or of serve, in PATH.a and PATH.b",
+        is_required: true,
+    },
+];
+
+/// The values of `rehearse`.
+const REHEARSE: [Row; 3] = [
+    Row::Value {
+        id: "number",
+        name: "NUMBER",
+        about: "Number that everything is drawn from, below 2^64",
+    },
+    Row::Value {
+        id: "clients",
+        name: "CLIENTS",
+        about: "How many clients there are, 1 to 16",
+    },
+    Row::Value {
+        id: "steps",
+        name: "STEPS",
+        about: "How many steps there are, up to 20000",
+    },
+];
+
+/// A command of the program.
+#[derive(Clone, Copy)]
+enum Name {
+    Session,
+    Serve,
+    Merge,
+    Show,
+    Rehearse,
+    Help,
+}
+
+/// The commands of the program, in their order.
+const NAMES: [Name; 6] = [
+    Name::Session,
+    Name::Serve,
+    Name::Merge,
+    Name::Show,
+    Name::Rehearse,
+    Name::Help,
+];
 
 /// The whole command line: the program `validator` with its commands, one of which must be named. The error is want of memory, and nothing stands after it.
 pub fn program<'a>(alloc: Global) -> Result<Command<'a>, AllocError>
     ensures { IfOk result (λ c. app_of c ≡ table) }
 {
-    let program = Command::new(alloc, "validator")
+    with_commands(alloc, without_commands(alloc), &NAMES)
+}
+
+/// The program before its commands.
+fn without_commands<'a>(alloc: Global) -> Command<'a>
+    ensures { app_of result ≡ record { top = program_shape; subs = [] } }
+{
+    Command::new(alloc, "validator")
         .version("0.1.0")
         .about("Ethereum validator client that never signs two messages that get a key slashed")
         .after_help(OPTIONS_AT_A_GLANCE)
         .subcommand_required(true)
-        .disable_help_subcommand(true);
-    let program = with_signers(alloc, program)?;
-    let program = with_journals(alloc, program)?;
-    with_others(alloc, program)
+        .disable_help_subcommand(true)
 }
 
-/// The program with the commands that sign.
-fn with_signers<'a>(alloc: Global, program: Command<'a>) -> Result<Command<'a>, AllocError>
-    ensures { IfOk result (λ c. app_of c ≡ fold with_subcommand (app_of program.entry) (session_shape ∷ serve_shape ∷ [])) }
+/// The program with a command for each name.
+fn with_commands<'a>(
+    alloc: Global,
+    program: Command<'a>,
+    names: &[Name],
+) -> Result<Command<'a>, AllocError>
+    ensures { IfOk result (λ c. app_of c ≡ fold with_name (app_of program.entry) names.now) }
 {
-    let session = session(alloc)?;
-    let program = program.subcommand(session)?;
-    let serve = serve(alloc)?;
-    program.subcommand(serve)
+    let mut program = program;
+    'each: for name in names {
+        program = with_command(alloc, program, *name)?;
+    }
+    Ok(program)
 }
 
-/// The program with the commands that work on a journal.
-fn with_journals<'a>(alloc: Global, program: Command<'a>) -> Result<Command<'a>, AllocError>
-    ensures { IfOk result (λ c. app_of c ≡ fold with_subcommand (app_of program.entry) (merge_shape ∷ show_shape ∷ [])) }
+/// The program with one more command.
+fn with_command<'a>(
+    alloc: Global,
+    program: Command<'a>,
+    name: Name,
+) -> Result<Command<'a>, AllocError>
+    ensures { IfOk result (λ c. app_of c ≡ with_name (app_of program.entry) name) }
 {
-    let merge = merge(alloc)?;
-    let program = program.subcommand(merge)?;
-    let show = show(alloc)?;
-    program.subcommand(show)
+    let command = named(alloc, name)?;
+    program.subcommand(command)
 }
 
-/// The program with the commands that touch no file.
-fn with_others<'a>(alloc: Global, program: Command<'a>) -> Result<Command<'a>, AllocError>
-    ensures { IfOk result (λ c. app_of c ≡ fold with_subcommand (app_of program.entry) (rehearse_shape ∷ help_shape ∷ [])) }
+/// The command of this name.
+fn named<'a>(alloc: Global, name: Name) -> Result<Command<'a>, AllocError>
+    ensures { IfOk result (λ c. shape_of c ≡ name_shape name) }
 {
-    let rehearse = rehearse(alloc)?;
-    let program = program.subcommand(rehearse)?;
-    let help = help(alloc)?;
-    program.subcommand(help)
+    match name {
+        Name::Session => session(alloc),
+        Name::Serve => serve(alloc),
+        Name::Merge => merge(alloc),
+        Name::Show => show(alloc),
+        Name::Rehearse => rehearse(alloc),
+        Name::Help => help(alloc),
+    }
+}
+
+/// The command with an argument for each row.
+fn with_rows<'a>(
+    alloc: Global,
+    command: Command<'a>,
+    rows: &[Row],
+) -> Result<Command<'a>, AllocError>
+    ensures { IfOk result (λ c. app_of c ≡ fold with_row (app_of command.entry) rows.now) }
+{
+    let mut command = command;
+    'each: for row in rows {
+        command = command.arg(argument(alloc, row))?;
+    }
+    Ok(command)
 }
 
 /// The command `session` with its options, alone, for its help. The error is want of memory, and nothing stands after it.
@@ -109,14 +257,7 @@ pub fn session<'a>(alloc: Global) -> Result<Command<'a>, AllocError>
     let command = Command::new(alloc, "session").about(
         "Answers signing requests, one JSON object a line, from standard input",
     );
-    let command = with_signing(
-        alloc,
-        command,
-        "Remembers over restarts, in PATH.a and PATH.b; without{n}it the record ends with the run",
-        "Signing service (Web3Signer), as http://127.0.0.1:9000; without{n}it a stand-in signs, whose signatures are no BLS signatures",
-        false,
-    )?;
-    command.arg(fork(alloc))?.arg(watch(alloc))
+    with_rows(alloc, command, &SESSION)
 }
 
 /// The command `serve` with its options, alone, for its help. The error is want of memory, and nothing stands after it.
@@ -126,68 +267,7 @@ pub fn serve<'a>(alloc: Global) -> Result<Command<'a>, AllocError>
     let command = Command::new(alloc, "serve").about(
         "Does the duties of its keys and answers the Keymanager API",
     );
-    let command = with_signing(
-        alloc,
-        command,
-        "Remembers over restarts, in PATH.a and PATH.b",
-        "Signing service (Web3Signer), as http://127.0.0.1:9000",
-        true,
-    )?;
-    let command = with_door(alloc, command)?;
-    let command = with_ends(alloc, command)?;
-    command.arg(nodes(alloc))
-}
-
-/// The command with what it signs for, where it keeps that, and who signs: it cannot do without the last two, or can.
-fn with_signing<'a>(
-    alloc: Global,
-    command: Command<'a>,
-    journal: &'a str,
-    signer: &'a str,
-    is_required: bool,
-) -> Result<Command<'a>, AllocError>
-    ensures { IfOk result (λ c. app_of c ≡ fold with_rule (app_of command.entry) (signing_rules is_required)) }
-{
-    command
-        .arg(genesis(alloc))?
-        .arg(value_option(alloc, "journal", "PATH", journal, is_required))?
-        .arg(value_option(alloc, "signer", "URL", signer, is_required))
-}
-
-/// The command with where a server answers the Keymanager API, and the token that it wants.
-fn with_door<'a>(alloc: Global, command: Command<'a>) -> Result<Command<'a>, AllocError>
-    ensures { IfOk result (λ c. app_of c ≡ fold with_rule (app_of command.entry) door_rules) }
-{
-    command
-        .arg(value_option(
-            alloc,
-            "listen",
-            "ADDR:PORT",
-            "Where the Keymanager API is served, as 127.0.0.1:5062 or localhost:5062",
-            true,
-        ))?
-        .arg(value_option(
-            alloc,
-            "token",
-            "TEXT",
-            "Requests of the Keymanager API must carry it: 1 to 256 characters{n}from ! to ~",
-            true,
-        ))
-}
-
-/// The command with what a server may do without.
-fn with_ends<'a>(alloc: Global, command: Command<'a>) -> Result<Command<'a>, AllocError>
-    ensures { IfOk result (λ c. app_of c ≡ fold with_rule (app_of command.entry) end_rules) }
-{
-    let slots = "Duties end after so many slots; for tests and scripts [default: no end]";
-    let connections =
-        "The Keymanager API ends after so many connections;{n}for tests and scripts [default: no end]";
-    let lanes = "How many duties are done beside each other, 1 to 64 [default: 4]";
-    command
-        .arg(watch(alloc))?
-        .arg(value_option(alloc, "slots", "N", slots, false))?
-        .arg(value_option(alloc, "connections", "N", connections, false))?
-        .arg(value_option(alloc, "lanes", "N", lanes, false))
+    with_rows(alloc, command, &SERVE)
 }
 
 /// The command `merge` with its options, alone, for its help. The error is want of memory, and nothing stands after it.
@@ -212,38 +292,18 @@ pub fn show<'a>(alloc: Global) -> Result<Command<'a>, AllocError>
 fn over_journal<'a>(alloc: Global, name: &'a str, about: &'a str) -> Result<Command<'a>, AllocError>
     ensures { IfOk result (λ c. shape_of c ≡ journal_shape name.now) }
 {
-    Command::new(alloc, name)
-        .about(about)
-        .arg(genesis(alloc))?
-        .arg(value_option(alloc, "journal", "PATH", JOURNAL_OF_A_RUN, true))
+    let command = Command::new(alloc, name).about(about);
+    with_rows(alloc, command, &JOURNAL_OF_A_RUN)
 }
 
 /// The command `rehearse` with its options, alone, for its help. The error is want of memory, and nothing stands after it.
 pub fn rehearse<'a>(alloc: Global) -> Result<Command<'a>, AllocError>
     ensures { IfOk result (λ c. shape_of c ≡ rehearse_shape) }
 {
-    Command::new(alloc, "rehearse")
-        .about(
-            "Plays clients that vote, hand keys over, stop and prune, and counts slashable pairs",
-        )
-        .arg(value(
-            alloc,
-            "number",
-            "NUMBER",
-            "Number that everything is drawn from, below 2^64",
-        ))?
-        .arg(value(
-            alloc,
-            "clients",
-            "CLIENTS",
-            "How many clients there are, 1 to 16",
-        ))?
-        .arg(value(
-            alloc,
-            "steps",
-            "STEPS",
-            "How many steps there are, up to 20000",
-        ))
+    let command = Command::new(alloc, "rehearse").about(
+        "Plays clients that vote, hand keys over, stop and prune, and counts slashable pairs",
+    );
+    with_rows(alloc, command, &REHEARSE)
 }
 
 /// The command `help` with its options, alone, for its help. The error is want of memory, and nothing stands after it.

@@ -3,5 +3,6 @@
 
 mod argument;
 mod command;
+mod row;
 
 pub use command::{help, merge, program, rehearse, serve, session, show};
