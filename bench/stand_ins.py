@@ -1,4 +1,4 @@
-"""What stands outside the validator client in `serve.sh` and `deletions.sh`: a beacon node and a signing service, each a small HTTP server in a
+"""What stands outside the validator client in `serve.sh`, `deletions.sh` and `trouble.sh`: a beacon node and a signing service, each a small HTTP server in a
 process of its own, and the program itself, whose path is the first word of the command line."""
 import asyncio, collections, hashlib, json, multiprocessing, os, re, socket, subprocess, sys, tempfile, time
 
@@ -38,6 +38,8 @@ class Connection(asyncio.Protocol):
             return
         method, target, _ = head.split(b'\r\n')[0].decode().split(' ')
         told = json.loads(body) if body else None
+        if target == self.state.get('mute'):
+            return
         if target.startswith(SIGN):
             asyncio.get_running_loop().call_later(self.state['delay'], self.give, method, target, told)
         else:
@@ -150,9 +152,10 @@ def wanted(what, is_so):
     if not is_so:
         sys.exit('bench: ' + what)
 
-def serve(journal, slots, connections, lanes=4):
-    return subprocess.Popen([program, 'serve', '--genesis', GENESIS_ROOT, '--journal', os.path.join(folder, journal), '--signer', signer.url, '--listen', '127.0.0.1:%d' % port, '--token', TOKEN,
-                             '--slots', str(slots), '--connections', str(connections), '--lanes', str(lanes), node.url], stdout=subprocess.PIPE, stderr=subprocess.PIPE, text=True)
+def serve(journal, slots, connections, lanes=4, nodes=None, before=()):
+    """Starts the program with these nodes, else the one here, after these words of another program."""
+    return subprocess.Popen([*before, program, 'serve', '--genesis', GENESIS_ROOT, '--journal', os.path.join(folder, journal), '--signer', signer.url, '--listen', '127.0.0.1:%d' % port, '--token', TOKEN,
+                             '--slots', str(slots), '--connections', str(connections), '--lanes', str(lanes)] + (nodes or [node.url]), stdout=subprocess.PIPE, stderr=subprocess.PIPE, text=True)
 
 def ended(child, status=0):
     out, told = child.communicate()

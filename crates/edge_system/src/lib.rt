@@ -6,6 +6,8 @@ mod adapters;
 mod address;
 mod file_disk;
 mod open_file;
+mod silence;
+mod span;
 mod streams;
 mod tcp_door;
 mod tcp_link;
@@ -14,6 +16,8 @@ mod told;
 
 pub use adapters::{Reading, Writing};
 pub use file_disk::FileDisk;
+pub use silence::Peers;
 pub use streams::{StandardStream, StandardStreams, Standing};
 pub use tcp_door::{TcpConn, TcpDoor};
 pub use tcp_link::TcpLink;
+pub use tcp_stream::LongRequests;

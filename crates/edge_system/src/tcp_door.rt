@@ -1,26 +1,64 @@
 //! A TCP listener of the system as a door. It tells nothing of its connections.
-ghost use Rattle.std.specs.Prelude.{◌≡◌, None, IfOk};
+ghost use Rattle.std.specs.Prelude.{◌≡◌, ◌<◌, None, IfOk, length};
+ghost use Rattle.std.specs.Io.{WritesAtMost};
 ghost use Rattle.std.specs.Result.{result_ok};
 ghost use Rattle.edge_kit.specs.Causes.{HasCause};
 
 use crate::address::Address;
-use crate::tcp_stream::{limited, recv_over, send_over};
+use crate::span::Span;
+use crate::tcp_stream::{Timed, recv_over, send_over};
 use crate::told::counted;
 use edge_kit::{Door, Failed, Link, count_fault};
 use std::alloc::{AllocError, Global};
-use std::io;
-use std::io::{BufReader, Eprint, ErrorKind, Read, Write};
-use std::net::{Net, OpenListener, TcpListener};
+use std::io::{Eprint, ErrorKind, Read, Write};
+use std::net::{Net, OpenListener, OpenStream, TcpListener};
+use std::rt::Clock;
 use std::time::Duration;
+use std::{io, thread};
 
-/// How many seconds each read and write of an accepted connection may last.
-const LIMIT_SECONDS: u64 = 10;
+/// How many seconds the request of an accepted connection may last, from the start to its last byte, and its reply, from
+/// the first byte to the last.
+const LIMIT_SECONDS: u64 = 30;
+
+/// How many seconds each read of an accepted connection may last.
+const READ_SECONDS: u64 = 10;
+
+/// For how many milliseconds the door waits after the system could not accept for now.
+const NAP_MILLISECONDS: u64 = 100;
+
+/// The system's number for a process that may open no more files.
+const NO_MORE_FILES: i32 = 24;
+
+/// The system's number for a machine that may open no more files.
+const NO_MORE_FILES_AT_ALL: i32 = 23;
+
+/// The system's number for a fault of the protocol of one connection.
+const PROTOCOL_FAULT: i32 = 71;
+
+/// The system's number for want of buffers.
+const NO_BUFFERS: i32 = 105;
+
+/// The system's number for a protocol that is not there.
+const NO_PROTOCOL: i32 = 92;
+
+/// The system's number for a machine that is on no network.
+const NO_NETWORK: i32 = 64;
+
+/// The system's number for a host that is down.
+const HOST_DOWN: i32 = 112;
+
+/// The system's number for what a socket cannot do.
+const NOT_SUPPORTED: i32 = 95;
+
+/// The system's number for a connection that its firewall forbids.
+const FORBIDDEN: i32 = 1;
 
 /// A door at an address, or a host's name, and a port, with a count of its failures. It listens from the first
-/// `listen` or `accept` on. What the system says of a failure is told on standard error. A connection that ends
-/// while it is accepted is passed over.
+/// `listen` or `accept` on. What the system says of a failure is reported on standard error. A connection that ends
+/// while it is accepted is passed over. Where the system cannot accept for now, as when the process may open no more
+/// files, that is reported once, and `accept` tries again until it can.
 #[derive(Drop)]
-pub struct TcpDoor<N: Net + Eprint + Drop> {
+pub struct TcpDoor<N: Net + Eprint + Clock + Drop> {
     alloc: Global,
     handle: N,
     host: String,
@@ -29,15 +67,16 @@ pub struct TcpDoor<N: Net + Eprint + Drop> {
     faults: u64,
 }
 
-/// A connection that was accepted, with a count of its failures. Each read and write may last 10 seconds. It was
-/// begun by its peer, so `connect` begins no other, and fails.
+/// A connection that was accepted, with a count of its failures. Each read may last 10 seconds, and the request 30; the
+/// reply has 30 of its own, from its first byte on. It was begun by its peer, so `connect` begins no other, and fails.
 #[derive(Drop)]
-pub struct TcpConn<S: Read + Write + Drop> {
-    stream: Option<BufReader<S>>,
+pub struct TcpConn<S: Read + Write + OpenStream + Drop, C: Clock + Drop> {
+    stream: Option<Timed<S>>,
+    clock: C,
     faults: u64,
 }
 
-impl<N: Net + Eprint + Drop> TcpDoor<N> {
+impl<N: Net + Eprint + Clock + Drop> TcpDoor<N> {
     /// A door that doesn't listen yet.
     pub fn new(alloc: Global, handle: N, host: String, port: u16) -> Self
         ensures { result.faults ≡ 0 }
@@ -60,7 +99,7 @@ impl<N: Net + Eprint + Drop> TcpDoor<N> {
     }
 
     /// Listens from now on, where it doesn't yet, so that a port that is taken is known before the first `accept`.
-    /// A failure is counted and told as that of `accept` is.
+    /// A failure is counted and reported as that of `accept` is.
     pub fn listen(&mut self) -> Result<(), Failed>
         ensures cause { HasCause self.old.faults self.new.faults result }
     {
@@ -87,17 +126,51 @@ impl<N: Net + Eprint + Drop> TcpDoor<N> {
         }
     }
 
-    // The next connection that didn't end while it was accepted, of the listener, which listens from now on.
+    // The next connection that the listener accepts, which listens from now on.
     fn next(&mut self) -> io::Result<N::Stream>
         ensures { self.new.faults ≡ self.old.faults }
     {
         let listener = self.take()?;
-        let next = next_of(&listener);
+        let next = self.next_of(&listener);
         self.listener = Some(listener);
         next
     }
 
-    // What the system answered, whose failure is counted and told.
+    // The next connection that a listener accepts. What passes is waited out, and reported once.
+    fn next_of(&self, listener: &N::Listener) -> io::Result<N::Stream> {
+        let mut is_reported = false;
+        'accepting: for _ in 0..u64::MAX {
+            match listener.accept() {
+                Ok((stream, _)) => return Ok(stream),
+                Err(error) if is_of_one(error.kind()) => {}
+                Err(error) if is_passing(&error) => {
+                    self.wait_out(&error, is_reported);
+                    is_reported = true;
+                }
+                Err(error) => return Err(error),
+            }
+        }
+        Err(io::Error::from(ErrorKind::Interrupted))
+    }
+
+    // Waits a little, and reports what for where that was not reported yet.
+    fn wait_out(&self, error: &io::Error, is_reported: bool) {
+        if !is_reported {
+            let host = self.host.as_str();
+            let port = self.port;
+            let _ = eprintln!(&self.handle; "{host}:{port}: {error}");
+        }
+        thread::sleep(&self.handle, Duration::from_millis(NAP_MILLISECONDS));
+    }
+
+    // A connection whose calls all end with one span, which begins now.
+    fn timed(&self, stream: N::Stream) -> io::Result<Timed<N::Stream>> {
+        let span = Span::begin(&self.handle, Duration::from_secs(LIMIT_SECONDS))?;
+        let longest = Duration::from_secs(READ_SECONDS);
+        Timed::new(self.alloc, stream, span, Some(longest))
+    }
+
+    // What the system answered, whose failure is counted and reported.
     fn counted<T>(&mut self, done: io::Result<T>) -> Result<T, Failed>
         ensures same { result_ok result ≡ result_ok done }
         ensures cause { HasCause self.old.faults self.new.faults result }
@@ -110,28 +183,31 @@ impl<N: Net + Eprint + Drop> TcpDoor<N> {
     }
 }
 
-// The next connection of a listener that didn't end while it was accepted.
-fn next_of<L: OpenListener>(listener: &L) -> io::Result<L::Stream> {
-    'accepting: for _ in 0..u64::MAX {
-        match listener.accept() {
-            Ok((stream, _)) => return Ok(stream),
-            Err(e) if is_passing(e.kind()) => {}
-            Err(e) => return Err(e),
-        }
-    }
-    Err(io::Error::from(ErrorKind::Interrupted))
-}
-
 // Whether a failure is that of one connection, or of none.
-fn is_passing(kind: ErrorKind) -> bool {
+fn is_of_one(kind: ErrorKind) -> bool {
     matches!(
         kind,
         ErrorKind::Interrupted | ErrorKind::ConnectionAborted | ErrorKind::ConnectionReset
     )
 }
 
-impl<N: Net + Eprint + Drop> Door for TcpDoor<N> {
-    type Conn = TcpConn<N::Stream>;
+// Whether a failure is one of the system that passes.
+fn is_passing(error: &io::Error) -> bool {
+    match error.raw_os_error() {
+        Some(NO_MORE_FILES | NO_MORE_FILES_AT_ALL | PROTOCOL_FAULT | NO_BUFFERS) => true,
+        Some(NO_PROTOCOL | NO_NETWORK | HOST_DOWN | NOT_SUPPORTED | FORBIDDEN) => true,
+        _ => matches!(
+            error.kind(),
+            ErrorKind::NetworkDown
+                | ErrorKind::NetworkUnreachable
+                | ErrorKind::HostUnreachable
+                | ErrorKind::OutOfMemory
+        ),
+    }
+}
+
+impl<N: Net + Eprint + Clock + Copy + Drop> Door for TcpDoor<N> {
+    type Conn = TcpConn<N::Stream, N>;
 
     ghost coming = { λ _. None };
 
@@ -141,24 +217,37 @@ impl<N: Net + Eprint + Drop> Door for TcpDoor<N> {
 
     ghost faults = { λ d. d.faults };
 
-    fn accept(&mut self) -> Result<Option<TcpConn<N::Stream>>, Failed> {
+    fn accept(&mut self) -> Result<Option<TcpConn<N::Stream, N>>, Failed> {
         let next = self.next();
         let stream = self.counted(next)?;
         Ok(Some(TcpConn {
-            stream: limited(self.alloc, stream, Duration::from_secs(LIMIT_SECONDS)).ok(),
+            stream: self.timed(stream).ok(),
+            clock: self.handle,
             faults: 0,
         }))
     }
 
-    fn finish(&mut self, _conn: TcpConn<N::Stream>) {}
+    fn finish(&mut self, _conn: TcpConn<N::Stream, N>) {}
 }
 
-impl<S: Read + Write + Drop> TcpConn<S> {
+impl<S: Read + Write + OpenStream + Drop, C: Clock + Drop> TcpConn<S, C> {
     /// How many calls have failed.
     pub fn faults(&self) -> u64
         ensures { result ≡ self.now.faults }
     {
         self.faults
+    }
+
+    // Sends some bytes of a reply, which has a limit of its own.
+    fn reply(&mut self, piece: &[u8]) -> io::Result<usize>
+        ensures bound { WritesAtMost result piece.now }
+        ensures some { IfOk result (λ n. 0 < length piece.now → 0 < n) }
+        ensures faults { self.new.faults ≡ self.old.faults }
+    {
+        if let Some(stream) = &mut self.stream {
+            stream.begin_reply(&self.clock, Duration::from_secs(LIMIT_SECONDS))?;
+        }
+        send_over(&mut self.stream, &self.clock, piece)
     }
 
     // What the system answered, whose failure is counted.
@@ -173,7 +262,7 @@ impl<S: Read + Write + Drop> TcpConn<S> {
     }
 }
 
-impl<S: Read + Write + Drop> Link for TcpConn<S> {
+impl<S: Read + Write + OpenStream + Drop, C: Clock + Copy + Drop> Link for TcpConn<S, C> {
     ghost left = { λ _. None };
 
     ghost coming = { λ _. None };
@@ -188,12 +277,12 @@ impl<S: Read + Write + Drop> Link for TcpConn<S> {
     }
 
     fn send(&mut self, piece: &[u8]) -> Result<usize, Failed> {
-        let sent = send_over(&mut self.stream, piece);
+        let sent = self.reply(piece);
         self.counted(sent)
     }
 
     fn recv(&mut self, buf: &mut [u8]) -> Result<usize, Failed> {
-        let read = recv_over(&mut self.stream, buf);
+        let read = recv_over(&mut self.stream, &self.clock, buf);
         self.counted(read)
     }
 
@@ -210,6 +299,7 @@ impl<S: Read + Write + Drop> Link for TcpConn<S> {
     {
         Ok(TcpConn {
             stream: None,
+            clock: self.clock,
             faults: 0,
         })
     }

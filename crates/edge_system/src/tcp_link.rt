@@ -1,34 +1,49 @@
 //! A TCP connection of the system as a link. It tells nothing of its bytes.
-ghost use Rattle.std.specs.Prelude.{◌≡◌, None, IfOk, string_bytes};
+ghost use Rattle.std.specs.Prelude.{◌≡◌, None, Some, IfOk, string_bytes};
 ghost use Rattle.std.specs.Result.{result_ok};
 ghost use Rattle.edge_kit.specs.Causes.{HasCause};
 
 use crate::address::Address;
-use crate::tcp_stream::{limited, recv_over, send_over};
+use crate::silence::Peers;
+use crate::span::Span;
+use crate::tcp_stream::{LongRequests, Timed, recv_over, send_over};
 use crate::told::counted;
-use edge_kit::{Failed, Link};
+use edge_kit::{Failed, Link, count_fault};
 use std::alloc::{AllocError, Global};
 use std::io;
-use std::io::{BufReader, Eprint, ErrorKind};
-use std::net::{Net, OpenStream, ToSocketAddrs};
+use std::io::{Eprint, ErrorKind};
+use std::net::{Net, SocketAddr, ToSocketAddrs};
+use std::rt::Clock;
+use std::sync::Arc;
 use std::time::Duration;
 
-/// A link to a host, by its address or its name, with a count of its failures. It looks the name up and
-/// connects at `connect`, and reads ahead, so that reading byte by byte is cheap. What the system says of a
-/// failure is told on standard error.
+/// The place of a peer among those one of which is asked where another fails.
 #[derive(Drop)]
-pub struct TcpLink<N: Net + Eprint + Drop> {
+struct Place {
+    peers: Arc<Peers, Global>,
+    index: usize,
+}
+
+/// A link to a host, by its address or its name, with a count of its failures. It looks the name up and
+/// connects at `connect`, and reads ahead, so that reading byte by byte is cheap. An exchange begins at `connect`. To
+/// connect, and all that is sent and received over the connection, lasts no longer than one limit: the call that is
+/// over it fails, and so does each later one of the exchange. How long the system looks a name up is not limited, and
+/// does not count. What the system says of a failure is reported on standard error.
+#[derive(Drop)]
+pub struct TcpLink<N: Net + Eprint + Clock + Drop> {
     alloc: Global,
     handle: N,
     host: String,
     port: u16,
     limit: Duration,
-    stream: Option<BufReader<N::Stream>>,
+    long: Option<(LongRequests, Duration)>,
+    silence: Option<Place>,
+    stream: Option<Timed<N::Stream>>,
     faults: u64,
 }
 
-impl<N: Net + Eprint + Drop> TcpLink<N> {
-    /// A link that is not yet connected. Each connect, read and write may last 10 seconds.
+impl<N: Net + Eprint + Clock + Drop> TcpLink<N> {
+    /// A link that is not yet connected. An exchange may last 10 seconds.
     pub fn new(alloc: Global, handle: N, host: String, port: u16) -> Self
         ensures { result.faults ≡ 0 }
     {
@@ -38,17 +53,39 @@ impl<N: Net + Eprint + Drop> TcpLink<N> {
             host,
             port,
             limit: Duration::from_secs(10),
+            long: None,
+            silence: None,
             stream: None,
             faults: 0,
         }
     }
 
-    /// From the next `connect` on each connect, read and write may last so long.
+    /// From the next `connect` on an exchange may last so long.
     pub fn set_limit(&mut self, limit: Duration)
         ensures limit { self.new.limit ≡ limit }
         ensures faults { self.new.faults ≡ self.old.faults }
     {
         self.limit = limit;
+    }
+
+    /// From the next `connect` on an exchange whose first piece is of such a request may last so long. Connecting has
+    /// the plain limit there too.
+    pub fn set_long_limit(&mut self, requests: LongRequests, limit: Duration)
+        ensures limit { self.new.long ≡ Some (requests, limit) }
+        ensures faults { self.new.faults ≡ self.old.faults }
+    {
+        self.long = Some((requests, limit));
+    }
+
+    /// From now on the peer, which is that of this place among the peers, is set aside after an exchange that passed its
+    /// limit: each `connect` of this link, of those that are made of it by `twin`, and of others of this place, fails at
+    /// once, for a second, then for twice as long each time in a row, for a minute at most; but where all peers are set
+    /// aside, each is asked. A peer that answers is taken back. One that refuses, or ends the connection, is not set
+    /// aside.
+    pub fn set_aside_among(&mut self, peers: Arc<Peers, Global>, index: usize)
+        ensures faults { self.new.faults ≡ self.old.faults }
+    {
+        self.silence = Some(Place { peers, index });
     }
 
     /// How many calls have failed.
@@ -58,28 +95,74 @@ impl<N: Net + Eprint + Drop> TcpLink<N> {
         self.faults
     }
 
-    // A connection to the first address of the host that takes one.
-    fn open(&self) -> io::Result<N::Stream> {
+    // A connection to an address, within its share of what is left of the span, where so many are left to be tried.
+    fn open_at(&self, address: SocketAddr, span: &Span, count: usize) -> io::Result<N::Stream> {
+        let left = span.left(&self.handle)?;
+        let count = u32::try_from(count).unwrap_or(u32::MAX);
+        let share = left.checked_div(count).unwrap_or(left);
+        self.handle.connect_timeout(address, share)
+    }
+
+    // A connection to the first address of the host that takes one within its share of what is left of the exchange,
+    // which begins once the name is looked up.
+    fn open_timed(&self) -> io::Result<Timed<N::Stream>> {
+        let addresses = (self.host.as_str(), self.port).to_socket_addrs(&self.handle)?;
+        let span = Span::begin(&self.handle, self.limit)?;
+        let count = addresses.size_hint().0;
         let mut last = io::Error::from(ErrorKind::NotFound);
-        for address in (self.host.as_str(), self.port).to_socket_addrs(&self.handle)? {
-            match self.handle.connect_timeout(address, self.limit) {
-                Ok(stream) => return Ok(stream),
+        for (index, address) in addresses.enumerate() {
+            match self.open_at(address, &span, count.saturating_sub(index)) {
+                Ok(stream) => return Timed::new(self.alloc, stream, span, None),
                 Err(e) => last = e,
             }
         }
         Err(last)
     }
 
-    // The same, with its limit and with room to read ahead.
-    fn open_limited(&self) -> io::Result<BufReader<N::Stream>> {
-        limited(self.alloc, self.open()?, self.limit)
+    // Whether the peer is set aside now.
+    fn is_set_aside(&self) -> bool {
+        match &self.silence {
+            Some(place) => place.peers.is_set_aside(&self.handle, place.index),
+            None => false,
+        }
     }
 
-    // What the system answered, whose failure is counted and told.
+    // Sets a peer aside whose exchange passed its limit, where this is wanted.
+    fn note_silence(&self, error: &io::Error) {
+        if let Some(place) = &self.silence {
+            if error.kind() == ErrorKind::TimedOut {
+                place.peers.set_aside(&self.handle, place.index);
+            }
+        }
+    }
+
+    // Takes the peer back where it was heard to the end of the exchange.
+    fn note_answer(&self) {
+        if let (Some(place), Some(stream)) = (&self.silence, &self.stream) {
+            if stream.is_heard() {
+                place.peers.take_back(place.index);
+            }
+        }
+    }
+
+    // Gives the exchange its longer limit where this first piece of it is of a long request.
+    fn allow_for(&mut self, piece: &[u8])
+        ensures { self.new.faults ≡ self.old.faults }
+    {
+        if let (Some(stream), Some((requests, limit))) = (&mut self.stream, self.long) {
+            stream.allow_for(piece, requests, limit);
+        }
+    }
+
+    // What the system answered, whose failure is counted and reported. A peer whose exchange passed its limit is set
+    // aside.
     fn counted<T>(&mut self, done: io::Result<T>) -> Result<T, Failed>
         ensures same { result_ok result ≡ result_ok done }
         ensures cause { HasCause self.old.faults self.new.faults result }
     {
+        if let Err(error) = &done {
+            self.note_silence(error);
+        }
         let address = Address {
             host: &self.host,
             port: self.port,
@@ -88,7 +171,7 @@ impl<N: Net + Eprint + Drop> TcpLink<N> {
     }
 }
 
-impl<N: Net + Eprint + Copy + Drop> Link for TcpLink<N> {
+impl<N: Net + Eprint + Clock + Copy + Drop> Link for TcpLink<N> {
     ghost left = { λ _. None };
 
     ghost coming = { λ _. None };
@@ -99,42 +182,63 @@ impl<N: Net + Eprint + Copy + Drop> Link for TcpLink<N> {
 
     fn connect(&mut self) -> Result<(), Failed> {
         self.stream = None;
-        let stream = self.open_limited();
+        if self.is_set_aside() {
+            return Err(count_fault(&mut self.faults));
+        }
+        let stream = self.open_timed();
         self.stream = Some(self.counted(stream)?);
         Ok(())
     }
 
     fn send(&mut self, piece: &[u8]) -> Result<usize, Failed> {
-        let sent = send_over(&mut self.stream, piece);
+        self.allow_for(piece);
+        let sent = send_over(&mut self.stream, &self.handle, piece);
         self.counted(sent)
     }
 
     fn recv(&mut self, buf: &mut [u8]) -> Result<usize, Failed> {
-        let read = recv_over(&mut self.stream, buf);
+        let read = recv_over(&mut self.stream, &self.handle, buf);
         self.counted(read)
     }
 
     fn hang_up(&mut self) -> Result<(), Failed> {
+        self.note_answer();
         self.stream = None;
         Ok(())
     }
 
-    /// Another link to the same host and port, with the same limit, which is not yet connected.
+    /// Another link to the same host and port, with the same limits, which is not yet connected. Where the peer is set
+    /// aside for one of both, it is for the other.
     fn twin(&self, alloc: Global) -> Result<Self, AllocError>
         ensures handle { IfOk result (λ t. t.handle ≡ self.now.handle) }
         ensures host { IfOk result (λ t. string_bytes t.host ≡ string_bytes self.now.host) }
         ensures port { IfOk result (λ t. t.port ≡ self.now.port) }
         ensures limit { IfOk result (λ t. t.limit ≡ self.now.limit) }
+        ensures long { IfOk result (λ t. t.long ≡ self.now.long) }
         ensures faults { IfOk result (λ t. t.faults ≡ 0) }
     {
+        let host = String::from_str(alloc, self.host.as_str())?;
         Ok(TcpLink {
             alloc,
             handle: self.handle,
-            host: String::from_str(alloc, self.host.as_str())?,
+            host,
             port: self.port,
             limit: self.limit,
+            long: self.long,
+            silence: shared(&self.silence)?,
             stream: None,
             faults: 0,
         })
+    }
+}
+
+// The same place, for one more link.
+fn shared(silence: &Option<Place>) -> Result<Option<Place>, AllocError> {
+    match silence {
+        Some(place) => Ok(Some(Place {
+            peers: Arc::try_clone(&place.peers)?,
+            index: place.index,
+        })),
+        None => Ok(None),
     }
 }

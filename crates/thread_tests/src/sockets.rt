@@ -1,13 +1,15 @@
 //! A listener of the system as a door, and a connection of it as a link.
 use edge_kit::{Door, Failed, Link};
-use edge_system::{TcpConn, TcpDoor, TcpLink};
-use std::alloc::Global;
-use std::io;
+use edge_system::{Peers, TcpConn, TcpDoor, TcpLink};
+use std::alloc::{AllocError, Global};
 use std::io::{Eprint, Read, Write};
-use std::net::{Net, OpenListener, TcpListener, TcpStream};
+use std::net::{Net, OpenListener, OpenStream, TcpListener, TcpStream};
 use std::process::Abort;
+use std::rt::Clock;
+use std::sync::Arc;
 use std::test::Fail;
-use std::time::Duration;
+use std::time::{Duration, Instant};
+use std::{io, thread};
 
 /// A call of a link, and what it answers.
 #[derive(Clone, Copy)]
@@ -23,11 +25,21 @@ enum Step {
 /// Nothing is sent before the link is connected.
 const BEGUN: [Step; 2] = [Step::Send(Err(Failed)), Step::Connect(Ok(()))];
 
-/// A peer says two bytes, and no more for now.
-const HEARD: [Step; 3] = [
+/// A peer says two bytes, and ends.
+const HEARD: [Step; 4] = [
     Step::Recv(Ok(1), b'a'),
     Step::Recv(Ok(1), b'b'),
+    Step::Recv(Ok(0), 0),
+    Step::HangUp,
+];
+
+/// A peer is asked, and says nothing.
+const UNHEARD: [Step; 5] = [
+    Step::Connect(Ok(())),
+    Step::Send(Ok(1)),
     Step::Recv(Err(Failed), 0),
+    Step::Recv(Err(Failed), 0),
+    Step::HangUp,
 ];
 
 /// Each call of a connection that is not there fails.
@@ -73,7 +85,7 @@ fn speak<T: Abort, L: Link, S: Read>(rt: &T, link: &mut L, peer: &mut S) -> io::
 }
 
 /// A door at a port of this machine, which can't be opened while another listener has the port.
-fn shut_door<N: Net + Eprint + Abort + Copy + Drop>(
+fn shut_door<N: Net + Eprint + Clock + Abort + Copy + Drop>(
     rt: N,
     alloc: Global,
 ) -> Result<(TcpDoor<N>, u16), Fail> {
@@ -85,10 +97,10 @@ fn shut_door<N: Net + Eprint + Abort + Copy + Drop>(
 }
 
 /// Talks with a peer that has said a byte, over a connection, and ends it. Each call of a twin of it fails.
-fn talk<T: Abort, S: Read + Write + Drop>(
+fn talk<T: Abort, S: Read + Write + OpenStream + Drop, C: Clock + Copy + Drop>(
     rt: &T,
     alloc: Global,
-    conn: &mut TcpConn<S>,
+    conn: &mut TcpConn<S, C>,
     peer: &mut S,
 ) -> Result<(), Fail> {
     play(rt, conn, &[Step::Recv(Ok(1), b'a')]);
@@ -102,7 +114,7 @@ fn talk<T: Abort, S: Read + Write + Drop>(
 }
 
 /// Talks with a peer over the connection that a door accepts next.
-fn serve<N: Net + Eprint + Abort + Copy + Drop>(
+fn serve<N: Net + Eprint + Clock + Abort + Copy + Drop>(
     rt: N,
     alloc: Global,
     door: &mut TcpDoor<N>,
@@ -127,15 +139,16 @@ fn a_listener_is_a_door(rt: HostRuntime) -> Result<(), Fail> {
     Ok(())
 }
 
-/// A link with a short limit to a listener at a free port of this machine.
-fn link_to<N: Net + Eprint + Drop>(
+/// A link to a listener at a free port of this machine, whose exchanges may last so many milliseconds.
+fn link_to<N: Net + Eprint + Clock + Drop>(
     rt: N,
     alloc: Global,
     listener: &N::Listener,
+    limit: u64,
 ) -> io::Result<TcpLink<N>> {
     let port = listener.local_addr()?.port();
     let mut link = TcpLink::new(alloc, rt, String::from_str(alloc, "localhost")?, port);
-    link.set_limit(Duration::from_millis(200));
+    link.set_limit(Duration::from_millis(limit));
     Ok(link)
 }
 
@@ -161,6 +174,7 @@ where
 {
     let mut peer = connected(rt, link, listener)?;
     peer.write_all(b"ab")?;
+    drop(peer);
     play(rt, link, &HEARD);
     Ok(())
 }
@@ -168,17 +182,16 @@ where
 #[test]
 fn a_connection_is_a_link(rt: HostRuntime) -> Result<(), Fail> {
     let listener = TcpListener::bind(&rt, "127.0.0.1:0")?;
-    let mut link = link_to(&rt, rt.alloc(), &listener)?;
+    let mut link = link_to(&rt, rt.alloc(), &listener, 20_000)?;
     hear(&rt, &mut link, &listener)?;
-    play(&rt, &mut link, &[Step::Recv(Ok(0), 0), Step::HangUp]);
     drop(listener);
     play(&rt, &mut link, &[Step::Connect(Err(Failed))]);
-    assert_eq!(rt; link.faults(), 3);
+    assert_eq!(rt; link.faults(), 2);
     Ok(())
 }
 
 /// Talks over the twin of a link with a peer of its own.
-fn talk_as_twin<N: Net + Eprint + Abort + Copy + Drop>(
+fn talk_as_twin<N: Net + Eprint + Clock + Abort + Copy + Drop>(
     rt: N,
     alloc: Global,
     link: &mut TcpLink<N>,
@@ -187,7 +200,7 @@ fn talk_as_twin<N: Net + Eprint + Abort + Copy + Drop>(
     let mut twin = link.twin(alloc)?;
     assert_eq!(rt; twin.faults(), 0);
     let _peer = connected(&rt, &mut twin, listener)?;
-    play(&rt, &mut twin, &[Step::Recv(Err(Failed), 0), Step::HangUp]);
+    play(&rt, &mut twin, &[Step::HangUp, Step::Send(Err(Failed))]);
     assert_eq!(rt; twin.faults(), 2);
     Ok(())
 }
@@ -195,11 +208,82 @@ fn talk_as_twin<N: Net + Eprint + Abort + Copy + Drop>(
 #[test]
 fn a_twin_is_a_connection_of_its_own(rt: HostRuntime) -> Result<(), Fail> {
     let listener = TcpListener::bind(&rt, "127.0.0.1:0")?;
-    let mut link = link_to(&rt, rt.alloc(), &listener)?;
+    let mut link = link_to(&rt, rt.alloc(), &listener, 20_000)?;
     play(&rt, &mut link, &BEGUN);
     let (mut peer, _) = listener.accept()?;
     talk_as_twin(&rt, rt.alloc(), &mut link, &listener)?;
     speak(&rt, &mut link, &mut peer)?;
     assert_eq!(rt; link.faults(), 1);
+    Ok(())
+}
+
+/// Asks a peer that says nothing, and answers how long that took.
+fn time_unheard<T: Abort + Clock, L: Link>(rt: &T, link: &mut L) -> io::Result<Duration> {
+    let begun = Instant::now(rt)?;
+    play(rt, link, &UNHEARD);
+    begun.elapsed(rt)
+}
+
+#[test]
+fn a_silent_peer_costs_the_limit_once(rt: HostRuntime) -> Result<(), Fail> {
+    let listener = TcpListener::bind(&rt, "127.0.0.1:0")?;
+    let mut link = link_to(&rt, rt.alloc(), &listener, 2_000)?;
+    let spent = time_unheard(&rt, &mut link)?;
+    assert!(rt; spent >= Duration::from_millis(1_900));
+    assert!(rt; spent < Duration::from_millis(3_800));
+    Ok(())
+}
+
+/// Receives from a peer that says a byte each 50 milliseconds, until that fails, and answers how many came.
+fn count_drips<C: Clock, L: Link, W: Write>(rt: &C, link: &mut L, peer: &mut W) -> io::Result<u64> {
+    for count in 0..1_000 {
+        peer.write_all(b"a")?;
+        if link.recv(&mut [0]).is_err() {
+            return Ok(count);
+        }
+        thread::sleep(rt, Duration::from_millis(50));
+    }
+    Ok(1_000)
+}
+
+#[test]
+fn a_peer_that_drips_is_cut_off(rt: HostRuntime) -> Result<(), Fail> {
+    let listener = TcpListener::bind(&rt, "127.0.0.1:0")?;
+    let mut link = link_to(&rt, rt.alloc(), &listener, 2_000)?;
+    let mut peer = connected(&rt, &mut link, &listener)?;
+    let count = count_drips(&rt, &mut link, &mut peer)?;
+    assert!(rt; count > 0);
+    assert!(rt; count <= 40);
+    Ok(())
+}
+
+/// Two peers, none of which is set aside.
+fn two_peers(alloc: Global) -> Result<Arc<Peers, Global>, AllocError> {
+    Ok(Arc::new(alloc, Peers::new(alloc, 2)?)?)
+}
+
+#[test]
+fn a_silent_peer_is_set_aside_for_a_twin(rt: HostRuntime) -> Result<(), Fail> {
+    let listener = TcpListener::bind(&rt, "127.0.0.1:0")?;
+    let mut link = link_to(&rt, rt.alloc(), &listener, 300)?;
+    link.set_aside_among(two_peers(rt.alloc())?, 0);
+    let mut twin = link.twin(rt.alloc())?;
+    play(&rt, &mut link, &UNHEARD);
+    play(&rt, &mut twin, &[Step::Connect(Err(Failed))]);
+    thread::sleep(&rt, Duration::from_millis(1_100));
+    play(&rt, &mut twin, &[Step::Connect(Ok(()))]);
+    Ok(())
+}
+
+#[test]
+fn a_peer_that_refuses_is_not_set_aside(rt: HostRuntime) -> Result<(), Fail> {
+    let listener = TcpListener::bind(&rt, "127.0.0.1:0")?;
+    let mut link = link_to(&rt, rt.alloc(), &listener, 20_000)?;
+    let port = listener.local_addr()?.port();
+    link.set_aside_among(two_peers(rt.alloc())?, 0);
+    drop(listener);
+    play(&rt, &mut link, &[Step::Connect(Err(Failed))]);
+    let _listener = TcpListener::bind(&rt, ("127.0.0.1", port))?;
+    play(&rt, &mut link, &[Step::Connect(Ok(()))]);
     Ok(())
 }

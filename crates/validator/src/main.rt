@@ -9,7 +9,8 @@ use command_line::ListenAddress;
 use edge_clock::SystemClock;
 use edge_kit::{Disk, Disks, Door, MemDisk};
 use edge_system::{
-    FileDisk, Reading, StandardStream, StandardStreams, Standing, TcpDoor, TcpLink, Writing,
+    FileDisk, LongRequests, Peers, Reading, StandardStream, StandardStreams, Standing, TcpDoor,
+    TcpLink, Writing,
 };
 use node_calls::Node;
 use plan_places::{Places, Services, named};
@@ -21,11 +22,24 @@ use std::io::{Eprint, Input, Print};
 use std::net::Net;
 use std::process::ExitCode;
 use std::rt::{Clock, Env};
-use std::sync::Wait;
+use std::sync::{Arc, Wait};
 use std::thread::Threads;
+use std::time::Duration;
 use std::{env, io};
 use validator_cli::{Status, run_validator};
 use web3_signer::Web3Signer;
+
+/// How many seconds an exchange with a beacon node may last.
+const NODE_SECONDS: u64 = 2;
+
+/// How many seconds one may last in which a block is made or handed in.
+const BLOCK_SECONDS: u64 = 4;
+
+/// How many seconds an exchange with the signing service may last.
+const SIGNER_SECONDS: u64 = 3;
+
+/// How many seconds one may last in which it takes a keystore in or gives one up.
+const KEYSTORE_SECONDS: u64 = 10;
 
 /// The words of the command line. Where one is no UTF-8 there are none, which is no command.
 fn words<R: Env + AllocGlobal>(rt: &R) -> Result<Vec<String>, AllocError> {
@@ -51,32 +65,65 @@ fn memory_disks(alloc: Global) -> Result<Disks<MemDisk>, AllocError>
     })
 }
 
-/// A link to a service, which is not yet connected.
-fn link_to<'a, R: Net + Eprint>(
+/// A link to a service, which is not yet connected, and whose exchanges may last so many seconds.
+fn link_to<'a, R: Net + Eprint + Clock>(
+    rt: &'a R,
+    alloc: Global,
+    service: &ServiceUrl,
+    seconds: u64,
+) -> Result<TcpLink<&'a R>, AllocError> {
+    let host = String::from_str(alloc, service.dial_host())?;
+    let mut link = TcpLink::new(alloc, rt, host, service.port());
+    link.set_limit(Duration::from_secs(seconds));
+    Ok(link)
+}
+
+/// A link to a beacon node, that of this place among the nodes. It is set aside after an exchange that passed its limit,
+/// where there are others to ask.
+fn node_link<'a, R: Net + Eprint + Clock>(
+    rt: &'a R,
+    alloc: Global,
+    service: &ServiceUrl,
+    peers: &Arc<Peers, Global>,
+    index: usize,
+) -> Result<TcpLink<&'a R>, AllocError> {
+    let mut link = link_to(rt, alloc, service, NODE_SECONDS)?;
+    link.set_long_limit(LongRequests::Blocks, Duration::from_secs(BLOCK_SECONDS));
+    link.set_aside_among(Arc::try_clone(peers)?, index);
+    Ok(link)
+}
+
+/// A link to the signing service.
+fn link_to_signer<'a, R: Net + Eprint + Clock>(
     rt: &'a R,
     alloc: Global,
     service: &ServiceUrl,
 ) -> Result<TcpLink<&'a R>, AllocError> {
-    let host = String::from_str(alloc, service.dial_host())?;
-    Ok(TcpLink::new(alloc, rt, host, service.port()))
+    let mut link = link_to(rt, alloc, service, SIGNER_SECONDS)?;
+    link.set_long_limit(
+        LongRequests::Keystores,
+        Duration::from_secs(KEYSTORE_SECONDS),
+    );
+    Ok(link)
 }
 
 /// The beacon nodes at these addresses, in their order.
-fn nodes_at<'a, R: Net + Eprint>(
+fn nodes_at<'a, R: Net + Eprint + Clock>(
     rt: &'a R,
     alloc: Global,
     services: Vec<ServiceUrl>,
 ) -> Result<Vec<BeaconNode<TcpLink<&'a R>>>, AllocError> {
+    let peers = Arc::new(alloc, Peers::new(alloc, services.len())?)?;
     let mut nodes = Vec::new(alloc);
-    'services: for service in services {
-        let link = link_to(rt, alloc, &service)?;
+    'services: for (index, service) in services.into_iter().enumerate() {
+        let link = node_link(rt, alloc, &service, &peers, index)?;
         nodes.push(BeaconNode::new(link, service))?;
     }
     Ok(nodes)
 }
 
 /// The door at an address; where there is none, one that is never opened.
-fn door_at<'a, R: Net + Eprint>(
+fn door_at<'a, R: Net + Eprint + Clock>(
     rt: &'a R,
     alloc: Global,
     listen: Option<ListenAddress>,
@@ -109,7 +156,7 @@ where
         let signer = MemSigner::new(alloc, Vec::new(alloc), Vec::new(alloc));
         return run_asking(rt, alloc, words, disks, signer, nodes, listen);
     };
-    let Ok(link) = link_to(rt, alloc, &service) else {
+    let Ok(link) = link_to_signer(rt, alloc, &service) else {
         return Status::OutOfMemory;
     };
     let signer = Web3Signer::new(link, service);
