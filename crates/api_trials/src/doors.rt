@@ -1,10 +1,9 @@
 //! Connections that come in at a door in memory.
 use crate::Outcome;
 use crate::links::{client, counted, failing_of, number_of};
-use crate::stage::{Chosen, Stage, TOKEN};
-use check_sign::Desk;
+use crate::stage::{Chosen, NotedDesk, Stage, TOKEN};
 use edge_clock::MemClock;
-use edge_kit::{Door, Failed, Link, MemDisk, MemDoor, MemLink};
+use edge_kit::{Door, Failed, Link, MemDoor, MemLink};
 use keymanager_api::{Connections, ConnectionsEnd, serve_connections};
 use signer_link::MemSigner;
 use std::alloc::{AllocError, Global};
@@ -40,7 +39,7 @@ fn door_of(alloc: Global, options: &str, callers: &str) -> Result<Option<MemDoor
 fn serve_all(
     alloc: Global,
     count: u64,
-    desk: &mut Desk<MemDisk>,
+    desk: &mut NotedDesk,
     signer: &mut MemSigner,
     door: &mut MemDoor,
 ) -> Result<(), ConnectionsEnd> {

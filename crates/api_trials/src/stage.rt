@@ -9,7 +9,7 @@ use service_url::ServiceUrl;
 use signer_link::MemSigner;
 use std::alloc::{AllocError, Global};
 use std::mem;
-use test_texts::words_of;
+use test_texts::{Notes, Noting, words_of};
 use web3_signer::Web3Signer;
 
 /// The token that is wanted.
@@ -29,10 +29,13 @@ pub(crate) enum Chosen {
     Exhausted,
 }
 
+/// A desk over disks in memory, and what it did.
+pub(crate) type NotedDesk = Noting<Desk<MemDisk>>;
+
 /// What requests are served over.
 #[derive(Drop)]
 pub(crate) struct Stage {
-    pub(crate) desk: Option<Desk<MemDisk>>,
+    pub(crate) desk: Option<NotedDesk>,
     pub(crate) signer: Chosen,
 }
 
@@ -42,11 +45,14 @@ fn disk(alloc: Global, stop: Option<u64>) -> Result<MemDisk, AllocError> {
 }
 
 /// A desk that keeps no key, whose first disk stops at a call, if one is given; none where it does not open.
-fn desk_of(alloc: Global, stop: Option<u64>) -> Result<Option<Desk<MemDisk>>, AllocError> {
+fn desk_of(alloc: Global, stop: Option<u64>) -> Result<Option<NotedDesk>, AllocError> {
     let first = disk(alloc, stop)?;
     let second = disk(alloc, None)?;
     match Desk::open(alloc, Disks { first, second }, Root([0; 32]), false, 0) {
-        Ok(desk) => Ok(Some(desk)),
+        Ok(desk) => Ok(Some(Noting {
+            desk,
+            notes: Notes::new(alloc, 0),
+        })),
         Err(_) => Ok(None),
     }
 }
@@ -109,7 +115,7 @@ pub(crate) fn choose_signer(alloc: Global, arguments: &str, stage: &mut Stage) -
 pub(crate) fn serve(
     alloc: Global,
     link: &mut MemLink,
-    desk: &mut Desk<MemDisk>,
+    desk: &mut NotedDesk,
     signer: &mut Chosen,
 ) -> Served {
     match signer {
@@ -121,18 +127,18 @@ pub(crate) fn serve(
 
 /// Whether the desk has failed, and what it did, with its moments.
 fn desk_words(alloc: Global, stage: &Stage) -> Outcome {
-    let Some(desk) = &stage.desk else {
+    let Some(Noting { desk, notes }) = &stage.desk else {
         return Ok(None);
     };
     let failed = desk.failed();
-    let count = desk.events().len();
-    let events = words_of(alloc, desk.events())?;
+    let count = notes.events().len();
+    let events = words_of(alloc, notes.events())?;
     Ok(Some(format!(in alloc; "failed: {failed}, events: {count}\n{events}")?))
 }
 
 /// Ends the desk, and says how many calls its first disk had.
 fn disk_words(alloc: Global, stage: &mut Stage) -> Outcome {
-    let Some(desk) = stage.desk.take() else {
+    let Some(Noting { desk, notes: _ }) = stage.desk.take() else {
         return Ok(None);
     };
     let (disks, _) = desk.end();

@@ -12,3 +12,4 @@ pub mod ProposalLemmas
 pub mod ReadLemmas
 pub mod SnapshotLemmas
 pub mod StepLemmas
+pub mod WeightLemmas

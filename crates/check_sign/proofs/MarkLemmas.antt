@@ -1,17 +1,14 @@
 -- The states of keys where one of them is changed, and the desk beside them.
-use Rattle.std.proofs.Common.{◌≡◌, ◌⊎◌, inl, inr, ℕ, ◌+◌, ◌-◌, ◌≤◌, max, arith, Bool, true, false, cond, List, [], ◌∷◌, Option, Some, None, refl, sym, ◌∙◌, ap, subst}
+use Rattle.std.proofs.Common.{◌≡◌, ◌⊎◌, inl, inr, ℕ, max, Bool, true, false, cond, List, [], ◌∷◌, Option, Some, None, refl, sym, ◌∙◌, ap, subst}
 use Rattle.std.specs.Prelude.{IsSome, is_some}
 use Rattle.std.specs.BTreeMap.{is_at}
-use Rattle.std.specs.Map.{keys_of, values_of, remove_entry}
-use Rattle.std.specs.List.{sum_by}
+use Rattle.std.specs.Map.{keys_of, remove_entry}
 use Rattle.std.specs.List.Sorted.{IsStrictlySortedBy}
 use Rattle.std.specs.Option.{unwrap_or}
-use Rattle.std.proofs.lemmas.List.Sums.{sum_by-cons}
-use Rattle.std.proofs.lemmas.Map.Entries.{sum_by-insert_entry, sum_by-set_value}
 use Rattle.std.proofs.lemmas.Map.Steps.{set_value_same}
 use Rattle.edge_kit.specs.declared.bytes.PubKey.{PubKey}
 use Rattle.record_join.specs.Keys.{key_cmp, kept_of, with_key, with_kept}
-use Rattle.record_join.specs.KeyLaws.{key_total, kept_here, put_kept, taken_out}
+use Rattle.record_join.specs.KeyLaws.{kept_here, put_kept, taken_out}
 use Rattle.record_replay.specs.declared.state.KeyState.{KeyState}
 use Rattle.record_replay.specs.declared.state.KeyState.TheVariants.{Known, Active, Closing, Closed}
 use Rattle.protect_record.specs.Parts.{Parts}
@@ -21,25 +18,9 @@ use Rattle.record_replay.specs.Replaying.{ItemsStand}
 use Rattle.check_sign.specs.Contents.{Contents}
 use Rattle.desk_machine.specs.declared.event.DeskEvent.{DeskEvent}
 use Rattle.desk_machine.specs.declared.open_grant.OpenGrant.{OpenGrant}
-use Rattle.desk_machine.specs.States.{State, key_state, is_active}
+use Rattle.desk_machine.specs.States.{State, key_state}
 use Rattle.desk_machine.specs.Watches.{KeptWatches, WatchesStand}
 use Rattle.check_sign.specs.Standing.{DeskStands}
-use Rattle.check_sign.specs.Marking.{count_active}
-
--- ---- how many keys are active
-
-abbrev weight : KeyState → ℕ
-weight s = cond (is_active s) 1 0
-
-count_values : (es : List (PubKey × KeyState)) → count_active es ≡ sum_by weight (values_of es)
-count_values [] = refl
-count_values (e ∷ es) = sum_by-cons (λ s. cond (is_active s.1) 1 0) e es ∙ ap (λ n. weight e.1 + n) (count_values es) ∙ sym (sum_by-cons weight e.1 (values_of es))
-
-pub count_marked : (es : List (PubKey × KeyState)) (key : PubKey) → IsStrictlySortedBy key_cmp (keys_of es) → count_active (with_key es key Active) ≤ count_active es + 1
-count_marked es key sorted = omega (arith, count_values es, count_values (with_key es key Active), sum_by-insert_entry weight key_total es key Active sorted)
-
-pub count_closing : (es : List (PubKey × KeyState)) (key : PubKey) → kept_of es key ≡ Some Active → count_active (with_kept es key Closing) + 1 ≡ count_active es
-count_closing es key found = omega (arith, count_values es, count_values (with_kept es key Closing), sum_by-set_value weight (is_at (key_cmp key)) es Active Closing found)
 
 -- ---- a key is again what it was
 
@@ -117,14 +98,6 @@ active_at r states held key is same e = found_at r states held key Active is sam
 
 pub closing_at : (r : KeyState) (states held : List (PubKey × KeyState)) (key : PubKey) → r ≡ key_state states key → states ≡ held → r ≡ Closing → kept_of held key ≡ Some Closing
 closing_at r states held key is same e = found_at r states held key Closing is same closing_known e
-
-pub one_active : (states : List (PubKey × KeyState)) (key : PubKey) (n : ℕ) → kept_of states key ≡ Some Active → count_active states ≤ n → 1 ≤ n
-one_active states key n found within = omega (arith, count_closing states key found, within)
-
-pub one_fewer : (states new : List (PubKey × KeyState)) (key : PubKey) (n : ℕ) → kept_of states key ≡ Some Active → new ≡ with_kept states key Closing → count_active states ≤ n → count_active new ≤ n - 1
-one_fewer states new key n found is within =
-    let N : List (PubKey × KeyState) → Type 0 = λ l. count_active l ≤ n - 1 in
-    subst N (sym is) (omega (arith, count_closing states key found, within))
 
 pub begun_closing : (desk : Contents) (state : State) (key : PubKey) (states : List (PubKey × KeyState)) (events : List DeskEvent) → DeskStands desk state → states ≡ with_kept desk.states key Closing
     → ItemsStand (items_in desk.payloads) state.keys (with_kept state.states key Closing)

@@ -39,10 +39,9 @@ use Rattle.record_replay.specs.declared.state.KeyState.{KeyState}
 use Rattle.record_replay.specs.declared.state.KeyState.TheVariants.{Known, Active, Closing, Closed}
 use Rattle.check_sign.specs.Contents.{Contents, Seen}
 use Rattle.desk_machine.specs.Handing.{IsExport}
-use Rattle.check_sign.specs.Marking.{count_active}
 use Rattle.desk_machine.specs.Machine.{after, grant_for, IsUp, Proceeds, Reply}
 use Rattle.desk_machine.specs.Written.{frame_size, HasRoomFor, proposal_items}
-use Rattle.desk_machine.specs.States.{State, IsAllowed, is_active, key_state, lasting}
+use Rattle.desk_machine.specs.States.{State, IsAllowed, key_state, lasting}
 use Rattle.check_sign.specs.Standing.{DeskStands, PayloadsStand}
 use Rattle.desk_machine.specs.Grants.{open_grants}
 use Rattle.check_sign.specs.Writing.{KeepsJournal, Moved, Wrote, journal_of, refusal_of}
@@ -244,22 +243,6 @@ past_of_repeat true m = (with_own no_past m, sym ((repeats_decides (with_own no_
 past_of_repeat false m = (no_past, refl)
 
 -- ---- a key that is closed
-
-active_more : (s : PubKey × KeyState) (states : List (PubKey × KeyState)) → count_active (s ∷ states) ≡ cond (is_active s.1) 1 0 + count_active states
-active_more s states = sum_by-cons (λ (x : PubKey × KeyState). cond (is_active x.1) 1 0) s states
-
-no_more : (k n a b : ℕ) → a ≡ 0 + n → b ≡ k + n → a ≤ b
-no_more k n a b first second = omega (arith, first, second)
-
-each_more : (k m n a b : ℕ) → m ≤ n → a ≡ k + m → b ≡ k + n → a ≤ b
-each_more k m n a b h first second = omega (arith, h, first, second)
-
-pub fewer_active : (states : List (PubKey × KeyState)) (key : PubKey) → count_active (with_kept states key Closed) ≤ count_active states
-fewer_active [] key = omega arith
-fewer_active (s ∷ states) key = by (fewer_active states key) (is_at (key_cmp key) s.0) where
-  by : count_active (with_kept states key Closed) ≤ count_active states → (b : Bool) → count_active (cond b ((s.0, Closed) ∷ states) (s ∷ with_kept states key Closed)) ≤ count_active (s ∷ states)
-  by fewer true = no_more (cond (is_active s.1) 1 0) (count_active states) _ _ (active_more (s.0, Closed) states) (active_more s states)
-  by fewer false = each_more (cond (is_active s.1) 1 0) (count_active (with_kept states key Closed)) (count_active states) _ _ fewer (active_more s (with_kept states key Closed)) (active_more s states)
 
 -- no refusal holds: the key is kept, it is being closed, and none of its grants is open
 pub may_close : (desk : Contents) (state : State) (key : PubKey) (parts : Parts) (k : KeyState) (n : ℕ) (grants : List OpenGrant) → DeskStands desk state → kept_of desk.keys key ≡ Some parts → k ≡ key_state desk.states key → k ≡ Closing

@@ -32,6 +32,7 @@ use Rattle.check_sign.specs.Compacting.{IsOwnCompaction}
 use Rattle.check_sign.specs.Contents.{Contents, Seen, disks_in}
 use Rattle.check_sign.specs.Crashes.{LeavesFiles, LeftNow}
 use Rattle.check_sign.specs.Standing.{DeskStands, MayOpen}
+use Rattle.desk_parts.specs.Weights.{desk_weight}
 use Rattle.check_sign.specs.Writing.{KeepsJournal, journal_of, payloads_of}
 
 -- whichever state the desk stood for, the machine may give this reply, and the desk stands for the state after it
@@ -101,7 +102,7 @@ pub record IsOwnGrant (old : Contents) (key : PubKey) (m : Message) (new : Conte
   pub states : new.states ≡ old.states
 
 -- the same of leave, of what a watch bars, of what is told: the kept keys in order, each with its state and as its watch stands;
--- whether the disk has failed; and the size of the journal's payloads; and of a compaction
+-- whether the disk has failed; the size of the journal's payloads, and the weight of the kept records; and of a compaction
 abbrev pub IsOwn : Contents → DeskCall → DeskReply → Contents → Type 0
 IsOwn old (call.Propose key m now) (reply.Granted grant) new = IsOwnGrant old key m new
 IsOwn old (call.Propose key m now) (reply.Live epoch) new = IsOwnBar old key (reply.Live epoch)
@@ -112,7 +113,7 @@ IsOwn old (call.Allow key now) (reply.Watching first second) new = IsOwnBar old 
 IsOwn old call.Keys (reply.Keys listed) new = (map {B = PubKey × KeyState} (λ l. (l.0, state_in l.1)) listed ≡ map {B = PubKey × KeyState} (λ key. (key, key_state old.states key)) (keys_of old.keys)) × (new.keys ≡ old.keys) × (new.states ≡ old.states)
     × ((w : Watching) → WatchesStand old.watches w → listed ≡ map {B = PubKey × KeyStanding} (λ key. (key, key_standing (key_state old.states key) (standing_of w key))) (keys_of old.keys))
 IsOwn old call.HasFailed (reply.HasFailed failed) new = failed ≡ is_some old.torn
-IsOwn old call.Size (reply.Size size) new = (size ≡ old.size) × (size ≡ journal_size old.payloads)
+IsOwn old call.Size (reply.Size size weight) new = (size ≡ old.size) × (size ≡ journal_size old.payloads) × (weight ≡ desk_weight old.keys)
 IsOwn old call.Compact r new = IsOwnCompaction old r new
 IsOwn old c r new = Unit {0}
 

@@ -9,9 +9,9 @@ ghost use Rattle.desk_machine.specs.declared.call.DeskCall.TheVariants as DeskCa
 
 use crate::desk::Desk;
 use crate::marking::{mark_active, set_state, state_of, unmark};
-use crate::room::{fits_one, make_room, note};
 use crate::writing::{refusal, write_items};
 use desk_machine::{DeskReply, Event};
+use desk_parts::{fits_one, note, note_closed};
 use edge_kit::{Disk, PubKey};
 use record_codec::JournalItem;
 use record_replay::{KeyState, replay_laws};
@@ -44,9 +44,6 @@ impl<D: Disk> Desk<D> {
         if self.watches.reserve(&key).is_err() {
             return DeskReply::OutOfMemory;
         }
-        if !make_room(&mut self.events, &mut self.grants, self.closable) {
-            return DeskReply::OutOfMemory;
-        }
         let Ok(fresh) = self.books.prepare_key(key) else {
             return DeskReply::OutOfMemory;
         };
@@ -60,7 +57,6 @@ impl<D: Disk> Desk<D> {
             self.books.take_back(fresh);
             return refusal(fault);
         }
-        self.closable += 1;
         self.watches.begin(&key, self.latest);
         note(&mut self.events, Event::Activated { key }, self.latest);
         DeskReply::Active
@@ -80,7 +76,6 @@ impl<D: Disk> Desk<D> {
         match state_of(&self.states, &key) {
             KeyState::Active => {
                 set_state(&mut self.states, &key, KeyState::Closing);
-                self.closable -= 1;
                 note(&mut self.events, Event::CloseBegun { key }, self.latest);
                 DeskReply::CloseBegun
             }
@@ -114,19 +109,11 @@ impl<D: Disk> Desk<D> {
         let Ok(book) = record.export(self.alloc) else {
             return DeskReply::OutOfMemory;
         };
-        let Ok(noted) = book.copy(self.alloc) else {
-            return DeskReply::OutOfMemory;
-        };
-        if !make_room(&mut self.events, &mut self.grants, self.closable) {
-            return DeskReply::OutOfMemory;
-        }
         let items = [JournalItem::Close { key }];
         if let Err(fault) = write_items(&mut self.journal, self.alloc, &items) {
             return refusal(fault);
         }
         set_state(&mut self.states, &key, KeyState::Closed);
-        let event = Event::Closed { key, book: noted };
-        note(&mut self.events, event, self.latest);
-        DeskReply::Closed(book)
+        DeskReply::Closed(note_closed(&mut self.events, key, book, self.latest))
     }
 }

@@ -12,10 +12,10 @@ ghost use Rattle.desk_machine.specs.declared.call.DeskCall.TheVariants as DeskCa
 
 use crate::desk::Desk;
 use crate::marking::state_of;
-use crate::room::{make_room, note};
 use desk_machine::{DeskReply, Event};
+use desk_parts::note;
 use edge_kit::{Disk, PubKey};
-use journal_frames::{generation_of, journal_law};
+use journal_frames::journal_law;
 use key_snapshot::{batches_law, snapshot_batches};
 use record_codec::{JournalItem, encode};
 use record_join::Books;
@@ -40,11 +40,8 @@ impl<D: Disk> Desk<D> {
         if self.journal.failed() {
             return DeskReply::Disk;
         }
-        if generation_of(self.journal.payloads()) == u64::MAX {
+        if self.journal.generation() == u64::MAX {
             return DeskReply::LastGeneration;
-        }
-        if !make_room(&mut self.events, &mut self.grants, self.closable) {
-            return DeskReply::OutOfMemory;
         }
         let Ok(snapshot) = snapshot_payloads(self.alloc, &self.books, &self.states) else {
             return DeskReply::OutOfMemory;

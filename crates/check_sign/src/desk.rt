@@ -9,10 +9,8 @@ ghost use Rattle.desk_machine.specs.Machine.{MayCall};
 ghost use Rattle.check_sign.specs.Calls.{IsCallOf, IsOwn, IsStep, Counted, LeavesDesk, WritesOne};
 ghost use Rattle.check_sign.specs.Writing.{KeepsJournal, Moved, journal_of};
 
-use crate::room::note;
-use desk_machine::{
-    DeskCall, DeskEvent, DeskReply, Event, Events, Grant, Keys, OpenGrants, Outcome, Watches,
-};
+use desk_machine::{DeskCall, DeskReply, Event, Events, Grant, Keys, OpenGrants, Outcome, Watches};
+use desk_parts::note;
 use edge_kit::{Disk, Disks, PubKey, Root};
 use protect_record::Record;
 use record_join::Books;
@@ -34,14 +32,12 @@ pub struct Desk<D: Disk> {
     pub(crate) states: BTreeMap<PubKey, KeyState>,
     pub(crate) grants: OpenGrants,
     pub(crate) latest: u64,
-    pub(crate) events: Vec<DeskEvent>,
-    pub(crate) closable: usize,
+    pub(crate) events: Events,
 }
 
 impl<D: Disk> Model for Desk<D> {
-    ghost use Rattle.std.specs.Prelude.{◌+◌, ◌≤◌, length, vec_len, vec_capacity};
+    ghost use Rattle.std.specs.Prelude.{◌≤◌};
     ghost use Rattle.check_sign.specs.Contents.{Contents, Seen};
-    ghost use Rattle.check_sign.specs.Marking.{count_active};
     ghost use Rattle.check_sign.specs.Writing.{HoldsJournal};
     ghost use Rattle.desk_machine.specs.Machine.{moment_limit};
 
@@ -66,10 +62,8 @@ impl<D: Disk> Model for Desk<D> {
       };
     } };
 
-    // There is room for the events of settling each open grant and of beginning to close each active key; and the latest moment is
-    // within its limit.
-    ghost invariant = { λ d. (vec_len d.events + length d.grants.grants + d.closable ≤ vec_capacity d.events) × (d.grants.next ≤ vec_len d.events)
-        × (count_active d.states.entries ≤ d.closable) × HoldsJournal D.moment D.leaves d.genesis d.journal × (d.latest ≤ moment_limit) };
+    // The latest moment is within its limit.
+    ghost invariant = { λ d. HoldsJournal D.moment D.leaves d.genesis d.journal × (d.latest ≤ moment_limit) };
 }
 
 impl<D: Disk> Desk<D> {
@@ -134,13 +128,6 @@ impl<D: Disk> Desk<D> {
         note(&mut self.events, settled, self.latest);
     }
 
-    /// What the desk did since it was opened, in order. Takes no memory.
-    pub fn events(&self) -> &[DeskEvent]
-        ensures { result.now ≡ self.now.contents.events }
-    {
-        self.events.as_slice()
-    }
-
     /// The kept keys, in order.
     ///
     /// # Errors
@@ -159,13 +146,14 @@ impl<D: Disk> Desk<D> {
         self.books.get(key)
     }
 
-    /// The disks as they are, and what the desk did since it was opened, in order. Takes no memory.
+    /// The disks as they are, and what the desk did since it was opened, in order, as contracts speak of it. Takes
+    /// no memory.
     pub fn end(self) -> (Disks<D>, Events)
         ensures disks { result.0 ≡ disks_in self }
-        ensures events { result.1 ≡ self.contents.events }
+        ensures events { result.1.items ≡ self.contents.events }
         ensures left { LeavesDesk D.moment D.leaves (disks_in self) self.contents }
         ensures holds { LeftPair D.moment D.leaves (disks_in self) (MayRead (journal_of self)) }
     {
-        (self.journal.end(), Events::from_vec(self.events))
+        (self.journal.end(), self.events)
     }
 }

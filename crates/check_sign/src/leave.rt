@@ -11,8 +11,8 @@ ghost use Rattle.desk_machine.specs.declared.call.DeskCall.TheVariants as DeskCa
 
 use crate::desk::Desk;
 use crate::marking::state_of;
-use crate::room::{give_leave, make_room, note};
 use desk_machine::{DeskReply, Event, WatchState};
+use desk_parts::{give_leave, make_room, note};
 use edge_kit::{Disk, PubKey};
 use record_replay::KeyState;
 
@@ -58,7 +58,7 @@ impl<D: Disk> Desk<D> {
             Ok(()) => {}
             Err(bar) => return bar,
         }
-        if !make_room(&mut self.events, &mut self.grants, self.closable) {
+        if !make_room(&mut self.grants) {
             return DeskReply::OutOfMemory;
         }
         let latest = self.latest;
@@ -83,9 +83,6 @@ impl<D: Disk> Desk<D> {
             KeyState::Known | KeyState::Closed => return DeskReply::NotActive,
         }
         if self.watches.reserve(&key).is_err() {
-            return DeskReply::OutOfMemory;
-        }
-        if !make_room(&mut self.events, &mut self.grants, self.closable) {
             return DeskReply::OutOfMemory;
         }
         self.watches.tell(&key, epoch, live, now);

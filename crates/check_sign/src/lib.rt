@@ -13,7 +13,6 @@ mod merging;
 mod open;
 mod proposing;
 mod reads;
-mod room;
 mod writing;
 
 pub use desk::Desk;

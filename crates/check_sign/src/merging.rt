@@ -8,9 +8,9 @@ ghost use Rattle.check_sign.specs.Writing.{Moved, journal_of};
 ghost use Rattle.desk_machine.specs.declared.call.DeskCall.TheVariants as DeskCall;
 
 use crate::desk::Desk;
-use crate::room::{make_room, note, note_merge};
 use crate::writing::{refusal, write_book, write_file};
-use desk_machine::{DeskReply, Event};
+use desk_machine::DeskReply;
+use desk_parts::{note_merge, note_pruned};
 use edge_kit::{Disk, PubKey};
 use record_join::{MergeFault, prepared_law};
 use record_replay::{pruning_law, replay_laws};
@@ -37,8 +37,7 @@ impl<D: Disk> Desk<D> {
         }
         replay_laws();
         prepared_law();
-        let has_room = make_room(&mut self.events, &mut self.grants, self.closable);
-        let fresh = match self.books.prepare(file.books.as_slice(), has_room) {
+        let fresh = match self.books.prepare(file.books.as_slice(), true) {
             Ok(fresh) => fresh,
             Err(MergeFault::TooManyKeys { have, new }) => {
                 return DeskReply::TooManyKeys { have, new };
@@ -71,15 +70,11 @@ impl<D: Disk> Desk<D> {
         let Ok(book) = record.pruning_book(self.alloc) else {
             return DeskReply::OutOfMemory;
         };
-        let Ok(noted) = book.copy(self.alloc) else {
-            return DeskReply::OutOfMemory;
-        };
         replay_laws();
         pruning_law();
         prepared_law();
-        let has_room = make_room(&mut self.events, &mut self.grants, self.closable);
         let listed = (key, book);
-        let Ok(fresh) = self.books.prepare(from_ref(&listed), has_room) else {
+        let Ok(fresh) = self.books.prepare(from_ref(&listed), true) else {
             return DeskReply::OutOfMemory;
         };
         if let Err(fault) = write_book(&mut self.journal, self.alloc, &listed) {
@@ -87,9 +82,7 @@ impl<D: Disk> Desk<D> {
             return refusal(fault);
         }
         self.books.merge_prepared(from_ref(&listed));
-        let event = Event::Pruned { key, book: noted };
-        note(&mut self.events, event, self.latest);
         let (_, book) = listed;
-        DeskReply::Pruned(book)
+        DeskReply::Pruned(note_pruned(&mut self.events, key, book, self.latest))
     }
 }

@@ -4,7 +4,7 @@ ghost use Rattle.desk_machine.specs.Machine.{moment_limit};
 ghost use Rattle.check_sign.specs.Opening.{Opening, OpeningRefused, open_fault_of};
 
 use crate::desk::Desk;
-use desk_machine::{OpenGrants, Watches};
+use desk_machine::{Events, OpenGrants, Watches};
 use edge_kit::{Disk, Disks, Root};
 use record_journal::Journal;
 use record_replay::{ReplayFault, Replayed, replay};
@@ -45,22 +45,16 @@ impl<D: Disk> Desk<D> {
         ensures opened { IfOk result (λ d. Opening D.shows D.moment D.leaves D.faults disks genesis watch now d) }
         ensures refused { IfErr result (λ e. OpeningRefused D.shows D.moment D.leaves D.faults disks genesis e.0 e.1) }
     {
-        let journal = match Journal::open(alloc, disks, genesis) {
-            Ok(journal) => journal,
+        let (journal, reader) = match Journal::open(alloc, disks, genesis) {
+            Ok(opened) => opened,
             Err((fault, disks)) => return Err((OpenFault::Journal(fault), disks)),
         };
-        let Replayed { books, states } = match replay(alloc, journal.payloads()) {
+        let Replayed { books, states } = match replay(alloc, reader) {
             Ok(replayed) => replayed,
             Err(fault) => {
                 let disks = journal.end();
                 return Err((replay_fault(fault), disks));
             }
-        };
-        let closable = states.len();
-        let Ok(events) = Vec::with_capacity(alloc, closable) else {
-            let disks = journal.end();
-            let fault = OpenFault::Journal(record_journal::OpenFault::OutOfMemory);
-            return Err((fault, disks));
         };
         Ok(Desk {
             alloc,
@@ -71,8 +65,7 @@ impl<D: Disk> Desk<D> {
             states,
             grants: OpenGrants::new(alloc),
             latest: now,
-            events,
-            closable,
+            events: Events::new(),
         })
     }
 }

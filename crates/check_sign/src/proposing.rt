@@ -8,9 +8,9 @@ ghost use Rattle.check_sign.specs.Writing.{Moved, journal_of};
 ghost use Rattle.desk_machine.specs.declared.call.DeskCall.TheVariants as DeskCall;
 
 use crate::desk::Desk;
-use crate::room::{give, make_room};
 use crate::writing::{refusal, write_message};
 use desk_machine::DeskReply;
+use desk_parts::{give, make_room};
 use edge_kit::{Disk, PubKey};
 use record_join::Judged;
 use record_replay::replay_laws;
@@ -32,7 +32,7 @@ impl<D: Disk> Desk<D> {
             Err(bar) => return bar,
         }
         replay_laws();
-        let has_room = make_room(&mut self.events, &mut self.grants, self.closable);
+        let has_room = make_room(&mut self.grants);
         let repeat = match self.books.judge(&key, &message, has_room) {
             Judged::Unknown => return DeskReply::Unknown,
             Judged::Refused(verdict) => return DeskReply::Refused(verdict),

@@ -9,6 +9,7 @@ ghost use Rattle.desk_machine.specs.declared.call.DeskCall.TheVariants as DeskCa
 use crate::desk::Desk;
 use crate::exporting::{exports_of, standings_of};
 use desk_machine::{DeskReply, Keys};
+use desk_parts::weigh;
 use edge_kit::Disk;
 use slash_defs::File;
 use std::alloc::AllocError;
@@ -61,7 +62,7 @@ impl<D: Disk> Desk<D> {
         DeskReply::HasFailed(self.journal.failed())
     }
 
-    /// How many bytes the current file of the journal has.
+    /// How many bytes the current file of the journal has, and at most how many a compaction would leave.
     pub(crate) fn tell_size(&mut self) -> DeskReply
         ensures machine { IsStep self.old.contents (DeskCall.Size) result self.new.contents }
         ensures counted { Counted self.old.contents (DeskCall.Size) result self.new.contents }
@@ -69,6 +70,9 @@ impl<D: Disk> Desk<D> {
         ensures rose { result ≡ DeskReply.Disk → self.old.contents.torn ≡ None → EitherRose D.faults (disks_in self.old) (disks_in self.new) }
         ensures moved { Moved D.moment D.leaves D.faults (journal_of self.old) (journal_of self.new) }
     {
-        DeskReply::Size(self.journal.size())
+        DeskReply::Size {
+            size: self.journal.size(),
+            weight: weigh(&self.books),
+        }
     }
 }

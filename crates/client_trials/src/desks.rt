@@ -1,12 +1,14 @@
 //! Single calls of a desk, and the word of each reply.
+use crate::lanes::NotedDesk;
 use crate::words::root;
-use check_sign::{Desk, DeskReply, KeyStandings, MOMENT_LIMIT, Outcome};
-use edge_kit::{MemDisk, PubKey};
+use check_sign::{DeskCall, DeskCalls, DeskReply, KeyStandings, MOMENT_LIMIT, Outcome};
+use edge_kit::PubKey;
 use slash_defs::Message;
 
 /// Makes a key active at an epoch.
-pub fn activate(desk: &mut Desk<MemDisk>, key: PubKey, epoch: u64) {
-    match desk.activate(key, epoch.min(MOMENT_LIMIT)) {
+pub fn activate(desk: &mut NotedDesk, key: PubKey, epoch: u64) {
+    let now = epoch.min(MOMENT_LIMIT);
+    match desk.call(DeskCall::Activate { key, now }) {
         DeskReply::Active | DeskReply::Already | DeskReply::Closing => {}
         DeskReply::Disk | DeskReply::OutOfMemory => {}
         DeskReply::TooManyKeys { have: _, new: _ } => {}
@@ -16,8 +18,8 @@ pub fn activate(desk: &mut Desk<MemDisk>, key: PubKey, epoch: u64) {
 }
 
 /// Begins to close a key.
-pub fn begin_close(desk: &mut Desk<MemDisk>, key: PubKey) -> &'static str {
-    match desk.begin_close(key) {
+pub fn begin_close(desk: &mut NotedDesk, key: PubKey) -> &'static str {
+    match desk.call(DeskCall::BeginClose { key }) {
         DeskReply::CloseBegun => "close begun",
         DeskReply::AlreadyClosing | DeskReply::Unknown | DeskReply::NotActive => "refused",
         _ => unreachable!(),
@@ -25,8 +27,8 @@ pub fn begin_close(desk: &mut Desk<MemDisk>, key: PubKey) -> &'static str {
 }
 
 /// Closes a key that is being closed.
-pub fn finish_close(desk: &mut Desk<MemDisk>, key: PubKey) -> &'static str {
-    match desk.finish_close(key) {
+pub fn finish_close(desk: &mut NotedDesk, key: PubKey) -> &'static str {
+    match desk.call(DeskCall::FinishClose { key }) {
         DeskReply::Closed(_book) => "closed",
         DeskReply::Unknown | DeskReply::NotClosing(_) => "refused",
         DeskReply::Busy { grants: _ } => "refused",
@@ -37,16 +39,20 @@ pub fn finish_close(desk: &mut Desk<MemDisk>, key: PubKey) -> &'static str {
 }
 
 /// Has a vote from epoch 1 to epoch 2 granted, and settles the grant as sent.
-pub fn sign(desk: &mut Desk<MemDisk>, key: PubKey) -> &'static str {
+pub fn sign(desk: &mut NotedDesk, key: PubKey) -> &'static str {
     let message = Message::Vote {
         source: 1,
         target: 2,
         root: root(10),
     };
-    match desk.propose(key, message, 0) {
+    let now = 0;
+    match desk.call(DeskCall::Propose { key, message, now }) {
         DeskReply::Granted(grant) => {
-            desk.settle(grant, Outcome::Sent);
-            "sent"
+            let outcome = Outcome::Sent;
+            match desk.call(DeskCall::Settle { grant, outcome }) {
+                DeskReply::Settled => "sent",
+                _ => unreachable!(),
+            }
         }
         DeskReply::Unknown | DeskReply::NotActive | DeskReply::Closing => "refused",
         DeskReply::Live { epoch: _ } | DeskReply::Refused(_) => "refused",
@@ -61,8 +67,8 @@ pub fn sign(desk: &mut Desk<MemDisk>, key: PubKey) -> &'static str {
 }
 
 /// Compacts the journal.
-pub fn compact(desk: &mut Desk<MemDisk>) -> &'static str {
-    match desk.compact() {
+pub fn compact(desk: &mut NotedDesk) -> &'static str {
+    match desk.call(DeskCall::Compact) {
         DeskReply::Compacted {
             before: _,
             after: _,
@@ -74,8 +80,8 @@ pub fn compact(desk: &mut Desk<MemDisk>) -> &'static str {
 }
 
 /// How the kept keys stand; none where memory ran out.
-pub fn standings(desk: &mut Desk<MemDisk>) -> Option<KeyStandings> {
-    match desk.keys() {
+pub fn standings(desk: &mut NotedDesk) -> Option<KeyStandings> {
+    match desk.call(DeskCall::Keys) {
         DeskReply::Keys(listed) => Some(listed),
         DeskReply::OutOfMemory => None,
         _ => unreachable!(),

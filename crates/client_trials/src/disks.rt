@@ -9,14 +9,14 @@ use std::mem;
 /// The first disk of the lane's desk, which ends; the lane has an empty one then.
 fn take_disk(alloc: Global, lane: &mut MemLane) -> Result<MemDisk, Unread> {
     let empty = desk_over(alloc, Vec::new(alloc), None, false, 0)?;
-    let (disks, _) = mem::replace(&mut lane.desk, empty).end();
+    let (disks, _) = mem::replace(&mut lane.desk, empty).desk.end();
     Ok(disks.first)
 }
 
 /// How many calls the opening of a desk over these bytes makes of its first disk.
 fn opening_calls(alloc: Global, bytes: &[u8]) -> Result<u64, Unread> {
     let desk = desk_over(alloc, bytes.to_vec(alloc)?, None, false, 0)?;
-    let (disks, _) = desk.end();
+    let (disks, _) = desk.desk.end();
     Ok(disks.first.calls())
 }
 

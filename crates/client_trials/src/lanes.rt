@@ -11,9 +11,13 @@ use node_calls::MemNode;
 use node_fallback::Nodes;
 use signer_link::MemSigner;
 use std::alloc::Global;
+use test_texts::{Notes, Noting};
+
+/// A desk over disks in memory, and what it did.
+pub type NotedDesk = Noting<Desk<MemDisk>>;
 
 /// A lane with a desk of its own.
-pub type MemLane = Lane<Desk<MemDisk>, MemSigner, MemNode>;
+pub type MemLane = Lane<NotedDesk, MemSigner, MemNode>;
 
 /// Opens a desk over disks of which the first has these bytes and stops at a call, if one is given.
 pub fn desk_over(
@@ -22,24 +26,27 @@ pub fn desk_over(
     stop: Option<u64>,
     watches: bool,
     epoch: u64,
-) -> Result<Desk<MemDisk>, Unread> {
+) -> Result<NotedDesk, Unread> {
     let first = MemDisk::new(alloc, bytes, Vec::new(alloc), stop)?;
     let second = MemDisk::new(alloc, Vec::new(alloc), Vec::new(alloc), None)?;
     let now = epoch.min(MOMENT_LIMIT);
     match Desk::open(alloc, Disks { first, second }, root(0), watches, now) {
-        Ok(desk) => Ok(desk),
+        Ok(desk) => Ok(Noting {
+            desk,
+            notes: Notes::new(alloc, now),
+        }),
         Err(_) => Err(Unread),
     }
 }
 
 /// Makes keys active at an epoch.
-pub fn activate_all(desk: &mut Desk<MemDisk>, keys: &[PubKey], epoch: u64) {
+pub fn activate_all(desk: &mut NotedDesk, keys: &[PubKey], epoch: u64) {
     for key in keys {
         activate(desk, *key, epoch);
     }
 }
 
-fn desk_of(alloc: Global, part: &str) -> Result<Desk<MemDisk>, Unread> {
+fn desk_of(alloc: Global, part: &str) -> Result<NotedDesk, Unread> {
     let keys = keys_in(alloc, part, "active")?;
     let epoch = number_in(alloc, part, "epoch")?;
     let watches = number_in(alloc, part, "watches")? == 1;

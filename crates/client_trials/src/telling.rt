@@ -1,12 +1,13 @@
 //! What desks, nodes and lanes have come to, in words.
 use crate::desks::standings;
-use crate::lanes::MemLane;
+use crate::lanes::{MemLane, NotedDesk};
 use crate::words::key;
-use check_sign::{Desk, DeskEvent, Event};
-use edge_kit::{MemDisk, hex_text};
+use check_sign::{DeskEvent, Event};
+use edge_kit::hex_text;
 use node_calls::{Ask, MemNode, NodeCall, Post, PostCall};
 use node_fallback::Nodes;
 use std::alloc::{AllocError, Global};
+use test_texts::Noting;
 
 fn word(ask: &Ask) -> &'static str {
     match ask {
@@ -64,11 +65,7 @@ fn write_nodes(text: &mut String, nodes: Nodes<MemNode>) -> Result<(), AllocErro
 }
 
 /// Writes how each key at a desk stands.
-fn write_keys(
-    alloc: Global,
-    text: &mut String,
-    desk: &mut Desk<MemDisk>,
-) -> Result<(), AllocError> {
+fn write_keys(alloc: Global, text: &mut String, desk: &mut NotedDesk) -> Result<(), AllocError> {
     let Some(listed) = standings(desk) else {
         return Ok(());
     };
@@ -94,9 +91,10 @@ fn compactions(events: &[DeskEvent]) -> u64 {
 }
 
 /// Writes how many events a desk has, how many of them are compactions, and whether its second file is begun.
-fn write_desk(text: &mut String, desk: Desk<MemDisk>) -> Result<(), AllocError> {
-    let events = desk.events().len();
-    let compactions = compactions(desk.events());
+fn write_desk(text: &mut String, noted: NotedDesk) -> Result<(), AllocError> {
+    let Noting { desk, notes } = noted;
+    let events = notes.events().len();
+    let compactions = compactions(notes.events());
     let (disks, _) = desk.end();
     let begun = !disks.second.bytes().is_empty();
     writeln!(

@@ -1,3 +1,4 @@
 pub mod GrantLemmas
 pub mod KindLemmas
 pub mod WatchLemmas
+pub mod WeightLemmas

@@ -20,7 +20,7 @@ IsOkOf (call.Export keys) (reply.Exported file) = Unit {0}
 IsOkOf (call.Prune key) (reply.Pruned book) = Unit {0}
 IsOkOf call.Keys (reply.Keys listed) = Unit {0}
 IsOkOf call.HasFailed (reply.HasFailed failed) = Unit {0}
-IsOkOf call.Size (reply.Size size) = Unit {0}
+IsOkOf call.Size (reply.Size size weight) = Unit {0}
 IsOkOf call.Compact (reply.Compacted before after) = Unit {0}
 IsOkOf c r = ⊥
 
@@ -87,7 +87,7 @@ IsKind (call.Prune key) (reply.Pruned book) = Unit {0}
 IsKind call.Keys (reply.Keys listed) = Unit {0}
 IsKind call.Keys reply.OutOfMemory = Unit {0}
 IsKind call.HasFailed (reply.HasFailed failed) = Unit {0}
-IsKind call.Size (reply.Size size) = Unit {0}
+IsKind call.Size (reply.Size size weight) = Unit {0}
 IsKind call.Compact reply.Disk = Unit {0}
 IsKind call.Compact reply.LastGeneration = Unit {0}
 IsKind call.Compact reply.OutOfMemory = Unit {0}

@@ -20,7 +20,7 @@ use Rattle.desk_machine.specs.States.{State, Lasting, lasting, past_of, key_stat
 use Rattle.desk_machine.specs.Watches.{Watching, standing_of, with_begun, with_told}
 use Rattle.desk_machine.specs.Grants.{open_grants, without}
 use Rattle.desk_machine.specs.Handing.{Exports, IsExport}
-use Rattle.desk_machine.specs.Snapshots.{snapshot_size}
+use Rattle.desk_machine.specs.Snapshots.{snapshot_size, weight_of}
 use Rattle.desk_machine.specs.Written.{Fits, Overfills, Writes, frame_size, proposal_items, prune_items}
 use Rattle.desk_machine.specs.declared.open_grant.OpenGrant.{OpenGrant}
 use Rattle.desk_machine.specs.declared.call.KeyStanding.{KeyStanding}
@@ -194,7 +194,7 @@ Reply state (call.Prune key) (reply.Pruned book) = Succeeds state (call.Prune ke
 Reply state call.Keys (reply.Keys listed) = listed ≡ key_standings state
 Reply state call.Keys reply.OutOfMemory = Unit {0}
 Reply state call.HasFailed (reply.HasFailed failed) = failed ≡ is_some state.torn
-Reply state call.Size (reply.Size size) = size ≡ state.size
+Reply state call.Size (reply.Size size weight) = (size ≡ state.size) × (weight ≡ weight_of state)
 Reply state call.Compact reply.Disk = MayFail state call.Compact
 Reply state call.Compact reply.LastGeneration = IsUp state × (state.generation ≡ last_generation)
 Reply state call.Compact reply.OutOfMemory = MayWant state call.Compact

@@ -117,7 +117,7 @@ pub enum DeskCall {
     Keys,
     /// Asks whether the disk has failed since the desk was opened.
     HasFailed,
-    /// Asks how many bytes the current file of the journal has.
+    /// Asks how many bytes the current file of the journal has, and at most how many a compaction would leave.
     Size,
     /// Writes what the desk keeps into the file that isn't current, and makes it the current one.
     Compact,
@@ -151,8 +151,9 @@ pub enum DeskReply {
     Keys(KeyStandings),
     /// Whether the disk has failed.
     HasFailed(bool),
-    /// The size in bytes of the current file, up to and with its closed gate.
-    Size(u64),
+    /// The size in bytes of the current file, up to and with its closed gate; and its weight: at most how many
+    /// bytes a compaction would leave, told by counts alone, or 2^64 - 1 where that is less.
+    Size { size: u64, weight: u64 },
     /// The journal is compacted: the sizes in bytes of the file that was current and of the one that is now.
     Compacted { before: u64, after: u64 },
     /// The file is of a chain with another root of genesis validators.

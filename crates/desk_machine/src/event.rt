@@ -1,6 +1,7 @@
 //! What the desk did, as plain data.
 use crate::call::Outcome;
-use edge_kit::{Items, PubKey};
+use edge_kit::PubKey;
+use past_items::Past;
 use slash_defs::{Book, File, Message};
 
 /// A call whose reply changed the desk, a grant by its number.
@@ -64,5 +65,5 @@ pub struct DeskEvent {
     pub moment: u64,
 }
 
-/// The events since the desk was opened, in order.
-pub type Events = Items<DeskEvent>;
+/// The events since the desk was opened, in order, as contracts speak of them. They take no memory.
+pub type Events = Past<DeskEvent>;

@@ -15,7 +15,7 @@ pub use desk_calls::DeskCalls;
 pub use doppel_watch::{MOMENT_LIMIT, WatchState};
 pub use event::{DeskEvent, Event, Events};
 pub use grant::Grant;
-pub use laws::machine_laws;
+pub use laws::{machine_laws, snapshot_law};
 pub use open_grant::OpenGrant;
 pub use open_grants::OpenGrants;
 pub use record_replay::KeyState;

@@ -58,6 +58,13 @@ impl OpenGrants {
         self.grants.len()
     }
 
+    /// The number of the next grant.
+    pub fn next(&self) -> u64
+        ensures { result ≡ self.now.next }
+    {
+        self.next
+    }
+
     /// How many of the open grants are of this key. Takes no memory.
     pub fn count_of(&self, key: &PubKey) -> usize
         ensures { result ≡ open_grants self.now.grants key.now }

@@ -41,7 +41,7 @@ compaction_hand (reply.Compacted before after) h = refl
 compaction_hand r h = absurd h
 
 size_hand : (r : DeskReply) → IsKind call.Size r → hand_given Free r ≡ Free
-size_hand (reply.Size size) h = refl
+size_hand (reply.Size size weight) h = refl
 size_hand r h = absurd h
 
 module _ {K : Type 0} (leads : Leads K) (start : Option ℕ) where
@@ -52,8 +52,8 @@ module _ {K : Type 0} (leads : Leads K) (start : Option ℕ) where
 
   -- ---- the compaction
 
-  pub small_journal : (next : NextPlan) (size : ℕ) (a : House K) → size ≤ size_limit → ShortenedOn leads start (sized (reply.Size size) next) next a a (Ok tt)
-  small_journal next size a h =
+  pub small_journal : (next : NextPlan) (size weight : ℕ) (a : House K) → size ≤ size_limit → ShortenedOn leads start (sized (reply.Size size weight) next) next a a (Ok tt)
+  small_journal next size weight a h =
       let small : nat_lt size_limit size ≡ false = le-ltb size_limit size h in
       subst (λ (t : Bool). Comes Fits (Does leads start) (if t then calls call.Compact (λ r. compacted r next) else next) next a a) (sym small) (comes_none Fits (Does leads start) next a)
 
@@ -62,10 +62,10 @@ module _ {K : Type 0} (leads : Leads K) (start : Option ℕ) where
   compacted_so reply.OutOfMemory next a b cut on = cut
   compacted_so r next a b cut on = on
 
-  pub grown_journal : (next : NextPlan) (size : ℕ) (d e : K) (ls : List (Seat K)) (nodes : List Seen) (out : SinkSeen) (r : DeskReply) (result : Result (Unit {0}) AllocError)
+  pub grown_journal : (next : NextPlan) (size weight : ℕ) (d e : K) (ls : List (Seat K)) (nodes : List Seen) (out : SinkSeen) (r : DeskReply) (result : Result (Unit {0}) AllocError)
       → size_limit < size → leads d ((call.Compact, r) ∷ []) e → IsKind call.Compact r → IsGrantFor call.Compact r → result ≡ compacted_by r
-      → ShortenedOn leads start (sized (reply.Size size) next) next (house d ls nodes out) (house e ls nodes out) result
-  grown_journal next size d e ls nodes out r result h led kind for is =
+      → ShortenedOn leads start (sized (reply.Size size weight) next) next (house d ls nodes out) (house e ls nodes out) result
+  grown_journal next size weight d e ls nodes out r result h led kind for is =
       let grown : nat_lt size_limit size ≡ true = lt-ltb size_limit size h in
       let hand = compaction_hand r (kind_compaction r kind) in
       let cut = turn_calls leads start d e ls nodes out (house e ls nodes out) call.Compact r (λ x. compacted x next) None refl hand led kind for (carries_cut Fits (Does leads start) (compacted r next) (house e ls nodes out)) in
@@ -80,10 +80,10 @@ module _ {K : Type 0} (leads : Leads K) (start : Option ℕ) where
       let other : is_first_slot s.slot ≡ false = subst (λ n. is_first_slot n ≡ false) at h in
       subst (λ (t : Bool). Comes Fits (Does leads start) (if t then calls call.Size (λ r. sized r next) else next) next a a) (sym other) (comes_none Fits (Does leads start) next a)
 
-  pub first_slot : (s : Standing) (next : NextPlan) (slot size : ℕ) (d e : K) (ls : List (Seat K)) (nodes : List Seen) (out : SinkSeen) (c : House K) (r : DeskReply) (result : Result (Unit {0}) AllocError) → slot ≡ s.slot → is_first_slot slot ≡ true
-      → leads d ((call.Size, r) ∷ []) e → IsKind call.Size r → IsGrantFor call.Size r → r ≡ reply.Size size → ShortenedOn leads start (sized (reply.Size size) next) next (house e ls nodes out) c result
+  pub first_slot : (s : Standing) (next : NextPlan) (slot size weight : ℕ) (d e : K) (ls : List (Seat K)) (nodes : List Seen) (out : SinkSeen) (c : House K) (r : DeskReply) (result : Result (Unit {0}) AllocError) → slot ≡ s.slot → is_first_slot slot ≡ true
+      → leads d ((call.Size, r) ∷ []) e → IsKind call.Size r → IsGrantFor call.Size r → r ≡ reply.Size size weight → ShortenedOn leads start (sized (reply.Size size weight) next) next (house e ls nodes out) c result
       → ShortenedOn leads start (shortens s next) next (house d ls nodes out) c result
-  first_slot s next slot size d e ls nodes out c r result at h led kind for is rest =
+  first_slot s next slot size weight d e ls nodes out c r result at h led kind for is rest =
       let first : is_first_slot s.slot ≡ true = subst (λ n. is_first_slot n ≡ true) at h in
       let on = turn_comes leads start d e ls nodes out call.Size r (λ x. sized x next) refl (size_hand r kind) led kind for in
       let then_on = subst (λ (x : DeskReply). ShortenedOn leads start (sized x next) next (house e ls nodes out) c result) (sym is) rest in

@@ -63,7 +63,7 @@ compacted_turn p h reply.OutOfMemory = stop_always (Why Standing)
 compacted_turn p h r = h
 
 sized_turn : (p : NextPlan) → IsTurn p → (r : DeskReply) → IsTurn (sized r p)
-sized_turn p h (reply.Size size) =
+sized_turn p h (reply.Size size weight) =
     if_always (Why Standing) (nat_lt size_limit size) (calls call.Compact (λ r. compacted r p)) p (calls_always (Why Standing) call.Compact (λ r. compacted r p) (compacted_turn p h)) h
 sized_turn p h r = stop_always (Why Standing)
 

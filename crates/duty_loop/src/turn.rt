@@ -175,17 +175,17 @@ fn compact_grown<K: DeskCalls>(slot: u64, desk: &mut K) -> Result<(), AllocError
         return Ok(());
     }
     match desk.call(DeskCall::Size) {
-        DeskReply::Size(size) => compact_above(size, desk),
+        DeskReply::Size { size, weight } => compact_above(size, weight, desk),
         _ => unreachable!(),
     }
 }
 
 /// Has a journal of so many bytes compacted, if that is more than the limit. Whatever the desk replies, the turn goes
 /// on, but for want of memory.
-fn compact_above<K: DeskCalls>(size: u64, desk: &mut K) -> Result<(), AllocError>
+fn compact_above<K: DeskCalls>(size: u64, _weight: u64, desk: &mut K) -> Result<(), AllocError>
     requires ready { K.ready desk.old }
     ensures ready { K.ready desk.new }
-    ensures shortened { (start : Option ℕ) (lanes : List (Seat K)) (nodes : List Seen) (out : SinkSeen) (next : NextPlan) → ShortenedOn K.leads start (sized (reply.Size size) next) next
+    ensures shortened { (start : Option ℕ) (lanes : List (Seat K)) (nodes : List Seen) (out : SinkSeen) (next : NextPlan) → ShortenedOn K.leads start (sized (reply.Size size _weight) next) next
         (house desk.old lanes nodes out) (house desk.new lanes nodes out) result }
 {
     if size <= SIZE_LIMIT {

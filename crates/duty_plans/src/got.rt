@@ -46,7 +46,7 @@ pub fn grant_in(reply: DeskReply) -> Got<Grant>
         DeskReply::Merged { keys: _ } | DeskReply::Active | DeskReply::Already => Got::Nothing,
         DeskReply::Noted | DeskReply::Settled | DeskReply::CloseBegun => Got::Nothing,
         DeskReply::AlreadyClosing | DeskReply::HasFailed(_) => Got::Nothing,
-        DeskReply::Size(_) | DeskReply::LastGeneration => Got::Nothing,
+        DeskReply::Size { size: _, weight: _ } | DeskReply::LastGeneration => Got::Nothing,
         DeskReply::Compacted {
             before: _,
             after: _,

@@ -191,7 +191,7 @@ module _ (setup : DutySetup) (slot : ℕ) where
   compacted_tells r p h = h
 
   sized_tells : (r : DeskReply) (p : NextPlan) → Tells setup slot p → Tells setup slot (sized r p)
-  sized_tells (reply.Size size) p h = if_tells (nat_lt size_limit size) (calls call.Compact (λ r. compacted r p)) p
+  sized_tells (reply.Size size weight) p h = if_tells (nat_lt size_limit size) (calls call.Compact (λ r. compacted r p)) p
       (ask_tells (Own (Calls call.Compact)) (λ r. compacted (own_reply r) p) (λ r. compacted_tells (own_reply r) p h)) h
   sized_tells r p h = stop_tells
 

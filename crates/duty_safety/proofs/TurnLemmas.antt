@@ -66,7 +66,7 @@ compacted_keeps W first reply.OutOfMemory p q h = keeps_stop W (From first)
 compacted_keeps W first r p q h = h
 
 sized_keeps : (W : Wait) (first : ℕ) (r : DeskReply) (p q : NextPlan) → Keeps W (From first) p q → Keeps W (From first) (sized r p) (sized r q)
-sized_keeps W first (reply.Size size) p q h =
+sized_keeps W first (reply.Size size weight) p q h =
     keeps_if W (From first) (nat_lt size_limit size) (calls call.Compact (λ r. compacted r p)) p (calls call.Compact (λ r. compacted r q)) q
     (keeps_ask W (From first) (Own (Calls call.Compact)) (λ r. compacted (own_reply r) p) (λ r. compacted (own_reply r) q) (λ r w. compacted_keeps W first (own_reply r) p q h)) h
 sized_keeps W first r p q h = keeps_stop W (From first)

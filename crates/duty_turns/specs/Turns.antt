@@ -305,7 +305,7 @@ compacted reply.OutOfMemory next = Stop
 compacted r next = next
 
 abbrev pub sized : {X : Type 0} → DeskReply → TurnPlan X → TurnPlan X
-sized (reply.Size size) next = if nat_lt size_limit size then calls call.Compact (λ r. compacted r next) else next
+sized (reply.Size size weight) next = if nat_lt size_limit size then calls call.Compact (λ r. compacted r next) else next
 sized r next = Stop
 
 abbrev pub shortens : {X : Type 0} → Standing → TurnPlan X → TurnPlan X

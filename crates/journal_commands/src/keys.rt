@@ -39,7 +39,7 @@ pub fn run_show<D: Disk, O: Sink>(
 ) -> (Status, Disks<D>, Events)
     requires { IsShow plan.now }
     ensures ends { (genesis : Root) (journal : List ℕ) → plan.now ≡ Plan.Show genesis journal → ShowEnds D.shows D.moment D.leaves D.faults genesis disks result.1
-        (output_of O.held O.faults out.old) (output_of O.held O.faults out.new) result.2 result.0 }
+        (output_of O.held O.faults out.old) (output_of O.held O.faults out.new) result.2.items result.0 }
     ensures read_fault { result.0 ≢ Status.ReadFault }
     ensures write_fault { result.0 ≡ Status.WriteFault → Rose (O.faults out.old) (O.faults out.new) }
     ensures disk_fault { result.0 ≡ Status.DiskFault → EitherRose D.faults disks result.1 }
@@ -52,7 +52,7 @@ pub fn run_show<D: Disk, O: Sink>(
         Ok(desk) => desk,
         Err((fault, disks)) => {
             let status = close_unopened(alloc, out, fault);
-            return (status, disks, Events::new(alloc));
+            return (status, disks, Events::new());
         }
     };
     let status = show_desk(alloc, &mut desk, out);
@@ -91,7 +91,8 @@ fn show_desk<D: Disk, O: Sink>(alloc: Global, desk: &mut Desk<D>, out: &mut O) -
         DeskReply::Closed(_) => unreachable!(),
         DeskReply::Exported(_) => unreachable!(),
         DeskReply::Pruned(_) => unreachable!(),
-        DeskReply::HasFailed(_) | DeskReply::NotClosing(_) | DeskReply::Size(_) => unreachable!(),
+        DeskReply::HasFailed(_) | DeskReply::NotClosing(_) => unreachable!(),
+        DeskReply::Size { size: _, weight: _ } => unreachable!(),
         DeskReply::Refused(_) => unreachable!(),
     };
     match show_keys(alloc, desk, listed.as_slice(), out) {

@@ -42,7 +42,7 @@ pub fn run_merge<D: Disk, I: Source, O: Sink>(
 ) -> (Status, Disks<D>, Events)
     requires { IsMerge plan.now }
     ensures ends { (genesis : Root) (journal : List ℕ) → plan.now ≡ Plan.Merge genesis journal → MergeEnds D.shows D.moment D.leaves D.faults genesis disks result.1
-        (view_of I.left I.faults O.held O.faults input.old out.old) (view_of I.left I.faults O.held O.faults input.new out.new) result.2 result.0 }
+        (view_of I.left I.faults O.held O.faults input.old out.old) (view_of I.left I.faults O.held O.faults input.new out.new) result.2.items result.0 }
     ensures read_fault { result.0 ≡ Status.ReadFault → Rose (I.faults input.old) (I.faults input.new) }
     ensures write_fault { result.0 ≡ Status.WriteFault → Rose (O.faults out.old) (O.faults out.new) }
     ensures disk_fault { result.0 ≡ Status.DiskFault → EitherRose D.faults disks result.1 }
@@ -57,7 +57,7 @@ pub fn run_merge<D: Disk, I: Source, O: Sink>(
         Ok(desk) => desk,
         Err((fault, disks)) => {
             let status = close_unopened(alloc, out, fault);
-            return (status, disks, Events::new(alloc));
+            return (status, disks, Events::new());
         }
     };
     let status = merge_input(alloc, &mut desk, input, out);
@@ -150,7 +150,8 @@ fn merge_file<D: Disk, O: Sink>(
         DeskReply::Exported(_) => unreachable!(),
         DeskReply::Pruned(_) => unreachable!(),
         DeskReply::Keys(_) => unreachable!(),
-        DeskReply::HasFailed(_) | DeskReply::NotClosing(_) | DeskReply::Size(_) => unreachable!(),
+        DeskReply::HasFailed(_) | DeskReply::NotClosing(_) => unreachable!(),
+        DeskReply::Size { size: _, weight: _ } => unreachable!(),
         DeskReply::Refused(_) => unreachable!(),
     }
 }

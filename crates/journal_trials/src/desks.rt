@@ -6,12 +6,13 @@ ghost use Rattle.desk_machine.specs.declared.call.DeskReply.{DeskReply};
 ghost use Rattle.journal_trials.specs.Replies.{IsHeld};
 
 use crate::calls::{call_of, outcome_of};
-use crate::replies::{push_events, push_reply};
+use crate::replies::push_reply;
 use crate::words::{found, moment_of, root_of, value_of};
 use check_sign::{Desk, DeskCall, DeskCalls, DeskReply, Grant, Outcome};
-use edge_kit::{Disks, MemDisk};
+use edge_kit::{Disks, MemDisk, Root};
 use std::alloc::{AllocError, Global};
 use std::io;
+use test_texts::kept_words;
 
 /// The call that words name, and what becomes of the grant that it gives.
 fn called(alloc: Global, words: &str) -> io::Result<(DeskCall, Outcome)>
@@ -186,23 +187,22 @@ fn push_calls(
     Ok(())
 }
 
-/// Puts what a desk says of itself to a text, and what it did, where that is asked for.
-fn push_desk(
+/// Puts what a desk over such disks says of each key to a text, a line a key.
+pub fn push_kept(
     alloc: Global,
-    options: &str,
-    desk: &Desk<MemDisk>,
+    disks: &Disks<MemDisk>,
+    root: Root,
     text: &mut String,
 ) -> Result<(), AllocError> {
-    let (size, failed, events) = (desk.size(), desk.failed(), desk.events());
-    let count = events.len();
-    writeln!(text, "size {size}, failed {failed}, events {count}")?;
-    if value_of(options, "events").is_some() {
-        push_events(alloc, text, events)?;
+    let kept = kept_words(alloc, disks, root)?;
+    for line in kept.as_str().lines() {
+        writeln!(text, "kept {line}")?;
     }
     Ok(())
 }
 
-/// Opens a desk over disks and makes calls of it, and gives the disks as it leaves them.
+/// Opens a desk over disks and makes calls of it, puts what it says of itself and what the disks keep to a text, and gives the
+/// disks as it leaves them.
 pub fn play(
     alloc: Global,
     options: &str,
@@ -216,8 +216,10 @@ pub fn play(
     match Desk::open(alloc, disks, root, is_watched, now) {
         Ok(mut desk) => {
             push_calls(alloc, &mut desk, calls, text)?;
-            push_desk(alloc, options, &desk, text)?;
+            let (size, failed) = (desk.size(), desk.failed());
+            writeln!(text, "size {size}, failed {failed}")?;
             let (disks, _events) = desk.end();
+            push_kept(alloc, &disks, root, text)?;
             Ok(disks)
         }
         Err((fault, disks)) => {

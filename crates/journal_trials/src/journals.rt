@@ -4,7 +4,8 @@ ghost use Rattle.std.specs.List.{AllByRecursion};
 ghost use Rattle.journal_frames.specs.Frames.{IsPayload};
 
 use crate::words::{bytes_of, bytes_text, found, root_of, unread, value_of};
-use edge_kit::{Disks, MemDisk};
+use edge_kit::{Disks, MemDisk, Root};
+use journal_frames::Reader;
 use record_codec::check_batch;
 use record_journal::{Journal, OpenFault};
 use std::alloc::{AllocError, Global};
@@ -67,22 +68,41 @@ fn compact(
     Ok(told?)
 }
 
-/// Puts what a journal has to a text.
-fn push_journal(
-    alloc: Global,
-    text: &mut String,
-    journal: &Journal<MemDisk>,
-) -> Result<(), AllocError> {
-    let (size, failed) = (journal.size(), journal.failed());
-    writeln!(text, "size {size}, failed {failed}")?;
-    for payload in journal.payloads() {
+/// A disk that holds the same and never fails.
+fn disk_like(alloc: Global, disk: &MemDisk) -> Result<MemDisk, AllocError> {
+    let bytes = disk.bytes().to_vec(alloc)?;
+    MemDisk::new(alloc, bytes, Vec::new(alloc), None)
+}
+
+/// Puts the payloads that a reader lends to a text.
+fn push_lent(alloc: Global, text: &mut String, reader: &mut Reader) -> Result<(), AllocError> {
+    while let Some(payload) = reader.first() {
         let payload = bytes_text(alloc, payload)?;
         writeln!(text, "payload {}", payload.as_str())?;
+        reader.skip();
     }
     Ok(())
 }
 
-/// Makes calls of a journal, and puts what they answer and what it has then to a text.
+/// Puts the payloads to a text that a journal over such disks is opened with.
+fn push_payloads(
+    alloc: Global,
+    text: &mut String,
+    disks: &Disks<MemDisk>,
+    root: Root,
+) -> Result<(), AllocError> {
+    let first = disk_like(alloc, &disks.first)?;
+    let second = disk_like(alloc, &disks.second)?;
+    match Journal::open(alloc, Disks { first, second }, root) {
+        Ok((_journal, mut reader)) => push_lent(alloc, text, &mut reader),
+        Err((fault, _disks)) => {
+            let fault = fault_text(alloc, &fault)?;
+            writeln!(text, "then {}", fault.as_str())
+        }
+    }
+}
+
+/// Makes calls of a journal, and puts what they answer and its size then to a text.
 fn play_opened(
     alloc: Global,
     journal: &mut Journal<MemDisk>,
@@ -97,7 +117,8 @@ fn play_opened(
             None => {}
         }
     }
-    Ok(push_journal(alloc, text, journal)?)
+    let (size, failed) = (journal.size(), journal.failed());
+    Ok(writeln!(text, "size {size}, failed {failed}")?)
 }
 
 /// Why a journal is not opened.
@@ -114,7 +135,8 @@ fn fault_text(alloc: Global, fault: &OpenFault) -> Result<String, AllocError> {
     )
 }
 
-/// Opens a journal over disks and makes calls of it, and gives the disks as it leaves them.
+/// Opens a journal over disks, makes calls of it, puts the payloads that are on the disks then to a text, and gives the disks
+/// as it leaves them.
 pub fn play(
     alloc: Global,
     options: &str,
@@ -124,9 +146,11 @@ pub fn play(
 ) -> io::Result<Disks<MemDisk>> {
     let root = found(root_of(value_of(options, "genesis").unwrap_or("00")))?;
     match Journal::open(alloc, disks, root) {
-        Ok(mut journal) => {
+        Ok((mut journal, _reader)) => {
             play_opened(alloc, &mut journal, calls, text)?;
-            Ok(journal.end())
+            let disks = journal.end();
+            push_payloads(alloc, text, &disks, root)?;
+            Ok(disks)
         }
         Err((fault, disks)) => {
             let fault = fault_text(alloc, &fault)?;

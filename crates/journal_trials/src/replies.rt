@@ -1,9 +1,9 @@
-//! Replies and events of a desk, in words.
+//! Replies of a desk, in words.
 ghost use Rattle.journal_trials.specs.Replies.{IsNoGrant};
 
 use crate::entries::{entry_of, entry_text, push_book};
 use crate::words::bytes_text;
-use check_sign::{DeskEvent, DeskReply, Event, KeyStanding};
+use check_sign::{DeskReply, KeyStanding};
 use edge_kit::PubKey;
 use protect_record::Verdict;
 use slash_defs::Entry;
@@ -91,59 +91,11 @@ pub fn push_reply(alloc: Global, text: &mut String, reply: DeskReply) -> Result<
         | DeskReply::Exported(_)
         | DeskReply::Pruned(_)
         | DeskReply::HasFailed(_)
-        | DeskReply::Size(_)
+        | DeskReply::Size { size: _, weight: _ }
         | DeskReply::NotClosing(_)
         | DeskReply::Live { epoch: _ }
         | DeskReply::GenesisDiffers { kept: _, given: _ }
         | DeskReply::TooManyKeys { have: _, new: _ }
         | DeskReply::Full { size: _, wanted: _ } => text.push_str(words),
     }
-}
-
-/// Puts an event to a text.
-fn push_event(alloc: Global, text: &mut String, event: &Event) -> Result<(), AllocError> {
-    match event {
-        Event::Activated { key } => push_key(alloc, text, "activated", key),
-        Event::CloseBegun { key } => push_key(alloc, text, "close begun", key),
-        Event::Granted {
-            key,
-            message,
-            grant,
-        } => {
-            push_key(alloc, text, "granted", key)?;
-            let entry = entry_text(alloc, &entry_of(message))?;
-            write!(text, " {} by {}", entry.as_str(), *grant)
-        }
-        Event::Allowed { key, grant } => {
-            push_key(alloc, text, "allowed", key)?;
-            write!(text, " by {}", *grant)
-        }
-        Event::Told { key, epoch, live } => {
-            push_key(alloc, text, "told", key)?;
-            write!(text, " in {} live {}", *epoch, *live)
-        }
-        Event::Closed { key, book } => {
-            push_key(alloc, text, "closed", key)?;
-            push_book(alloc, text, book)
-        }
-        Event::Settled { grant, outcome } => write!(text, "settled {} {outcome:?}", *grant),
-        Event::Compacted { before, after } => {
-            write!(text, "compacted from {} to {}", *before, *after)
-        }
-        Event::Merged { .. } | Event::Pruned { .. } => text.push_str("another event"),
-    }
-}
-
-/// Puts events to a text, each with its moment first.
-pub fn push_events(
-    alloc: Global,
-    text: &mut String,
-    events: &[DeskEvent],
-) -> Result<(), AllocError> {
-    for did in events {
-        write!(text, "{} ", did.moment)?;
-        push_event(alloc, text, &did.event)?;
-        text.push('\n')?;
-    }
-    Ok(())
 }

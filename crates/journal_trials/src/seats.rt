@@ -6,9 +6,8 @@ ghost use Rattle.desk_machine.specs.declared.call.DeskCall.{DeskCall};
 ghost use Rattle.desk_machine.specs.declared.call.DeskReply.{DeskReply};
 ghost use Rattle.desk_seat.specs.Seats.{IsDeskPass};
 
-use crate::desks::push_call;
+use crate::desks::{push_call, push_kept};
 use crate::phases::empty_disks;
-use crate::replies::push_events;
 use crate::words::{found, unread};
 use check_sign::{Desk, DeskCalls};
 use desk_lock::{Owner, Pass, Shared};
@@ -122,7 +121,7 @@ fn push_both<D: Disk + Drop, W: Wait>(
     Ok((one, other))
 }
 
-/// What calls answer that are made over two seats, and what the desk did.
+/// What calls answer that are made over two seats, and what the disks keep then.
 pub fn play<W: Wait>(rt: &W, alloc: Global, words: &str) -> io::Result<String> {
     let calls = found(words.split_once('|'))?;
     let mut text = String::new(alloc);
@@ -130,6 +129,7 @@ pub fn play<W: Wait>(rt: &W, alloc: Global, words: &str) -> io::Result<String> {
     let passes = (owner.pass().unwrap(), owner.pass().unwrap());
     let (one, other) = push_both(rt, alloc, &owner.shared, passes, calls, &mut text)?;
     let desk = back(alloc, owner, one, other)?;
-    push_events(alloc, &mut text, desk.events())?;
+    let (disks, _events) = desk.end();
+    push_kept(alloc, &disks, Root([0; 32]), &mut text)?;
     Ok(text)
 }

@@ -84,7 +84,7 @@ fn read(reply: DeskReply) -> Replied
         DeskReply::Granted(_grant) => unreachable!(),
         DeskReply::Pruned(_book) => Replied::Nothing,
         DeskReply::Noted | DeskReply::Settled | DeskReply::HasFailed(_) => Replied::Nothing,
-        DeskReply::Size(_) | DeskReply::LastGeneration => Replied::Nothing,
+        DeskReply::Size { size: _, weight: _ } | DeskReply::LastGeneration => Replied::Nothing,
         DeskReply::Compacted {
             before: _,
             after: _,

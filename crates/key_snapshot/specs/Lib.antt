@@ -2,3 +2,4 @@ pub mod Cuts
 pub mod Snapshots
 pub mod Taking
 pub mod Restoring
+pub mod Weights

@@ -1,5 +1,5 @@
 //! What the batches of a snapshot are to a journal, and what their replay brings back.
-ghost use Rattle.std.specs.Prelude.{◌≡◌, ℕ, ◌<◌, ◌++◌, List, [], ◌∷◌, None};
+ghost use Rattle.std.specs.Prelude.{◌≡◌, ℕ, ◌<◌, ◌≤◌, ◌++◌, List, [], ◌∷◌, None, flat_map, sum_by};
 ghost use Rattle.std.specs.List.{AllByRecursion};
 ghost use Rattle.edge_kit.specs.declared.bytes.PubKey.{PubKey};
 ghost use Rattle.protect_record.specs.Gathering.{IsWellKept, SameEntries};
@@ -15,6 +15,7 @@ ghost use Rattle.record_replay.specs.declared.state.KeyState.{KeyState};
 ghost use Rattle.key_snapshot.specs.Cuts.{cut, AreFilled};
 ghost use Rattle.key_snapshot.specs.Restoring.{AreRead, with_held};
 ghost use Rattle.key_snapshot.specs.Snapshots.{items_of, snapshot_of};
+ghost use Rattle.key_snapshot.specs.Weights.{IsSized, framed_size, key_weight};
 
 use record_replay::KeyState;
 
@@ -40,4 +41,10 @@ pub fn restoring_law()
     ensures stands { (items : List JournalItem) (keys : List (PubKey × Past)) (states : List (PubKey × KeyState)) (key : PubKey) (state : KeyState) (parts : Parts) (past : Past)
         → ItemsStand items keys states → kept_of keys key ≡ None → Stands parts past
         → ItemsStand (items ++ items_of (snapshot_of key state parts)) (with_key keys key past) (with_held states key state) }
+{}
+
+/// The snapshots of keys take no more bytes in a file than the keys' records weigh, whatever the states of the keys.
+pub fn weighing_law()
+    ensures { (state_of : PubKey → KeyState) (keys : List (PubKey × Parts)) → AllByRecursion (λ kept. IsSized kept.0 kept.1) keys
+        → framed_size (flat_map (λ kept. snapshot_of kept.0 (state_of kept.0) kept.1) keys) ≤ sum_by (λ kept. key_weight kept.1) keys }
 {}

@@ -5,5 +5,5 @@ mod entries;
 mod laws;
 mod snapshot;
 
-pub use laws::{batches_law, restoring_law};
+pub use laws::{batches_law, restoring_law, weighing_law};
 pub use snapshot::snapshot_batches;

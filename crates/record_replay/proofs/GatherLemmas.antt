@@ -1,7 +1,7 @@
 -- What is gathered where one more item comes.
-use Rattle.std.proofs.Common.{◌≡◌, ℕ, ◌+◌, ◌<◌, Bool, true, false, List, [], ◌∷◌, ◌++◌, length, get_or, map, take, fold, Some, Result, refl, sym, ◌∙◌, ap, subst}
+use Rattle.std.proofs.Common.{◌≡◌, ℕ, ◌+◌, ◌<◌, Bool, true, false, List, [], ◌∷◌, ◌++◌, length, get_or, map, take, drop, fold, Some, None, Result, refl, sym, ◌∙◌, ap, subst}
 use Rattle.std.specs.Prelude.{IsSome, OnOk}
-use Rattle.std.specs.List.{flat_map}
+use Rattle.std.specs.List.{slice_get}
 use Rattle.std.specs.List.Sorted.{IsStrictlySortedBy}
 use Rattle.std.specs.Ordering.{match_ordering}
 use Rattle.std.specs.declared.cmp.Ordering.{Ordering}
@@ -12,6 +12,7 @@ use Rattle.std.specs.Map.{keys_of}
 use Rattle.std.proofs.lemmas.List.{append-nil, append_assoc, map-append, take_more}
 use Rattle.std.proofs.lemmas.List.Concat.{flat_map-append}
 use Rattle.std.proofs.lemmas.List.Sums.{fold-append}
+use Rattle.std.proofs.lemmas.Option.{none-some}
 use Rattle.std.proofs.lemmas.Result.{MatchResult-weaker}
 use Rattle.edge_kit.specs.declared.bytes.PubKey.{PubKey}
 use Rattle.protect_record.specs.declared.floors.Floors.{Floors}
@@ -120,20 +121,39 @@ gathered_next before items i d kept new states stated lt gathered is has =
     let P : List JournalItem → Type 0 = λ xs. IsGathered xs new stated in
     subst P (append_assoc before (take i items) (one ∷ []) ∙ ap (λ xs. before ++ xs) (sym (take_more items i d lt))) (gathered_more (before ++ take i items) one kept new states stated gathered is has)
 
--- so far in a list of payloads
-pub items_next : {V : Type 0} (bytes : V → List ℕ) (payloads : List V) (i : ℕ) (v : V) (payload : List ℕ) (kept : List (PubKey × Gains)) (states : List (PubKey × KeyState)) → i < length payloads → v ≡ get_or payloads i v
-    → payload ≡ bytes v → IsGathered (items_in (map bytes (take i payloads)) ++ items_or_none (batch_of payload)) kept states → IsGathered (items_in (map bytes (take (i + 1) payloads))) kept states
-items_next {V} bytes payloads i v payload kept states lt at is gathered =
-    let P : List JournalItem → Type 0 = λ xs. IsGathered xs kept states in
-    subst P (sym longer) gathered where
-      one : flat_map (λ p. items_or_none (batch_of p)) (bytes v ∷ []) ≡ items_or_none (batch_of payload)
-      one = append-nil (items_or_none (batch_of (bytes v))) ∙ ap (λ p. items_or_none (batch_of p)) (sym is)
+some_injective : {A : Type 0} (x y : A) → Some x ≡ Some y → x ≡ y
+some_injective x y h = cc
 
-      split : map bytes (take (i + 1) payloads) ≡ map bytes (take i payloads) ++ bytes v ∷ []
-      split = ap (λ xs. map bytes xs) (take_more payloads i v lt ∙ ap (λ x. take i payloads ++ x ∷ []) (sym at)) ∙ map-append bytes (take i payloads) (v ∷ [])
+-- so far in payloads that are lent one at a time
+pub record SoFar (all left : List (List ℕ)) (kept : List (PubKey × Gains)) (states : List (PubKey × KeyState)) : Type 0 where
+  pub done : List (List ℕ)
+  pub split : done ++ left ≡ all
+  pub gathered : IsGathered (items_in done) kept states
 
-      longer : items_in (map bytes (take (i + 1) payloads)) ≡ items_in (map bytes (take i payloads)) ++ items_or_none (batch_of payload)
-      longer = ap (λ xs. items_in xs) split ∙ flat_map-append (λ p. items_or_none (batch_of p)) (map bytes (take i payloads)) (bytes v ∷ []) ∙ ap (λ xs. items_in (map bytes (take i payloads)) ++ xs) one
+pub lent_begun : (all : List (List ℕ)) (kept : List (PubKey × Gains)) (states : List (PubKey × KeyState)) → IsGathered [] kept states → SoFar all all kept states
+lent_begun all kept states h = record { done = []; split = refl; gathered = h }
+
+-- the next one was taken in
+pub lent_next : (all left : List (List ℕ)) (p : List ℕ) (kept more : List (PubKey × Gains)) (states more_states : List (PubKey × KeyState)) → SoFar all left kept states → Some p ≡ slice_get left 0
+    → ((before : List JournalItem) → IsGathered before kept states → IsGathered (before ++ items_or_none (batch_of p)) more more_states) → SoFar all (drop 1 left) more more_states
+lent_next all [] p kept more states more_states so is takes = absurd (none-some p (sym is))
+lent_next all (x ∷ left) p kept more states more_states so is takes = record {
+  done = so.done ++ p ∷ [];
+  split = append_assoc so.done (p ∷ []) left ∙ ap (λ q. so.done ++ q ∷ left) (some_injective p x is) ∙ so.split;
+  gathered = subst P (sym longer) (takes (items_in so.done) so.gathered);
+} where
+  P : List JournalItem → Type 0
+  P items = IsGathered items more more_states
+
+  longer : items_in (so.done ++ p ∷ []) ≡ items_in so.done ++ items_or_none (batch_of p)
+  longer = flat_map-append (λ q. items_or_none (batch_of q)) so.done (p ∷ []) ∙ ap (λ items. items_in so.done ++ items) (append-nil (items_or_none (batch_of p)))
+
+-- none is left
+pub lent_all : (all left : List (List ℕ)) (kept : List (PubKey × Gains)) (states : List (PubKey × KeyState)) → SoFar all left kept states → None ≡ slice_get left 0 → IsGathered (items_in all) kept states
+lent_all all [] kept states so is =
+    let P : List (List ℕ) → Type 0 = λ ps. IsGathered (items_in ps) kept states in
+    subst P (sym (append-nil so.done) ∙ so.split) so.gathered
+lent_all all (x ∷ left) kept states so is = absurd (none-some x is)
 
 -- an item of a key that is kept
 pub took_known : {E : Type 0} (r : Result (Unit {0}) E) (old new : List (PubKey × Gains)) (key : PubKey) (one : JournalItem) (was after : Gains) → IsStrictlySortedBy key_cmp (keys_of old) → key ≡ key_of one

@@ -1,5 +1,5 @@
 //! The keys of a journal, as its payloads make them.
-ghost use Rattle.std.specs.Prelude.{◌≡◌, ◌≤◌, List, Some, map, length, IfOk, IfErr};
+ghost use Rattle.std.specs.Prelude.{◌≡◌, ◌≤◌, List, Some, length, IfOk, IfErr};
 ghost use Rattle.std.specs.Map.{keys_of};
 ghost use Rattle.edge_kit.specs.declared.bytes.PubKey.{PubKey};
 ghost use Rattle.protect_record.specs.Parts.{Parts};
@@ -16,6 +16,7 @@ use crate::histories::Histories;
 use crate::key_history::KeyHistory;
 use crate::state::KeyState;
 use edge_kit::PubKey;
+use journal_frames::Reader;
 use record_join::{BeginFault, Books, KEY_LIMIT};
 use std::alloc::{AllocError, Global};
 use std::collections::BTreeMap;
@@ -28,24 +29,25 @@ pub struct Replayed {
     pub states: BTreeMap<PubKey, KeyState>,
 }
 
-/// Replays payloads, in time linear in their size but for sorting. Each key that an item names is kept; its
-/// record has the greatest of each floor, and the entries that still count; a key is active or closed as the
+/// Replays the payloads that a reader lends, one at a time, in time linear in their size but for sorting. Each key that an
+/// item names is kept; its record has the greatest of each floor, and the entries that still count; a key is active or closed as the
 /// last of its items says.
 ///
 /// # Errors
 ///
 /// `TooManyKeys` exactly where more than 65,536 different keys are named, and `OutOfMemory`.
-pub fn replay(alloc: Global, payloads: &[Vec<u8>]) -> Result<Replayed, ReplayFault>
-    ensures keys { IfOk result (λ r. keys_of r.books ≡ named_keys (items_in (map (λ v. v.items) payloads.now))) }
-    ensures each { IfOk result (λ r. (key : PubKey) (parts : Parts) → kept_of r.books key ≡ Some parts → IsReplayed (items_in (map (λ v. v.items) payloads.now)) key parts) }
-    ensures states { IfOk result (λ r. r.states.entries ≡ states_in (items_in (map (λ v. v.items) payloads.now))) }
+pub fn replay(alloc: Global, reader: Reader) -> Result<Replayed, ReplayFault>
+    ensures keys { IfOk result (λ r. keys_of r.books ≡ named_keys (items_in reader)) }
+    ensures each { IfOk result (λ r. (key : PubKey) (parts : Parts) → kept_of r.books key ≡ Some parts → IsReplayed (items_in reader) key parts) }
+    ensures states { IfOk result (λ r. r.states.entries ≡ states_in (items_in reader)) }
     ensures limit { IfOk result (λ r. length r.books ≤ key_limit) }
     // The records stand for whichever pasts the items stand for.
-    ensures stands { IfOk result (λ r. (pasts : List (PubKey × Past)) (states : List (PubKey × KeyState)) → ItemsStand (items_in (map (λ v. v.items) payloads.now)) pasts states
+    ensures stands { IfOk result (λ r. (pasts : List (PubKey × Past)) (states : List (PubKey × KeyState)) → ItemsStand (items_in reader) pasts states
         → BooksStand r.books pasts × (r.states.entries ≡ lasting_states states)) }
-    ensures fault { IfErr result (IsReplayFault (items_in (map (λ v. v.items) payloads.now))) }
+    ensures fault { IfErr result (IsReplayFault (items_in reader)) }
 {
-    let Ok(histories) = gather(alloc, payloads) else {
+    let mut reader = reader;
+    let Ok(histories) = gather(alloc, &mut reader) else {
         return Err(ReplayFault::OutOfMemory);
     };
     let new = histories.keys.len();
@@ -64,13 +66,14 @@ pub fn replay(alloc: Global, payloads: &[Vec<u8>]) -> Result<Replayed, ReplayFau
     })
 }
 
-/// What the items of payloads say of each key. A payload that can't be read adds nothing.
-fn gather(alloc: Global, payloads: &[Vec<u8>]) -> Result<Histories, AllocError>
-    ensures { IfOk result (λ g. IsGathered (items_in (map (λ v. v.items) payloads.now)) g.keys.entries g.states.entries) }
+/// What the items of the payloads that are left say of each key; then none are left. A payload that cannot be read adds nothing.
+fn gather(alloc: Global, reader: &mut Reader) -> Result<Histories, AllocError>
+    ensures { IfOk result (λ g. IsGathered (items_in reader.old) g.keys.entries g.states.entries) }
 {
     let mut histories = Histories::new(alloc);
-    for payload in payloads {
-        histories.take_payload(alloc, payload.as_slice())?;
+    while let Some(payload) = reader.first() {
+        histories.take_payload(alloc, payload)?;
+        reader.skip();
     }
     Ok(histories)
 }

@@ -3,7 +3,7 @@
 //! | Subject | What comes of it |
 //! |---|---|
 //! | `payload BYTES` | how many bytes there are, what a check says, the items that are read, and the bytes that are written of them |
-//! | `replay BYTES \| BYTES ..` | what the payloads are replayed to: the records of the keys, and their states |
+//! | `replay BYTES \| BYTES ..` | what the payloads of a file are replayed to: the records of the keys, and their states |
 //! | `book KEY ENTRIES` | the items of a book |
 //! | `snapshot KEY STATE ENTRIES` | how many items each batch of a snapshot has |
 use crate::books::put_books;
@@ -11,6 +11,7 @@ use crate::entries::{book_of, entries_of};
 use crate::fixed_bytes::{key_of, pieces, put_bytes};
 use crate::items::put_items;
 use edge_kit::{PubKey, push_hex};
+use journal_frames::{Found, Reader, header_bytes, parse};
 use key_snapshot::snapshot_batches;
 use protect_record::{Floors, Record};
 use record_codec::{check_batch, decode, encode};
@@ -46,6 +47,21 @@ fn payloads(alloc: Global, text: &str) -> Option<Vec<Vec<u8>>> {
     Some(all)
 }
 
+/// The bytes of a file of these payloads: a header, a frame of each after an open gate, and a closed gate.
+fn file_bytes(alloc: Global, payloads: &[Vec<u8>]) -> Result<Vec<u8>, AllocError> {
+    let mut bytes = Vec::new(alloc);
+    bytes.push(1)?;
+    bytes.extend_from_slice(&header_bytes(alloc, &[0; 32])?)?;
+    for payload in payloads {
+        bytes.push(1)?;
+        let length = u32::try_from(payload.len()).unwrap_or(u32::MAX);
+        bytes.extend_from_slice(&length.to_le_bytes())?;
+        bytes.extend_from_slice(payload)?;
+    }
+    bytes.push(0)?;
+    Ok(bytes)
+}
+
 /// Puts what payloads are replayed to after a text.
 fn put_replayed(alloc: Global, out: &mut String, replayed: &Replayed) -> Result<(), AllocError> {
     put_books(alloc, out, &replayed.books)?;
@@ -56,13 +72,25 @@ fn put_replayed(alloc: Global, out: &mut String, replayed: &Replayed) -> Result<
     Ok(())
 }
 
-fn replays(alloc: Global, text: &str) -> Option<String> {
+/// What the payloads that a reader lends are replayed to.
+fn replay_lent(alloc: Global, reader: Reader) -> Option<String> {
     let mut out = String::new(alloc);
-    match replay(alloc, payloads(alloc, text)?.as_slice()) {
+    match replay(alloc, reader) {
         Ok(replayed) => put_replayed(alloc, &mut out, &replayed).ok()?,
         Err(fault) => write!(out, "{fault}").ok()?,
     }
     Some(out)
+}
+
+fn replays(alloc: Global, text: &str) -> Option<String> {
+    let bytes = file_bytes(alloc, payloads(alloc, text)?.as_slice()).ok()?;
+    match parse(&bytes, &[0; 32]) {
+        Found::Kept(payloads, _, _) => replay_lent(alloc, Reader::new(bytes, &payloads)),
+        Found::Damaged(offset, byte) => {
+            format!(in alloc; "damaged at {offset}, byte {byte:?}").ok()
+        }
+        _ => None,
+    }
 }
 
 fn items_of_book(alloc: Global, key: PubKey, text: &str) -> Option<String> {

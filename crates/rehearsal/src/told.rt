@@ -62,7 +62,7 @@ pub(crate) fn read(reply: DeskReply) -> Result<Told, AllocError>
         DeskReply::HasFailed(_) | DeskReply::NotClosing(_) | DeskReply::Refused(_) => {
             Ok(Told::Other)
         }
-        DeskReply::Size(_) | DeskReply::LastGeneration => Ok(Told::Other),
+        DeskReply::Size { size: _, weight: _ } | DeskReply::LastGeneration => Ok(Told::Other),
         DeskReply::Compacted {
             before: _,
             after: _,

@@ -32,7 +32,7 @@ pub struct ServeEnd<D, S, N> {
     pub status: Status,
     /// The disks that were handed in.
     pub disks: Disks<D>,
-    /// What the desk did, in order; nothing where none was opened.
+    /// What the desk did, in order, as contracts speak of it; nothing where none was opened.
     pub events: Events,
     /// What each lane worked with; nothing where none were made.
     pub lanes: Vec<LaneEnd<S, N>>,
@@ -72,7 +72,7 @@ pub fn run_serve<
     ensures ends { (options : ServeOptions) → plan.now ≡ Plan.Serve options
         → ServeEnds D.shows D.moment D.leaves D.faults (link_seen R.Conn.left R.Conn.held R.Conn.faults) (C.start clock.now) options disks result.disks
         (parts_seen S.told S.faults S.denials N.told N.faults R.coming R.finished R.faults O.held O.faults signer.old nodes.old [] door.old out.old)
-        (parts_seen S.told S.faults S.denials N.told N.faults R.coming R.finished R.faults O.held O.faults signer.new nodes.new result.lanes.items door.new out.new) result.events result.status }
+        (parts_seen S.told S.faults S.denials N.told N.faults R.coming R.finished R.faults O.held O.faults signer.new nodes.new result.lanes.items door.new out.new) result.events.items result.status }
     ensures causes { Because (Rose (O.faults out.old) (O.faults out.new)) (EitherRose D.faults disks result.disks) (Rose (R.faults door.old) (R.faults door.new)) result.status }
 {
     let Plan::Serve(options) = plan else {
@@ -84,24 +84,23 @@ pub fn run_serve<
         ),
         Err(why) => {
             let status = close_unstarted(alloc, out, &options.genesis, why);
-            unopened(alloc, status, disks, Vec::new(alloc))
+            unopened(status, disks, Vec::new(alloc))
         }
     }
 }
 
 /// No desk was opened.
 fn unopened<D, S, N>(
-    alloc: Global,
     status: Status,
     disks: Disks<D>,
     lanes: Vec<LaneEnd<S, N>>,
 ) -> ServeEnd<D, S, N>
-    ensures { (result.status ≡ status) × (result.disks ≡ disks) × (result.events ≡ []) × (result.lanes ≡ lanes) }
+    ensures { (result.status ≡ status) × (result.disks ≡ disks) × (result.events.items ≡ []) × (result.lanes ≡ lanes) }
 {
     ServeEnd {
         status,
         disks,
-        events: Events::new(alloc),
+        events: Events::new(),
         lanes,
     }
 }
@@ -129,17 +128,17 @@ fn serve_from<
 ) -> ServeEnd<D, S, N>
     ensures serves { NotEquipped disks result.disks
         (parts_seen S.told S.faults S.denials N.told N.faults R.coming R.finished R.faults O.held O.faults signer.old nodes.old [] door.old out.old)
-        (parts_seen S.told S.faults S.denials N.told N.faults R.coming R.finished R.faults O.held O.faults signer.new nodes.new result.lanes.items door.new out.new) result.events result.status
+        (parts_seen S.told S.faults S.denials N.told N.faults R.coming R.finished R.faults O.held O.faults signer.new nodes.new result.lanes.items door.new out.new) result.events.items result.status
         ⊎ Equipped D.shows D.moment D.leaves D.faults (link_seen R.Conn.left R.Conn.held R.Conn.faults) (C.start clock.now) options.now start disks result.disks
         (parts_seen S.told S.faults S.denials N.told N.faults R.coming R.finished R.faults O.held O.faults signer.old nodes.old [] door.old out.old)
-        (parts_seen S.told S.faults S.denials N.told N.faults R.coming R.finished R.faults O.held O.faults signer.new nodes.new result.lanes.items door.new out.new) result.events result.status }
+        (parts_seen S.told S.faults S.denials N.told N.faults R.coming R.finished R.faults O.held O.faults signer.new nodes.new result.lanes.items door.new out.new) result.events.items result.status }
     ensures causes { Because (Rose (O.faults out.old) (O.faults out.new)) (EitherRose D.faults disks result.disks) (Rose (R.faults door.old) (R.faults door.new)) result.status }
 {
     match make_lanes(alloc, options.lanes.get(), signer, nodes) {
         Ok(lanes) => serve_journal(
             rt, alloc, options, start, disks, lanes, signer, nodes, clock, door, out,
         ),
-        Err(AllocError) => unopened(alloc, Status::OutOfMemory, disks, Vec::new(alloc)),
+        Err(AllocError) => unopened(Status::OutOfMemory, disks, Vec::new(alloc)),
     }
 }
 
@@ -168,7 +167,7 @@ fn serve_journal<
     requires count { (1 ≤ vec_len lanes) × (vec_len lanes ≤ 64) }
     ensures serves { OverJournal D.shows D.moment D.leaves D.faults (link_seen R.Conn.left R.Conn.held R.Conn.faults) (C.start clock.now) options.now start disks result.disks
         (parts_seen S.told S.faults S.denials N.told N.faults R.coming R.finished R.faults O.held O.faults signer.old nodes.old lanes.items door.old out.old)
-        (parts_seen S.told S.faults S.denials N.told N.faults R.coming R.finished R.faults O.held O.faults signer.new nodes.new result.lanes.items door.new out.new) result.events result.status }
+        (parts_seen S.told S.faults S.denials N.told N.faults R.coming R.finished R.faults O.held O.faults signer.new nodes.new result.lanes.items door.new out.new) result.events.items result.status }
     ensures causes { Because (Rose (O.faults out.old) (O.faults out.new)) (EitherRose D.faults disks result.disks) (Rose (R.faults door.old) (R.faults door.new)) result.status }
 {
     let now = epoch_of(slot_of(start.genesis_time, clock.now()));
@@ -176,7 +175,7 @@ fn serve_journal<
         Ok(desk) => desk,
         Err((fault, disks)) => {
             let status = close_unopened(alloc, out, fault);
-            return unopened(alloc, status, disks, lanes);
+            return unopened(status, disks, lanes);
         }
     };
     span_law::<D>();

@@ -2,14 +2,14 @@
 use crate::meetings::Flags;
 use crate::runs::{Left, PlayLane, outside_of, run};
 use crate::scenes::Scene;
-use edge_kit::{Disks, MemDisk, MemLink};
+use edge_kit::{Disks, MemDisk, MemLink, Root};
 use std::alloc::{AllocError, Global};
 use std::io;
 use std::io::Print;
 use std::rt::Clock;
 use std::sync::Wait;
 use std::thread::Threads;
-use test_texts::filled;
+use test_texts::{filled, genesis_of, kept_words};
 use trial_lines::print_outcome;
 use validator_cli::Status;
 
@@ -63,9 +63,10 @@ fn run_words<T: Threads + Wait + Clock + Print + Sync>(
     let said = scene.said(alloc)?;
     let flags = Flags::new(scene.waits(alloc)?);
     let words = words_of(alloc, words)?;
+    let genesis = genesis_of(words.as_slice());
     let outside = outside_of(rt, alloc, scene, said.as_slice(), &flags)?;
     let left = run(rt, alloc, words.as_slice(), outside);
-    scene_after(rt, alloc, scene, left, flags.late_waits())
+    scene_after(rt, alloc, scene, left, genesis, flags.late_waits())
 }
 
 /// Writes what a run left, and leaves the disks to the next run.
@@ -74,11 +75,13 @@ fn scene_after<T: Print>(
     alloc: Global,
     scene: &mut Scene,
     left: Left<T>,
+    genesis: Root,
     late_waits: u64,
 ) -> io::Result<()> {
     let Left { ending, output } = left;
     show_output(rt, alloc, output.as_slice())?;
-    show_status(rt, ending.status, &ending.disks, ending.events.len())?;
+    show_status(rt, ending.status, &ending.disks)?;
+    show_kept(rt, alloc, &ending.disks, genesis)?;
     show_waits(rt, scene, late_waits)?;
     show_lanes(rt, scene, ending.lanes)?;
     show_sent(rt, alloc, ending.door.door.into_finished())?;
@@ -103,16 +106,25 @@ fn show_output<T: Print>(rt: &T, alloc: Global, output: &[u8]) -> io::Result<()>
     println!(rt; "  .. and no end of the line")
 }
 
-fn show_status<T: Print>(
-    rt: &T,
-    status: Status,
-    disks: &Disks<MemDisk>,
-    events: usize,
-) -> io::Result<()> {
+fn show_status<T: Print>(rt: &T, status: Status, disks: &Disks<MemDisk>) -> io::Result<()> {
     let is_used = disks.first.calls() > 0 || disks.second.calls() > 0;
     let disks = if is_used { "used" } else { "untouched" };
     let code = status.code();
-    println!(rt; "  {status:?}, code {code}, events {events}, disks {disks}")
+    println!(rt; "  {status:?}, code {code}, disks {disks}")
+}
+
+/// Writes what a desk over the disks of a run says of each key.
+fn show_kept<T: Print>(
+    rt: &T,
+    alloc: Global,
+    disks: &Disks<MemDisk>,
+    genesis: Root,
+) -> io::Result<()> {
+    let kept = kept_words(alloc, disks, genesis)?;
+    for line in kept.as_str().lines() {
+        println!(rt; "  kept {line}")?;
+    }
+    Ok(())
 }
 
 fn show_waits<T: Print>(rt: &T, scene: &Scene, late_waits: u64) -> io::Result<()> {

@@ -275,7 +275,7 @@ fn plain_answer(reply: DeskReply) -> Option<Answer>
         DeskReply::Busy { grants: _ } => unreachable!(),
         DeskReply::Keys(_listed) => unreachable!(),
         DeskReply::HasFailed(_) => unreachable!(),
-        DeskReply::Size(_) => unreachable!(),
+        DeskReply::Size { size: _, weight: _ } => unreachable!(),
         DeskReply::OutOfMemory => None,
     }
 }

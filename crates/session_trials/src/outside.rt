@@ -1,13 +1,12 @@
 //! What stands for the outside of a session.
-use check_sign::Events;
 use edge_clock::MemClock;
-use edge_kit::{Disks, MemDisk, MemDoor, MemSink, MemSource, PubKey};
+use edge_kit::{Disks, MemDisk, MemDoor, MemSink, MemSource, PubKey, Root};
 use node_calls::MemNode;
 use signer_link::{MemSigner, Signer};
 use std::alloc::{AllocError, Global};
 use std::sync::Wait;
 use std::thread::Threads;
-use test_texts::filled;
+use test_texts::{filled, genesis_of};
 use validator_cli::{Status, run_validator};
 
 /// The words of a session for the chain G0.
@@ -72,7 +71,8 @@ pub struct Ended<S> {
     pub output: Vec<u8>,
     pub disks: Disks<MemDisk>,
     pub signer: S,
-    pub events: Events,
+    /// The root of genesis validators that the words name.
+    pub genesis: Root,
 }
 
 /// The words of one text, with marks and with spaces between them.
@@ -111,6 +111,7 @@ pub fn run<T: Threads + Wait + Sync, S: Signer + Send + Drop>(
     faults: Faults,
 ) -> Result<Ended<S>, AllocError> {
     let words = split_words(alloc, words)?;
+    let genesis = genesis_of(words.as_slice());
     let mut streams = streams_of(alloc, input, faults)?;
     let door = MemDoor::new(alloc, Vec::new(alloc), Vec::new(alloc))?;
     let ending = run_validator(
@@ -130,7 +131,7 @@ pub fn run<T: Threads + Wait + Sync, S: Signer + Send + Drop>(
         output: streams.sink.into_bytes(),
         disks: ending.disks,
         signer: ending.signer,
-        events: ending.events,
+        genesis,
     })
 }
 

@@ -2,7 +2,7 @@
 use crate::outside::Ended;
 use crate::words::has_word;
 use std::alloc::{AllocError, Global};
-use test_texts::{filled, is_text, words_of};
+use test_texts::{filled, is_text, kept_words};
 
 /// The marks that stand for long digits and for what is around an interchange file, those first that hold others.
 const MARKS: &[&str] = &[
@@ -25,13 +25,13 @@ const MARKS: &[&str] = &[
     "<Rb>",
 ];
 
-/// What a run wrote, what the desk did, and how the run ended. After a compaction its sizes are left out where the words
+/// What a run wrote, what a desk over its disks then says of each key, and how the run ended. After a compaction its sizes are left out where the words
 /// say that the journal is compacted after each request.
 pub fn shown<S>(alloc: Global, ended: &Ended<S>, words: &str) -> Result<String, AllocError> {
     let mut text = String::new(alloc);
     push_lines(alloc, &mut text, "wrote", ended.output.as_slice(), words)?;
-    let events = words_of(alloc, ended.events.as_slice())?;
-    push_lines(alloc, &mut text, "did", events.as_bytes(), words)?;
+    let kept = kept_words(alloc, &ended.disks, ended.genesis)?;
+    push_lines(alloc, &mut text, "kept", kept.as_bytes(), words)?;
     let status = ended.status;
     let end = format!(in alloc; "ended {status:?}, status {}\n", status.code())?;
     text.push_str(end.as_str())?;

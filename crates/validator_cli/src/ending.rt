@@ -4,8 +4,9 @@ use edge_kit::Disks;
 use program_end::Status;
 use serve_run::LaneEnd;
 
-/// The status, the objects that were handed in, and what the desk did. `lanes` has the signing service and the nodes of
-/// each lane that was made, other accesses to those that were handed in; it is empty where none were made. `events` is empty where no desk was opened.
+/// The status, the objects that were handed in, and what the desk did, as contracts speak of it. `lanes` has the signing
+/// service and the nodes of each lane that was made, other accesses to those that were handed in; it is empty where none
+/// were made. `events` is empty where no desk was opened.
 #[derive(Drop)]
 pub struct Ending<D, S, N, R> {
     pub status: Status,

@@ -51,11 +51,11 @@ pub fn run_validator<
     out: &mut O,
 ) -> Ending<D, S, N, R>
     ensures ending { IsOther (asked_of (map string_bytes words.now)) → RunEnds D.shows D.moment D.leaves D.faults (asked_of (map string_bytes words.now)) disks result.disks
-        (outside_of I.left I.faults O.held O.faults S.told S.faults S.denials input.old out.old signer) (outside_of I.left I.faults O.held O.faults S.told S.faults S.denials input.new out.new result.signer) result.events result.status }
+        (outside_of I.left I.faults O.held O.faults S.told S.faults S.denials input.old out.old signer) (outside_of I.left I.faults O.held O.faults S.told S.faults S.denials input.new out.new result.signer) result.events.items result.status }
     ensures serves { (options : ServeOptions) → asked_of (map string_bytes words.now) ≡ serve options
         → ClientRuns D.shows D.moment D.leaves D.faults (link_seen R.Conn.left R.Conn.held R.Conn.faults) (C.start clock) options disks result.disks
         (parts_of S.told S.faults S.denials N.told N.faults R.coming R.finished R.faults O.held O.faults signer nodes.items [] [] door out.old)
-        (λ flags. parts_of S.told S.faults S.denials N.told N.faults R.coming R.finished R.faults O.held O.faults result.signer result.nodes.items flags result.lanes.items result.door out.new) result.events result.status }
+        (λ flags. parts_of S.told S.faults S.denials N.told N.faults R.coming R.finished R.faults O.held O.faults result.signer result.nodes.items flags result.lanes.items result.door out.new) result.events.items result.status }
     ensures usage { result.status ≡ Status.Usage → asked_of (map string_bytes words.now) ≡ nothing }
     ensures no_command { asked_of (map string_bytes words.now) ≡ nothing
         → (result.status ≡ Status.Usage) ⊎ (result.status ≡ Status.WriteFault) ⊎ (result.status ≡ Status.OutOfMemory) }
@@ -93,7 +93,7 @@ fn unbegun<D, S, N, R>(
     ensures nodes { result.nodes ≡ nodes }
     ensures door { result.door ≡ door }
     ensures lanes { result.lanes.items ≡ [] }
-    ensures events { result.events ≡ [] }
+    ensures events { result.events.items ≡ [] }
 {
     Ending {
         status: Status::OutOfMemory,
@@ -102,7 +102,7 @@ fn unbegun<D, S, N, R>(
         nodes,
         door,
         lanes: Vec::new(alloc),
-        events: Events::new(alloc),
+        events: Events::new(),
     }
 }
 
@@ -119,7 +119,7 @@ fn run_other<D: Disk, S: Signer, N, R, I: Source, O: Sink>(
 ) -> Ending<D, S, N, R>
     requires { IsOther (asked_of (map string_bytes words.now)) }
     ensures ending { RunEnds D.shows D.moment D.leaves D.faults (asked_of (map string_bytes words.now)) disks result.disks
-        (outside_of I.left I.faults O.held O.faults S.told S.faults S.denials input.old out.old signer) (outside_of I.left I.faults O.held O.faults S.told S.faults S.denials input.new out.new result.signer) result.events result.status }
+        (outside_of I.left I.faults O.held O.faults S.told S.faults S.denials input.old out.old signer) (outside_of I.left I.faults O.held O.faults S.told S.faults S.denials input.new out.new result.signer) result.events.items result.status }
     ensures causes { Causes (asked_of (map string_bytes words.now)) (I.left input.old)
         (Rose (I.faults input.old) (I.faults input.new)) (Rose (O.faults out.old) (O.faults out.new)) (EitherRose D.faults disks result.disks) result.status }
     ensures nodes { result.nodes ≡ nodes }
@@ -149,7 +149,7 @@ fn run_words<D: Disk, S: Signer, I: Source, O: Sink>(
 ) -> (Status, Disks<D>, S, Events)
     requires { IsOther (asked_of (map string_bytes words.now)) }
     ensures ending { RunEnds D.shows D.moment D.leaves D.faults (asked_of (map string_bytes words.now)) disks result.1
-        (outside_of I.left I.faults O.held O.faults S.told S.faults S.denials input.old out.old signer) (outside_of I.left I.faults O.held O.faults S.told S.faults S.denials input.new out.new result.2) result.3 result.0 }
+        (outside_of I.left I.faults O.held O.faults S.told S.faults S.denials input.old out.old signer) (outside_of I.left I.faults O.held O.faults S.told S.faults S.denials input.new out.new result.2) result.3.items result.0 }
     ensures causes { Causes (asked_of (map string_bytes words.now)) (I.left input.old)
         (Rose (I.faults input.old) (I.faults input.new)) (Rose (O.faults out.old) (O.faults out.new)) (EitherRose D.faults disks result.1) result.0 }
 {
@@ -157,9 +157,9 @@ fn run_words<D: Disk, S: Signer, I: Source, O: Sink>(
         Ok(Ok(planned)) => planned,
         Ok(Err(usage)) => {
             let status = refuse(alloc, &usage, out);
-            return (status, disks, signer, Events::new(alloc));
+            return (status, disks, signer, Events::new());
         }
-        Err(AllocError) => return (Status::OutOfMemory, disks, signer, Events::new(alloc)),
+        Err(AllocError) => return (Status::OutOfMemory, disks, signer, Events::new()),
     };
     match &planned {
         Plan::Serve(_) => unreachable!(),
@@ -174,11 +174,11 @@ fn run_words<D: Disk, S: Signer, I: Source, O: Sink>(
         }
         Plan::Rehearse { .. } => {
             let status = run_rehearse(alloc, &planned, out);
-            (status, disks, signer, Events::new(alloc))
+            (status, disks, signer, Events::new())
         }
         Plan::Shown(text) => {
             let status = finish(out, text.as_str());
-            (status, disks, signer, Events::new(alloc))
+            (status, disks, signer, Events::new())
         }
     }
 }

@@ -36,7 +36,7 @@ pub fn run_session<D: Disk, S: Signer, I: Source, O: Sink>(
     requires { IsSession plan.now }
     ensures ends { (genesis : Root) (journal : Option (List ℕ)) (fork : Fork) (signer_at : Option Service) (watch : Bool) → plan.now ≡ Plan.Session genesis journal fork signer_at watch
         → SessionEnds D.shows D.moment D.leaves D.faults (record { fork = fork; genesis = genesis }) watch disks result.1
-        (outside_of I.left I.faults O.held O.faults S.told S.faults S.denials input.old out.old signer) (outside_of I.left I.faults O.held O.faults S.told S.faults S.denials input.new out.new result.2) result.3 result.0 }
+        (outside_of I.left I.faults O.held O.faults S.told S.faults S.denials input.old out.old signer) (outside_of I.left I.faults O.held O.faults S.told S.faults S.denials input.new out.new result.2) result.3.items result.0 }
     ensures read_fault { result.0 ≡ Status.ReadFault → Rose (I.faults input.old) (I.faults input.new) }
     ensures write_fault { result.0 ≡ Status.WriteFault → Rose (O.faults out.old) (O.faults out.new) }
     ensures disk_fault { result.0 ≡ Status.DiskFault → EitherRose D.faults disks result.1 }
@@ -57,7 +57,7 @@ pub fn run_session<D: Disk, S: Signer, I: Source, O: Sink>(
         Ok(desk) => desk,
         Err((fault, disks)) => {
             let status = close_unopened(alloc, out, fault);
-            return (status, disks, signer, Events::new(alloc));
+            return (status, disks, signer, Events::new());
         }
     };
     let domains = Domains::new(*fork, *genesis);

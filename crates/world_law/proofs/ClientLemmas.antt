@@ -194,7 +194,7 @@ changes_ok state (call.Export keys) (reply.Exported file) ok h = changes_none st
 changes_ok state (call.Prune key) (reply.Pruned book) ok h = changes_proceeding state (call.Prune key) h.0.1 tt
 changes_ok state call.Keys (reply.Keys listed) ok h = changes_none state call.Keys (λ k. refl)
 changes_ok state call.HasFailed (reply.HasFailed failed) ok h = changes_none state call.HasFailed (λ k. refl)
-changes_ok state call.Size (reply.Size size) ok h = changes_none state call.Size (λ k. refl)
+changes_ok state call.Size (reply.Size size weight) ok h = changes_none state call.Size (λ k. refl)
 changes_ok state call.Compact (reply.Compacted before after) ok h = changes_proceeding state call.Compact h.0.1 tt
 changes_ok state c r ok h = absurd ok
 

@@ -1,7 +1,9 @@
-use Rattle.std.proofs.Common.{map, take}
-use Rattle.record_replay.specs.Gathering.{IsGathered}
-use Rattle.record_replay.specs.Items.{items_in}
+use Rattle.std.proofs.Common.{length}
+use Rattle.record_replay.proofs.GatherLemmas.{SoFar}
 use Rattle.record_replay.proofs.payloads.gather.Given as goal
 
 abbrev pub invariant-loop-payload : goal.invariant-loop-payload
-invariant-loop-payload l = IsGathered (items_in (map (λ v. v.items) (take l.payload-index l.payloads))) l.histories.keys.entries l.histories.states.entries
+invariant-loop-payload l = SoFar l.fn.reader l.reader l.histories.keys.entries l.histories.states.entries
+
+abbrev pub decreases-loop-payload : goal.decreases-loop-payload
+decreases-loop-payload l = length l.reader

@@ -25,7 +25,7 @@ returns-clause-serves g c =
     let result = c.serve_desk-status.result in
     let now : Parts g.row.R-Conn.Denot = parts new.signer new.nodes result.2.items new.door new.out in
     let disks = c.end-disks.result.0 in
-    let events = c.end-disks.result.1 in
+    let events = c.end-disks.result.1.items in
     let handed : Handed result.1 disks events = record { disks = c.end-disks.ensures.disks; noted = c.end-disks.ensures.events } in
     let opening = c.in-Ok.ensures.opened in
     let epoch : ℕ = c.epoch_of-now.result in
@@ -54,6 +54,6 @@ returns-clause-causes g c =
     let opening = c.in-Ok.ensures.opened in
     ⊎_elim
     (λ s. journal_because moment leaves faults c.span_law.ensures c.close_law.ensures c.among_law.ensures c.safe_law.ensures.granted c.safe_law.ensures.posted see clock c.args.options.now c.args.start c.in-Ok.desk result.1 before now result.0 s
-    g.D.Disk.shows c.epoch_of-now.result c.args.disks disks c.end-disks.result.1 opening.opened.up opening.later c.end-disks.ensures.disks)
+    g.D.Disk.shows c.epoch_of-now.result c.args.disks disks c.end-disks.result.1.items opening.opened.up opening.later c.end-disks.ensures.disks)
     (λ u. unserved_because (Rose before.out.failed now.out.failed) (EitherRose faults c.args.disks disks) (Rose before.door.faults now.door.faults) c.in-Ok.desk result.1 before now result.0 u)
     c.serve_desk-status.ensures

@@ -17,12 +17,12 @@ returns-clause-ends g c = λ genesis journal fork at watch is.
     (session.at_bench c.new-bench.result desk before.told before.signs_failed before.signs_denied c.new-bench.ensures.desk c.new-bench.ensures.told c.new-bench.ensures.faults c.new-bench.ensures.denials)
     (session.at_bench c.serve_lines-status.new.bench ended now.told now.signs_failed now.signs_denied (sym c.into_parts-desk.ensures.desk) (sym c.into_parts-desk.ensures.told) (sym c.into_parts-desk.ensures.faults) (sym c.into_parts-desk.ensures.denials))
     c.serve_lines-status.ensures.ends in
-    let handed : Handed ended c.end-disks.result.0 c.end-disks.result.1 = record { disks = c.end-disks.ensures.disks; noted = c.end-disks.ensures.events } in
-    let E : Domains → Type 0 = λ domains. SessionEnds g.D.Disk.shows g.D.Disk.moment g.D.Disk.leaves g.D.Disk.faults domains c.in-Session.watch c.args.disks c.end-disks.result.0 before now c.end-disks.result.1 c.serve_lines-status.result in
-    let W : Bool → Type 0 = λ watch. SessionEnds g.D.Disk.shows g.D.Disk.moment g.D.Disk.leaves g.D.Disk.faults (record { fork = fork; genesis = genesis }) watch c.args.disks c.end-disks.result.0 before now c.end-disks.result.1 c.serve_lines-status.result in
+    let handed : Handed ended c.end-disks.result.0 c.end-disks.result.1.items = record { disks = c.end-disks.ensures.disks; noted = c.end-disks.ensures.events } in
+    let E : Domains → Type 0 = λ domains. SessionEnds g.D.Disk.shows g.D.Disk.moment g.D.Disk.leaves g.D.Disk.faults domains c.in-Session.watch c.args.disks c.end-disks.result.0 before now c.end-disks.result.1.items c.serve_lines-status.result in
+    let W : Bool → Type 0 = λ watch. SessionEnds g.D.Disk.shows g.D.Disk.moment g.D.Disk.leaves g.D.Disk.faults (record { fork = fork; genesis = genesis }) watch c.args.disks c.end-disks.result.0 before now c.end-disks.result.1.items c.serve_lines-status.result in
     subst W (ap (session.watch_of c.in-Session.watch) (sym c.in-Session.is ∙ is))
     (subst E (ap (session.domains_of own) (sym c.in-Session.is ∙ is))
-    (session.session_ended g.D.Disk.shows g.D.Disk.moment g.D.Disk.leaves g.D.Disk.faults own before now c.serve_lines-status.result desk ended c.in-Session.watch c.args.disks c.end-disks.result.0 c.end-disks.result.1 c.in-Ok.ensures.opened handed served c.end-disks.ensures.left))
+    (session.session_ended g.D.Disk.shows g.D.Disk.moment g.D.Disk.leaves g.D.Disk.faults own before now c.serve_lines-status.result desk ended c.in-Session.watch c.args.disks c.end-disks.result.0 c.end-disks.result.1.items c.in-Ok.ensures.opened handed served c.end-disks.ensures.left))
 
 pub returns-clause-read_fault : goal.returns-clause-read_fault
 returns-clause-read_fault g c =
@@ -36,8 +36,8 @@ returns-clause-read_fault g c =
     (session.at_bench c.new-bench.result desk before.told before.signs_failed before.signs_denied c.new-bench.ensures.desk c.new-bench.ensures.told c.new-bench.ensures.faults c.new-bench.ensures.denials)
     (session.at_bench c.serve_lines-status.new.bench ended now.told now.signs_failed now.signs_denied (sym c.into_parts-desk.ensures.desk) (sym c.into_parts-desk.ensures.told) (sym c.into_parts-desk.ensures.faults) (sym c.into_parts-desk.ensures.denials))
     c.serve_lines-status.ensures.ends in
-    let handed : Handed ended c.end-disks.result.0 c.end-disks.result.1 = record { disks = c.end-disks.ensures.disks; noted = c.end-disks.ensures.events } in
-    session.session_read g.D.Disk.shows g.D.Disk.moment g.D.Disk.leaves g.D.Disk.faults own before now c.serve_lines-status.result desk ended c.in-Session.watch c.args.disks c.end-disks.result.0 c.end-disks.result.1 c.in-Ok.ensures.opened handed served
+    let handed : Handed ended c.end-disks.result.0 c.end-disks.result.1.items = record { disks = c.end-disks.ensures.disks; noted = c.end-disks.ensures.events } in
+    session.session_read g.D.Disk.shows g.D.Disk.moment g.D.Disk.leaves g.D.Disk.faults own before now c.serve_lines-status.result desk ended c.in-Session.watch c.args.disks c.end-disks.result.0 c.end-disks.result.1.items c.in-Ok.ensures.opened handed served
 
 pub returns-clause-write_fault : goal.returns-clause-write_fault
 returns-clause-write_fault g c =
@@ -51,8 +51,8 @@ returns-clause-write_fault g c =
     (session.at_bench c.new-bench.result desk before.told before.signs_failed before.signs_denied c.new-bench.ensures.desk c.new-bench.ensures.told c.new-bench.ensures.faults c.new-bench.ensures.denials)
     (session.at_bench c.serve_lines-status.new.bench ended now.told now.signs_failed now.signs_denied (sym c.into_parts-desk.ensures.desk) (sym c.into_parts-desk.ensures.told) (sym c.into_parts-desk.ensures.faults) (sym c.into_parts-desk.ensures.denials))
     c.serve_lines-status.ensures.ends in
-    let handed : Handed ended c.end-disks.result.0 c.end-disks.result.1 = record { disks = c.end-disks.ensures.disks; noted = c.end-disks.ensures.events } in
-    session.session_write g.D.Disk.shows g.D.Disk.moment g.D.Disk.leaves g.D.Disk.faults own before now c.serve_lines-status.result desk ended c.in-Session.watch c.args.disks c.end-disks.result.0 c.end-disks.result.1 c.in-Ok.ensures.opened handed served
+    let handed : Handed ended c.end-disks.result.0 c.end-disks.result.1.items = record { disks = c.end-disks.ensures.disks; noted = c.end-disks.ensures.events } in
+    session.session_write g.D.Disk.shows g.D.Disk.moment g.D.Disk.leaves g.D.Disk.faults own before now c.serve_lines-status.result desk ended c.in-Session.watch c.args.disks c.end-disks.result.0 c.end-disks.result.1.items c.in-Ok.ensures.opened handed served
 
 pub returns-clause-disk_fault : goal.returns-clause-disk_fault
 returns-clause-disk_fault g c =
@@ -66,8 +66,8 @@ returns-clause-disk_fault g c =
     (session.at_bench c.new-bench.result desk before.told before.signs_failed before.signs_denied c.new-bench.ensures.desk c.new-bench.ensures.told c.new-bench.ensures.faults c.new-bench.ensures.denials)
     (session.at_bench c.serve_lines-status.new.bench ended now.told now.signs_failed now.signs_denied (sym c.into_parts-desk.ensures.desk) (sym c.into_parts-desk.ensures.told) (sym c.into_parts-desk.ensures.faults) (sym c.into_parts-desk.ensures.denials))
     c.serve_lines-status.ensures.ends in
-    let handed : Handed ended c.end-disks.result.0 c.end-disks.result.1 = record { disks = c.end-disks.ensures.disks; noted = c.end-disks.ensures.events } in
-    session.session_disk g.D.Disk.shows g.D.Disk.moment g.D.Disk.leaves g.D.Disk.faults own before now c.serve_lines-status.result desk ended c.in-Session.watch c.args.disks c.end-disks.result.0 c.end-disks.result.1 c.in-Ok.ensures.opened handed served
+    let handed : Handed ended c.end-disks.result.0 c.end-disks.result.1.items = record { disks = c.end-disks.ensures.disks; noted = c.end-disks.ensures.events } in
+    session.session_disk g.D.Disk.shows g.D.Disk.moment g.D.Disk.leaves g.D.Disk.faults own before now c.serve_lines-status.result desk ended c.in-Session.watch c.args.disks c.end-disks.result.0 c.end-disks.result.1.items c.in-Ok.ensures.opened handed served
 
 pub returns-clause-complete : goal.returns-clause-complete
 returns-clause-complete g c =
@@ -81,5 +81,5 @@ returns-clause-complete g c =
     (session.at_bench c.new-bench.result desk before.told before.signs_failed before.signs_denied c.new-bench.ensures.desk c.new-bench.ensures.told c.new-bench.ensures.faults c.new-bench.ensures.denials)
     (session.at_bench c.serve_lines-status.new.bench ended now.told now.signs_failed now.signs_denied (sym c.into_parts-desk.ensures.desk) (sym c.into_parts-desk.ensures.told) (sym c.into_parts-desk.ensures.faults) (sym c.into_parts-desk.ensures.denials))
     c.serve_lines-status.ensures.ends in
-    let handed : Handed ended c.end-disks.result.0 c.end-disks.result.1 = record { disks = c.end-disks.ensures.disks; noted = c.end-disks.ensures.events } in
-    session.session_complete g.D.Disk.shows g.D.Disk.moment g.D.Disk.leaves g.D.Disk.faults own before now c.serve_lines-status.result desk ended c.in-Session.watch c.args.disks c.end-disks.result.0 c.end-disks.result.1 c.in-Ok.ensures.opened handed served
+    let handed : Handed ended c.end-disks.result.0 c.end-disks.result.1.items = record { disks = c.end-disks.ensures.disks; noted = c.end-disks.ensures.events } in
+    session.session_complete g.D.Disk.shows g.D.Disk.moment g.D.Disk.leaves g.D.Disk.faults own before now c.serve_lines-status.result desk ended c.in-Session.watch c.args.disks c.end-disks.result.0 c.end-disks.result.1.items c.in-Ok.ensures.opened handed served

@@ -50,19 +50,6 @@ returns-then-is_err-clause-machine g c = λ state stands.
       later _ state _ _ _ _ _ _ _ c.args.now s s.keys refl refl refl (c.reserve.ensures.stands state.watching s.watches) c.max-self-inside.ensures,
     )
 
-pub returns-then-not-make_room-clause-machine : goal.returns-then-not-make_room-clause-machine
-returns-then-not-make_room-clause-machine g c = λ state stands.
-    let s = opened c.args.self.now _ state c.self.view_is stands in (
-      (
-        up_state _ state.torn s.torn (none_if c.failed.result c.self.inside.journal.torn c.failed.ensures c.if-failed.false),
-        (
-          idle_at c.state_of.result c.self.inside.states.entries state.states c.args.key c.state_of.ensures.value s.states c.in-Known.is,
-          fits c.fits_one.result c.self.inside.books state.keys c.args.key c.fits_one.ensures (search rules) s.keys,
-        ),
-      ),
-      later _ state _ _ _ _ _ _ _ c.args.now s s.keys refl c.make_room.ensures.kept c.make_room.ensures.next (c.reserve.ensures.stands state.watching s.watches) c.max-self-inside.ensures,
-    )
-
 pub returns-in_default-clause-machine : goal.returns-in_default-clause-machine
 returns-in_default-clause-machine g c = λ state stands.
     let s = opened c.args.self.now _ state c.self.view_is stands in
@@ -74,7 +61,7 @@ returns-in_default-clause-machine g c = λ state stands.
           fits c.fits_one.result c.self.inside.books state.keys c.args.key c.fits_one.ensures (search rules) s.keys,
         ),
       ),
-      later _ state _ _ _ _ _ _ _ c.args.now s (subst B (sym c.in_default.ensures.err) s.keys) refl c.make_room.ensures.kept c.make_room.ensures.next (c.reserve.ensures.stands state.watching s.watches) c.max-self-inside.ensures,
+      later _ state _ _ _ _ _ _ _ c.args.now s (subst B (sym c.in_default.ensures.err) s.keys) refl refl refl (c.reserve.ensures.stands state.watching s.watches) c.max-self-inside.ensures,
     )
 
 pub returns-in_default-mark_active-clause-machine :
@@ -88,7 +75,7 @@ returns-in_default-mark_active-clause-machine g c = λ state stands.
           fits c.fits_one.result c.self.inside.books state.keys c.args.key c.fits_one.ensures (search rules) s.keys,
         ),
       ),
-      later _ state _ _ _ _ _ _ _ c.args.now s (c.take_back.ensures.stands c.self.inside.books state.keys c.in-Ok.ensures.fresh s.keys) c.in_default-mark_active.ensures.err c.make_room.ensures.kept c.make_room.ensures.next (c.reserve.ensures.stands state.watching s.watches) c.max-self-inside.ensures,
+      later _ state _ _ _ _ _ _ _ c.args.now s (c.take_back.ensures.stands c.self.inside.books state.keys c.in-Ok.ensures.fresh s.keys) c.in_default-mark_active.ensures.err refl refl (c.reserve.ensures.stands state.watching s.watches) c.max-self-inside.ensures,
     )
 
 pub returns-in-Err-clause-machine : goal.returns-in-Err-clause-machine
@@ -101,11 +88,11 @@ returns-in-Err-clause-machine g c = λ state stands.
       genesis = c.self.inside.genesis;
       keys = c.take_back-in-Err.new.self;
       states = c.unmark.new.states.entries;
-      grants = c.make_room.new.grants.grants;
-      next = c.make_room.new.grants.next;
+      grants = c.self.inside.grants.grants;
+      next = c.self.inside.grants.next;
       latest = c.max-self-inside.result;
       watches = c.reserve.new.self;
-      events = c.make_room.new.events.items;
+      events = c.self.inside.events.items;
       payloads = c.write_items.new.journal.payloads;
       size = c.write_items.new.journal.size;
       torn = c.write_items.new.journal.torn;
@@ -114,7 +101,7 @@ returns-in-Err-clause-machine g c = λ state stands.
     let A : DeskReply → State = λ r. after state call r in
     let P : DeskReply → Type 0 = λ r. R r × DeskStands desk (A r) in
     subst P (sym c.refusal.ensures)
-    (by_fault g.D.Disk.faults c.self.inside.journal c.write_items.new.journal items desk state call c.in-Err.fault R A c.in-Err.ensures.wrote s.payloads s.size c.self.invariant.3.size clean
+    (by_fault g.D.Disk.faults c.self.inside.journal c.write_items.new.journal items desk state call c.in-Err.fault R A c.in-Err.ensures.wrote s.payloads s.size c.self.invariant.0.size clean
     (up_state _ state.torn s.torn clean) refl refl refl (
       idle_at c.state_of.result c.self.inside.states.entries state.states c.args.key c.state_of.ensures.value s.states c.in-Known.is,
       fits c.fits_one.result c.self.inside.books state.keys c.args.key c.fits_one.ensures (search rules) s.keys,
@@ -122,21 +109,14 @@ returns-in-Err-clause-machine g c = λ state stands.
       genesis = s.genesis;
       keys = c.take_back-in-Err.ensures.stands c.self.inside.books state.keys c.in-Ok.ensures.fresh s.keys;
       states = c.unmark.ensures.same c.self.inside.states.entries c.in-Ok-mark_active.ensures.marked ∙ s.states;
-      grants = c.make_room.ensures.kept ∙ s.grants;
-      next = c.make_room.ensures.next ∙ s.next;
+      grants = s.grants;
+      next = s.next;
       latest = c.max-self-inside.ensures ∙ ap (λ m. max m c.args.now) s.latest;
       watches = c.reserve.ensures.stands state.watching s.watches;
     }))
 
 pub invariant_of-self-2 : goal.invariant_of-self-2
-invariant_of-self-2 g c =
-    let room = c.make_room.ensures.room (search rules) in (
-      omega (arith, room.0, c.note.ensures.len, c.note.ensures.no_less),
-      omega (arith, c.self.invariant.1, c.make_room.ensures.next, c.note.ensures.len, c.make_room.ensures.events_len),
-      omega (arith, c.self.invariant.2, c.mark_active.ensures.count),
-      c.write_items.ensures.holds c.self.inside.genesis c.self.invariant.3,
-      omega (arith, c.max-self-inside.ensures, c.self.invariant.4, c.requires),
-    )
+invariant_of-self-2 g c = (c.write_items.ensures.holds c.self.inside.genesis c.self.invariant.0, omega (arith, c.max-self-inside.ensures, c.self.invariant.1, c.requires))
 
 pub returns-clause-machine : goal.returns-clause-machine
 returns-clause-machine g c = λ state stands.
@@ -157,13 +137,13 @@ returns-clause-machine g c = λ state stands.
         ),
         subst H s.size wrote.0,
       ),
-      grown g.D.Disk.faults c.self.inside.journal c.write_items.new.journal items _ state _ wrote s.size c.self.invariant.3.size refl refl refl
+      grown g.D.Disk.faults c.self.inside.journal c.write_items.new.journal items _ state _ wrote s.size c.self.invariant.0.size refl refl refl
           (c.replay_laws.ensures.activated (items_in c.self.inside.journal.payloads) state.keys state.states c.args.key s.payloads.items) refl s.payloads.generation up (record {
             genesis = s.genesis;
             keys = c.in-Ok.ensures.known state.keys s.keys;
             states = c.in-Ok-mark_active.ensures.marked.now ∙ ap (λ l. with_key l c.args.key Active) s.states;
-            grants = c.make_room.ensures.kept ∙ s.grants;
-            next = c.make_room.ensures.next ∙ s.next;
+            grants = s.grants;
+            next = s.next;
             latest = moment;
             watches = watched;
           }),
@@ -177,8 +157,8 @@ take_back-requires-in-Err g c = (c.self.inside.books, c.in-Ok.ensures.fresh)
 
 pub returns-in-Err-clause-moved : goal.returns-in-Err-clause-moved
 returns-in-Err-clause-moved g c =
-    desk_moved g.D.Disk.moment g.D.Disk.leaves g.D.Disk.faults c.args.self.now c.self.inside.journal c.write_items.new.journal c.self.inside.genesis.0 c.self.invariant.3.root (ap journal_of c.self.view_is) c.write_items.ensures.moved
+    desk_moved g.D.Disk.moment g.D.Disk.leaves g.D.Disk.faults c.args.self.now c.self.inside.journal c.write_items.new.journal c.self.inside.genesis.0 c.self.invariant.0.root (ap journal_of c.self.view_is) c.write_items.ensures.moved
 
 pub returns-clause-moved : goal.returns-clause-moved
 returns-clause-moved g c =
-    desk_moved g.D.Disk.moment g.D.Disk.leaves g.D.Disk.faults c.args.self.now c.self.inside.journal c.write_items.new.journal c.self.inside.genesis.0 c.self.invariant.3.root (ap journal_of c.self.view_is) c.write_items.ensures.moved
+    desk_moved g.D.Disk.moment g.D.Disk.leaves g.D.Disk.faults c.args.self.now c.self.inside.journal c.write_items.new.journal c.self.inside.genesis.0 c.self.invariant.0.root (ap journal_of c.self.view_is) c.write_items.ensures.moved

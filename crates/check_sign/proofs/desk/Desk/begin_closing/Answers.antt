@@ -1,36 +1,14 @@
-use Rattle.std.proofs.Common.{arith, rules, refl}
+use Rattle.std.proofs.Common.{rules, refl}
 use Rattle.record_replay.specs.Items.{items_in}
 use Rattle.record_replay.specs.declared.state.KeyState.TheVariants.{Active}
 use Rattle.check_sign.proofs.MachineLemmas.{opened, none_at, some_at, is_some_of}
-use Rattle.check_sign.proofs.MarkLemmas.{idle_at, active_at, closing_at, one_active, one_fewer, begun_closing}
+use Rattle.check_sign.proofs.MarkLemmas.{idle_at, active_at, closing_at, begun_closing}
 use Rattle.check_sign.proofs.desk.Desk.begin_closing.Goals as goal
 
 pub returns-in_default-clause-machine : goal.returns-in_default-clause-machine
 returns-in_default-clause-machine g c = λ state stands.
     let s = opened c.args.self.now _ state c.self.view_is stands in
     (none_at c.self.inside.books state.keys c.args.key s.keys (search rules), stands)
-
-pub overflow_sub-self : goal.overflow_sub-self
-overflow_sub-self g c =
-    one_active c.self.inside.states.entries c.args.key c.self.inside.closable
-    (active_at c.state_of.result c.self.inside.states.entries c.self.inside.states.entries c.args.key c.state_of.ensures.value refl c.in-Active.is) c.self.invariant.2
-
-pub note-requires : goal.note-requires
-note-requires g c =
-    let one = one_active c.self.inside.states.entries c.args.key c.self.inside.closable
-    (active_at c.state_of.result c.self.inside.states.entries c.self.inside.states.entries c.args.key c.state_of.ensures.value refl c.in-Active.is) c.self.invariant.2 in
-    omega (arith, one, c.self.invariant.0)
-
-pub invariant_of-self : goal.invariant_of-self
-invariant_of-self g c =
-    let active = active_at c.state_of.result c.self.inside.states.entries c.self.inside.states.entries c.args.key c.state_of.ensures.value refl c.in-Active.is in
-    let one = one_active c.self.inside.states.entries c.args.key c.self.inside.closable active c.self.invariant.2 in (
-      omega (arith, one, c.self.invariant.0, c.note.ensures.len, c.note.ensures.no_less),
-      omega (arith, c.self.invariant.1, c.note.ensures.len),
-      one_fewer c.self.inside.states.entries c.set_state.new.states.entries c.args.key c.self.inside.closable active (c.set_state.ensures.set (is_some_of _ Active active)) c.self.invariant.2,
-      c.self.invariant.3,
-      c.self.invariant.4,
-    )
 
 pub returns-in-Active-clause-machine : goal.returns-in-Active-clause-machine
 returns-in-Active-clause-machine g c = λ state stands.

@@ -27,8 +27,8 @@ returns-in-Ok-compact-clause-machine g c = λ state stands.
       genesis = s.genesis;
       keys = s.keys;
       states = s.states;
-      grants = c.make_room.ensures.kept ∙ s.grants;
-      next = c.make_room.ensures.next ∙ s.next;
+      grants = s.grants;
+      next = s.next;
       latest = s.latest;
       watches = s.watches;
     }) (Ok (c.in-Ok-compact.before, c.in-Ok-compact.after)) c.in-Ok-compact.ensures.ends
@@ -37,7 +37,7 @@ pub returns-in-Ok-compact-clause-keeps : goal.returns-in-Ok-compact-clause-keeps
 returns-in-Ok-compact-clause-keeps g c =
     let clean = none_of c.failed.result c.self.inside.journal.torn c.failed.ensures c.if-failed.false in
     let e = c.in-Ok-compact.ensures in
-    desk_keeps g.D.Disk.moment g.D.Disk.leaves g.D.Disk.faults c.args.self.now c.self.inside.journal c.compact.new.self c.self.inside.genesis.0 c.self.invariant.3.root (ap journal_of c.self.view_is)
+    desk_keeps g.D.Disk.moment g.D.Disk.leaves g.D.Disk.faults c.args.self.now c.self.inside.journal c.compact.new.self c.self.inside.genesis.0 c.self.invariant.0.root (ap journal_of c.self.view_is)
     (compact_keeps g.D.Disk.faults c.self.inside.journal c.compact.new.self (next_payloads c.self.inside.journal.payloads (map bytes_of c.in-Ok.snapshot.items)) clean g.D.Disk.moment g.D.Disk.leaves (Ok (c.in-Ok-compact.before, c.in-Ok-compact.after)) e.ends e.any_moment e.left e.later)
 
 pub returns-in-Err-Disk-clause-machine : goal.returns-in-Err-Disk-clause-machine
@@ -49,8 +49,8 @@ returns-in-Err-Disk-clause-machine g c = λ state stands.
       genesis = s.genesis;
       keys = s.keys;
       states = s.states;
-      grants = c.make_room.ensures.kept ∙ s.grants;
-      next = c.make_room.ensures.next ∙ s.next;
+      grants = s.grants;
+      next = s.next;
       latest = s.latest;
       watches = s.watches;
     }) (Err fault.Disk) (ends_by g.D.Disk.faults c.self.inside.journal c.compact.new.self (next_payloads c.self.inside.journal.payloads (map bytes_of c.in-Ok.snapshot.items)) c.in-Err-Disk.field-0 fault.Disk c.in-Err-Disk.field-0-is c.in-Err-Disk.ensures.ends)
@@ -59,7 +59,7 @@ pub returns-in-Err-Disk-clause-keeps : goal.returns-in-Err-Disk-clause-keeps
 returns-in-Err-Disk-clause-keeps g c =
     let clean = none_of c.failed.result c.self.inside.journal.torn c.failed.ensures c.if-failed.false in
     let e = c.in-Err-Disk.ensures in
-    desk_keeps g.D.Disk.moment g.D.Disk.leaves g.D.Disk.faults c.args.self.now c.self.inside.journal c.compact.new.self c.self.inside.genesis.0 c.self.invariant.3.root (ap journal_of c.self.view_is)
+    desk_keeps g.D.Disk.moment g.D.Disk.leaves g.D.Disk.faults c.args.self.now c.self.inside.journal c.compact.new.self c.self.inside.genesis.0 c.self.invariant.0.root (ap journal_of c.self.view_is)
     (compact_keeps g.D.Disk.faults c.self.inside.journal c.compact.new.self (next_payloads c.self.inside.journal.payloads (map bytes_of c.in-Ok.snapshot.items)) clean g.D.Disk.moment g.D.Disk.leaves (Err fault.Disk) (ends_by g.D.Disk.faults c.self.inside.journal c.compact.new.self (next_payloads c.self.inside.journal.payloads (map bytes_of c.in-Ok.snapshot.items)) c.in-Err-Disk.field-0 fault.Disk c.in-Err-Disk.field-0-is e.ends) e.any_moment e.left e.later)
 
 pub returns-in-Err-Full-clause-machine : goal.returns-in-Err-Full-clause-machine
@@ -71,8 +71,8 @@ returns-in-Err-Full-clause-machine g c = λ state stands.
       genesis = s.genesis;
       keys = s.keys;
       states = s.states;
-      grants = c.make_room.ensures.kept ∙ s.grants;
-      next = c.make_room.ensures.next ∙ s.next;
+      grants = s.grants;
+      next = s.next;
       latest = s.latest;
       watches = s.watches;
     }) (Err (fault.Full c.in-Err-Full.size c.in-Err-Full.wanted)) (ends_by g.D.Disk.faults c.self.inside.journal c.compact.new.self (next_payloads c.self.inside.journal.payloads (map bytes_of c.in-Ok.snapshot.items)) c.in-Err-Full.field-0 (fault.Full c.in-Err-Full.size c.in-Err-Full.wanted) c.in-Err-Full.field-0-is c.in-Err-Full.ensures.ends)

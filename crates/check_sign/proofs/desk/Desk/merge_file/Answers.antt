@@ -30,8 +30,8 @@ returns-in-Err-TooManyKeys-clause-machine g c = λ state stands.
         genesis = s.genesis;
         keys = c.in-Err-TooManyKeys.ensures.err state.keys s.keys;
         states = s.states;
-        grants = c.make_room-has_room.ensures.kept ∙ s.grants;
-        next = c.make_room-has_room.ensures.next ∙ s.next;
+        grants = s.grants;
+        next = s.next;
         latest = s.latest;
         watches = s.watches;
       }) s.size s.payloads s.torn,
@@ -51,8 +51,8 @@ returns-in-Err-OutOfMemory-clause-machine g c = λ state stands.
         genesis = s.genesis;
         keys = c.in-Err-OutOfMemory.ensures.err state.keys s.keys;
         states = s.states;
-        grants = c.make_room-has_room.ensures.kept ∙ s.grants;
-        next = c.make_room-has_room.ensures.next ∙ s.next;
+        grants = s.grants;
+        next = s.next;
         latest = s.latest;
         watches = s.watches;
       }) s.size s.payloads s.torn,
@@ -68,29 +68,21 @@ returns-in-Err-clause-machine g c = λ state stands.
     let within = subst F c.as_slice.ensures (fits_file c.self.inside.books state.keys c.as_slice.result.now s.keys c.in-Ok.ensures.within) in
     by_reply g.D.Disk.faults c.self.inside.journal c.write_file.new.journal (file_items (canonical c.args.file).books) _ state (call.Merge c.args.file) c.refusal.result c.in-Err.fault
     (λ r. Reply state (call.Merge c.args.file) r) (λ r. after state (call.Merge c.args.file) r)
-    c.refusal.ensures c.in-Err.ensures.wrote s.payloads s.size c.self.invariant.3.size clean up refl refl refl (same ∙ s.genesis, within) refl
+    c.refusal.ensures c.in-Err.ensures.wrote s.payloads s.size c.self.invariant.0.size clean up refl refl refl (same ∙ s.genesis, within) refl
     (c.replay_laws.ensures.merged (items_in c.self.inside.journal.payloads) state.keys state.states c.args.file s.payloads.items c.requires) refl refl (λ h. h) (λ a b h. h)
     (λ h. h) (λ h. h) (λ a b h. h) refl refl (λ a b. refl)
     (record {
       genesis = s.genesis;
       keys = c.take_back.ensures.stands c.self.inside.books state.keys (c.prepared_law.ensures _ _ _ _ c.in-Ok.ensures.prepared) s.keys;
       states = s.states;
-      grants = c.make_room-has_room.ensures.kept ∙ s.grants;
-      next = c.make_room-has_room.ensures.next ∙ s.next;
+      grants = s.grants;
+      next = s.next;
       latest = s.latest;
       watches = s.watches;
     })
 
 pub invariant_of-self-2 : goal.invariant_of-self-2
-invariant_of-self-2 g c =
-    let v = c.self.invariant in
-    let room = c.make_room-has_room.ensures.room (c.in-Ok.ensures.room) in (
-      omega (arith, room.0, c.note_merge.ensures.len, c.note_merge.ensures.no_less),
-      omega (arith, v.1, c.make_room-has_room.ensures.next, c.note_merge.ensures.no_fewer, c.make_room-has_room.ensures.events_len),
-      v.2,
-      c.in_default.ensures.holds c.self.inside.genesis v.3,
-      v.4,
-    )
+invariant_of-self-2 g c = (c.in_default.ensures.holds c.self.inside.genesis c.self.invariant.0, c.self.invariant.1)
 
 pub returns-clause-machine : goal.returns-clause-machine
 returns-clause-machine g c = λ state stands.
@@ -104,14 +96,14 @@ returns-clause-machine g c = λ state stands.
     let within = subst F c.as_slice.ensures (fits_file c.self.inside.books state.keys c.as_slice.result.now s.keys c.in-Ok.ensures.within) in (
       ((up, (same ∙ s.genesis, within), sized (file_items (canonical c.args.file).books) _ _ s.size c.in_default.ensures.wrote.0), c.len-keys.ensures),
       grown g.D.Disk.faults c.self.inside.journal c.write_file.new.journal (file_items (canonical c.args.file).books) _ state _
-          c.in_default.ensures.wrote s.size c.self.invariant.3.size refl refl refl
+          c.in_default.ensures.wrote s.size c.self.invariant.0.size refl refl refl
           (c.replay_laws.ensures.merged (items_in c.self.inside.journal.payloads) state.keys state.states c.args.file s.payloads.items c.requires) refl s.payloads.generation up
           (record {
             genesis = s.genesis;
             keys = subst K (c.as_slice-2.ensures) (c.merge_prepared.ensures.stands c.self.inside.books c.in-Ok.fresh state.keys (subst R (c.as_slice.ensures ∙ sym c.as_slice-2.ensures) c.in-Ok.ensures.prepared) s.keys);
             states = s.states;
-            grants = c.make_room-has_room.ensures.kept ∙ s.grants;
-            next = c.make_room-has_room.ensures.next ∙ s.next;
+            grants = s.grants;
+            next = s.next;
             latest = s.latest;
             watches = s.watches;
           }),
@@ -122,8 +114,8 @@ take_back-requires g c = (c.self.inside.books, c.prepared_law.ensures _ _ _ _ c.
 
 pub returns-in-Err-clause-moved : goal.returns-in-Err-clause-moved
 returns-in-Err-clause-moved g c =
-    desk_moved g.D.Disk.moment g.D.Disk.leaves g.D.Disk.faults c.args.self.now c.self.inside.journal c.write_file.new.journal c.self.inside.genesis.0 c.self.invariant.3.root (ap journal_of c.self.view_is) c.write_file.ensures.moved
+    desk_moved g.D.Disk.moment g.D.Disk.leaves g.D.Disk.faults c.args.self.now c.self.inside.journal c.write_file.new.journal c.self.inside.genesis.0 c.self.invariant.0.root (ap journal_of c.self.view_is) c.write_file.ensures.moved
 
 pub returns-clause-moved : goal.returns-clause-moved
 returns-clause-moved g c =
-    desk_moved g.D.Disk.moment g.D.Disk.leaves g.D.Disk.faults c.args.self.now c.self.inside.journal c.write_file.new.journal c.self.inside.genesis.0 c.self.invariant.3.root (ap journal_of c.self.view_is) c.write_file.ensures.moved
+    desk_moved g.D.Disk.moment g.D.Disk.leaves g.D.Disk.faults c.args.self.now c.self.inside.journal c.write_file.new.journal c.self.inside.genesis.0 c.self.invariant.0.root (ap journal_of c.self.view_is) c.write_file.ensures.moved

@@ -25,14 +25,6 @@ returns-then-is_err-clause-machine g c = λ state stands.
       later_watched _ state _ _ _ _ _ c.args.now s (c.reserve.ensures.stands state.watching s.watches) refl refl c.max-self-inside.ensures,
     )
 
-pub returns-then-not-make_room-clause-machine : goal.returns-then-not-make_room-clause-machine
-returns-then-not-make_room-clause-machine g c = λ state stands.
-    let s = opened c.args.self.now _ state c.self.view_is stands in
-    let at = some_at c.self.inside.books state.keys c.args.key c.in-Some.field-0.now s.keys (search rules) in (
-      (is_some_of _ at.0 at.1, watchable c.state_of.result c.self.inside.states.entries state.states c.args.key c.state_of.ensures.value s.states c.in-Active.is),
-      later_watched _ state _ _ _ _ _ c.args.now s (c.reserve.ensures.stands state.watching s.watches) c.make_room.ensures.kept c.make_room.ensures.next c.max-self-inside.ensures,
-    )
-
 pub returns-clause-machine : goal.returns-clause-machine
 returns-clause-machine g c = λ state stands.
     let s = opened c.args.self.now _ state c.self.view_is stands in
@@ -43,8 +35,8 @@ returns-clause-machine g c = λ state stands.
         genesis = s.genesis;
         keys = s.keys;
         states = s.states;
-        grants = c.make_room.ensures.kept ∙ s.grants;
-        next = c.make_room.ensures.next ∙ s.next;
+        grants = s.grants;
+        next = s.next;
         latest = moment;
         watches = c.tell.ensures.stands state.watching (c.reserve.ensures.stands state.watching s.watches);
         size = s.size;

@@ -16,16 +16,16 @@ returns-clause-opened g c =
       next = c.new-2.result.next;
       latest = c.args.now;
       watches = c.new.result;
-      events = c.in-Ok-with_capacity.events.items;
-      payloads = c.in-Ok.journal.payloads;
-      size = c.in-Ok.journal.size;
-      torn = c.in-Ok.journal.torn;
+      events = c.new-3.result.items;
+      payloads = c.in-Ok.opened.0.payloads;
+      size = c.in-Ok.opened.0.size;
+      torn = c.in-Ok.opened.0.torn;
     } in
-    let holds : LeftPair g.D.Disk.moment g.D.Disk.leaves (disks_of c.in-Ok.journal) (MayRead (record c.in-Ok.journal { root = c.args.genesis.0 })) = λ a b left left_too. inl (c.in-Ok.ensures.left a b left left_too) in
+    let holds : LeftPair g.D.Disk.moment g.D.Disk.leaves (disks_of c.in-Ok.opened.0) (MayRead (record c.in-Ok.opened.0 { root = c.args.genesis.0 })) = λ a b left left_too. inl (c.in-Ok.ensures.left a b left left_too) in
     record {
       opened = record {
         read = c.in-Ok.ensures.read;
-        brought_back = brought_back desk _ c.payloads.ensures.payloads c.in-Ok-replay.ensures.keys c.in-Ok-replay.ensures.limit c.in-Ok-replay.ensures.each c.in-Ok-replay.ensures.states;
+        brought_back = brought_back desk _ c.in-Ok.ensures.lent c.in-Ok-replay.ensures.keys c.in-Ok-replay.ensures.limit c.in-Ok-replay.ensures.each c.in-Ok-replay.ensures.states;
         stands = opened_stands desk c.args.genesis c.args.watch c.args.now _ (record {
           genesis = refl;
           grants = c.new-2.ensures.grants;
@@ -34,19 +34,19 @@ returns-clause-opened g c =
           watches = c.new.ensures.stands;
           size = c.in-Ok.ensures.size;
           torn = c.in-Ok.ensures.whole;
-        }) c.payloads.ensures.payloads c.in-Ok-replay.ensures.stands;
+        }) c.in-Ok.ensures.lent c.in-Ok-replay.ensures.stands;
         size = c.in-Ok.ensures.size;
         genesis_is = refl;
         none_open = c.new-2.ensures.grants;
         none_given = c.new-2.ensures.next;
         latest_is = refl;
         watches_are = c.new.ensures.stands;
-        none_noted = c.in-Ok-with_capacity.ensures.items;
+        none_noted = c.new-3.ensures;
         up = c.in-Ok.ensures.whole;
       };
       writes = c.in-Ok.ensures.writes;
       moments = c.in-Ok.ensures.any_moment;
-      left = λ state stands a b left left_too. may_open (record { current = c.in-Ok.journal.current; other = c.in-Ok.journal.other; place = c.in-Ok.journal.place; contents = desk }) state stands (a, b) (holds a b left left_too);
+      left = λ state stands a b left left_too. may_open (record { current = c.in-Ok.opened.0.current; other = c.in-Ok.opened.0.other; place = c.in-Ok.opened.0.place; contents = desk }) state stands (a, b) (holds a b left left_too);
       holds = holds;
       later = c.in-Ok.ensures.later;
     }

@@ -17,13 +17,7 @@ returns-in-Err-clause-machine g c = λ state stands.
     barred_proposal _ state c.args.key c.args.message c.args.now _ held (c.in-Err.ensures.barred (record state { latest = max state.latest c.args.now }) held)
 
 pub invariant_of-self-in-Err-write_message : goal.invariant_of-self-in-Err-write_message
-invariant_of-self-in-Err-write_message g c = (
-  omega (arith, c.self.invariant.0, c.make_room-has_room.ensures.events_len, c.make_room-has_room.ensures.kept_len, c.make_room-has_room.ensures.no_less),
-  omega (arith, c.self.invariant.1, c.make_room-has_room.ensures.next, c.make_room-has_room.ensures.events_len),
-  c.self.invariant.2,
-  c.write_message.ensures.holds c.self.inside.genesis c.self.invariant.3,
-  omega (arith, c.max-self-inside.ensures, c.self.invariant.4, c.requires),
-)
+invariant_of-self-in-Err-write_message g c = (c.write_message.ensures.holds c.self.inside.genesis c.self.invariant.0, omega (arith, c.max-self-inside.ensures, c.self.invariant.1, c.requires))
 
 pub returns-in-Err-write_message-clause-machine : goal.returns-in-Err-write_message-clause-machine
 returns-in-Err-write_message-clause-machine g c = λ state stands.
@@ -32,7 +26,7 @@ returns-in-Err-write_message-clause-machine g c = λ state stands.
     let ready = c.in-Ready.ensures.judged state.keys s.keys in
     let at = past_with _ _ ready.0 in
     proposal_fault g.D.Disk.faults c.self.inside.journal c.write_message.new.journal _ state c.args.key c.args.message c.args.now at.0 c.in-Err-write_message.fault c.refusal.result at.1
-    may.1.0.1 at.2.0 may.1.1 (c.in-Err-write_message.ensures.wrote at.0 at.2.1) s.payloads s.size c.self.invariant.3.size c.in-Ok.ensures.own.up
+    may.1.0.1 at.2.0 may.1.1 (c.in-Err-write_message.ensures.wrote at.0 at.2.1) s.payloads s.size c.self.invariant.0.size c.in-Ok.ensures.own.up
     may.0 (c.replay_laws.ensures.own _ state.keys state.states c.args.key c.args.message s.payloads.items (is_some_of _ at.0 at.1)) refl refl refl (record {
       genesis = s.genesis;
       keys = ready.1;
@@ -49,15 +43,7 @@ returns-in-Err-write_message-clause-rose g c = λ disk up.
     rose_from g.D.Disk.faults c.self.inside.journal c.write_message.new.journal _ _ c.in-Err-write_message.fault (c.in-Err-write_message.ensures.wrote past.0 past.1) (sym c.refusal.ensures ∙ disk) (ap (λ d. disks_in d) c.self.view_is)
 
 pub invariant_of-self-2 : goal.invariant_of-self-2
-invariant_of-self-2 g c =
-    let has_room = (c.in-Ready.ensures.ready c.in-Ready.repeat refl).1 in
-    let room = c.make_room-has_room.ensures.room has_room in (
-      omega (arith, room.0, c.give-grant.ensures.events_len, c.give-grant.ensures.kept_len, c.give-grant.ensures.no_less),
-      omega (arith, c.self.invariant.1, c.make_room-has_room.ensures.next, c.make_room-has_room.ensures.events_len, c.give-grant.ensures.events_len, c.give-grant.ensures.next),
-      c.self.invariant.2,
-      c.write_message.ensures.holds c.self.inside.genesis c.self.invariant.3,
-      omega (arith, c.max-self-inside.ensures, c.self.invariant.4, c.requires),
-    )
+invariant_of-self-2 g c = (c.write_message.ensures.holds c.self.inside.genesis c.self.invariant.0, omega (arith, c.max-self-inside.ensures, c.self.invariant.1, c.requires))
 
 pub returns-clause-machine : goal.returns-clause-machine
 returns-clause-machine g c = λ state stands.
@@ -66,7 +52,7 @@ returns-clause-machine g c = λ state stands.
     let ready = c.in-Ready.ensures.judged state.keys s.keys in
     let at = past_with _ _ ready.0 in
     proposal_granted g.D.Disk.faults c.self.inside.journal c.write_message.new.journal _ state c.args.key c.args.message c.args.now at.0 c.give-grant.result at.1
-    may.1.0.1 at.2.0 may.1.1 (c.in_default.ensures.wrote at.0 at.2.1) s.payloads s.size c.self.invariant.3.size
+    may.1.0.1 at.2.0 may.1.1 (c.in_default.ensures.wrote at.0 at.2.1) s.payloads s.size c.self.invariant.0.size
     may.0 (c.replay_laws.ensures.own _ state.keys state.states c.args.key c.args.message s.payloads.items (is_some_of _ at.0 at.1)) refl refl refl (record {
       genesis = s.genesis;
       keys = c.add.ensures.stands state.keys ready.1;
@@ -106,8 +92,8 @@ returns-clause-own g c =
 
 pub returns-in-Err-write_message-clause-moved : goal.returns-in-Err-write_message-clause-moved
 returns-in-Err-write_message-clause-moved g c =
-    desk_moved g.D.Disk.moment g.D.Disk.leaves g.D.Disk.faults c.args.self.now c.self.inside.journal c.write_message.new.journal c.self.inside.genesis.0 c.self.invariant.3.root (ap journal_of c.self.view_is) c.write_message.ensures.moved
+    desk_moved g.D.Disk.moment g.D.Disk.leaves g.D.Disk.faults c.args.self.now c.self.inside.journal c.write_message.new.journal c.self.inside.genesis.0 c.self.invariant.0.root (ap journal_of c.self.view_is) c.write_message.ensures.moved
 
 pub returns-clause-moved : goal.returns-clause-moved
 returns-clause-moved g c =
-    desk_moved g.D.Disk.moment g.D.Disk.leaves g.D.Disk.faults c.args.self.now c.self.inside.journal c.write_message.new.journal c.self.inside.genesis.0 c.self.invariant.3.root (ap journal_of c.self.view_is) c.write_message.ensures.moved
+    desk_moved g.D.Disk.moment g.D.Disk.leaves g.D.Disk.faults c.args.self.now c.self.inside.journal c.write_message.new.journal c.self.inside.genesis.0 c.self.invariant.0.root (ap journal_of c.self.view_is) c.write_message.ensures.moved

@@ -34,13 +34,6 @@ returns-in_default-pruning_book-clause-machine g c = λ state stands.
     let at = some_at c.self.inside.books state.keys c.args.key c.in-Some.record.now s.keys (search rules) in
     ((up_state _ _ s.torn clean, is_some_of _ at.0 at.1), stands)
 
-pub returns-in_default-copy-clause-machine : goal.returns-in_default-copy-clause-machine
-returns-in_default-copy-clause-machine g c = λ state stands.
-    let s = opened c.args.self.now _ state c.self.view_is stands in
-    let clean = none_of c.failed.result c.self.inside.journal.torn c.failed.ensures c.if-failed.false in
-    let at = some_at c.self.inside.books state.keys c.args.key c.in-Some.record.now s.keys (search rules) in
-    ((up_state _ _ s.torn clean, is_some_of _ at.0 at.1), stands)
-
 pub returns-in_default-prepare-clause-machine : goal.returns-in_default-prepare-clause-machine
 returns-in_default-prepare-clause-machine g c = λ state stands.
     let s = opened c.args.self.now _ state c.self.view_is stands in
@@ -51,8 +44,8 @@ returns-in_default-prepare-clause-machine g c = λ state stands.
         genesis = s.genesis;
         keys = c.in_default-prepare.ensures.err state.keys s.keys;
         states = s.states;
-        grants = c.make_room-has_room.ensures.kept ∙ s.grants;
-        next = c.make_room-has_room.ensures.next ∙ s.next;
+        grants = s.grants;
+        next = s.next;
         latest = s.latest;
         watches = s.watches;
       }) s.size s.payloads s.torn,
@@ -60,7 +53,7 @@ returns-in_default-prepare-clause-machine g c = λ state stands.
 
 pub returns-in-Err-clause-moved : goal.returns-in-Err-clause-moved
 returns-in-Err-clause-moved g c =
-    let rooted = moved_rooted g.D.Disk.moment g.D.Disk.leaves g.D.Disk.faults c.self.inside.journal c.write_book.new.journal c.self.inside.genesis.0 c.self.invariant.3.root c.in-Err.ensures.moved in
+    let rooted = moved_rooted g.D.Disk.moment g.D.Disk.leaves g.D.Disk.faults c.self.inside.journal c.write_book.new.journal c.self.inside.genesis.0 c.self.invariant.0.root c.in-Err.ensures.moved in
     rw (← c.self.view_is) rooted
 
 pub returns-in-Err-clause-machine : goal.returns-in-Err-clause-machine
@@ -76,29 +69,21 @@ returns-in-Err-clause-machine g c = λ state stands.
     let I : List (PubKey × Past) → Type 0 = λ l. ItemsStand (items_in c.self.inside.journal.payloads ++ book_items (c.args.key, book)) l state.states in
     by_reply g.D.Disk.faults c.self.inside.journal c.write_book.new.journal (book_items (c.args.key, book)) _ state (call.Prune c.args.key) c.refusal.result c.in-Err.fault
     (λ r. Reply state (call.Prune c.args.key) r) (λ r. after state (call.Prune c.args.key) r)
-    c.refusal.ensures c.in-Err.ensures.wrote s.payloads s.size c.self.invariant.3.size clean up refl refl refl (is_some_of _ at.0 at.1) writes
+    c.refusal.ensures c.in-Err.ensures.wrote s.payloads s.size c.self.invariant.0.size clean up refl refl refl (is_some_of _ at.0 at.1) writes
     (subst I (sym keys_are) (c.replay_laws.ensures.gained (items_in c.self.inside.journal.payloads) state.keys state.states c.args.key book s.payloads.items)) (ap (λ i. state.size + frame_size i) writes) refl (λ h. h) (λ a b h. h)
     (λ h. h) (λ h. h) (λ a b h. h) refl refl (λ a b. refl)
     (record {
       genesis = s.genesis;
       keys = c.take_back.ensures.stands c.self.inside.books state.keys (c.prepared_law.ensures _ _ _ _ c.in-Ok-prepare.ensures.prepared) s.keys;
       states = s.states;
-      grants = c.make_room-has_room.ensures.kept ∙ s.grants;
-      next = c.make_room-has_room.ensures.next ∙ s.next;
+      grants = s.grants;
+      next = s.next;
       latest = s.latest;
       watches = s.watches;
     })
 
 pub invariant_of-self-2 : goal.invariant_of-self-2
-invariant_of-self-2 g c =
-    let v = c.self.invariant in
-    let room = c.make_room-has_room.ensures.room (c.in-Ok-prepare.ensures.room) in (
-      omega (arith, room.0, c.note.ensures.len, c.note.ensures.no_less),
-      omega (arith, v.1, c.make_room-has_room.ensures.next, c.note.ensures.len, c.make_room-has_room.ensures.events_len),
-      v.2,
-      c.in_default-write_book.ensures.holds c.self.inside.genesis v.3,
-      v.4,
-    )
+invariant_of-self-2 g c = (c.in_default-write_book.ensures.holds c.self.inside.genesis c.self.invariant.0, c.self.invariant.1)
 
 pub returns-clause-machine : goal.returns-clause-machine
 returns-clause-machine g c = λ state stands.
@@ -115,16 +100,16 @@ returns-clause-machine g c = λ state stands.
     let K : List (PubKey × Past) → Type 0 = λ l. BooksStand c.merge_prepared.new.self l in
     let F : List (PubKey × Book) → Type 0 = λ l. IsPrepared c.self.inside.books l c.in-Ok-prepare.fresh c.prepare.new.self in
     let L : List (PubKey × Book) → Type 0 = λ l. BooksStand c.merge_prepared.new.self (with_file state.keys l) in (
-      ((up, is_some_of _ at.0 at.1, subst H (sym writes) (sized (book_items (c.args.key, book)) _ _ s.size c.in_default-write_book.ensures.wrote.0)), some_is _ at.0 (λ past. book ≡ pruning_of past) at.1 book_is),
+      ((up, is_some_of _ at.0 at.1, subst H (sym writes) (sized (book_items (c.args.key, book)) _ _ s.size c.in_default-write_book.ensures.wrote.0)), some_is _ at.0 (λ past. c.note_pruned.result ≡ pruning_of past) at.1 (c.note_pruned.ensures.book ∙ book_is)),
       grown g.D.Disk.faults c.self.inside.journal c.write_book.new.journal (book_items (c.args.key, book)) _ state _
-          c.in_default-write_book.ensures.wrote s.size c.self.invariant.3.size refl refl refl
+          c.in_default-write_book.ensures.wrote s.size c.self.invariant.0.size refl refl refl
           (subst I (sym keys_are) (c.replay_laws.ensures.gained (items_in c.self.inside.journal.payloads) state.keys state.states c.args.key book s.payloads.items)) (ap (λ i. state.size + frame_size i) writes) s.payloads.generation up
           (record {
             genesis = s.genesis;
             keys = subst K (sym keys_are) (subst L c.from_ref-2.ensures.value (c.merge_prepared.ensures.stands c.self.inside.books c.in-Ok-prepare.fresh state.keys (subst F (c.from_ref.ensures.value ∙ sym c.from_ref-2.ensures.value) c.in-Ok-prepare.ensures.prepared) s.keys));
             states = s.states;
-            grants = c.make_room-has_room.ensures.kept ∙ s.grants;
-            next = c.make_room-has_room.ensures.next ∙ s.next;
+            grants = s.grants;
+            next = s.next;
             latest = s.latest;
             watches = s.watches;
           }),
@@ -135,4 +120,4 @@ take_back-requires g c = (c.self.inside.books, c.prepared_law.ensures _ _ _ _ c.
 
 pub returns-clause-moved : goal.returns-clause-moved
 returns-clause-moved g c =
-    desk_moved g.D.Disk.moment g.D.Disk.leaves g.D.Disk.faults c.args.self.now c.self.inside.journal c.write_book.new.journal c.self.inside.genesis.0 c.self.invariant.3.root (ap journal_of c.self.view_is) c.write_book.ensures.moved
+    desk_moved g.D.Disk.moment g.D.Disk.leaves g.D.Disk.faults c.args.self.now c.self.inside.journal c.write_book.new.journal c.self.inside.genesis.0 c.self.invariant.0.root (ap journal_of c.self.view_is) c.write_book.ensures.moved

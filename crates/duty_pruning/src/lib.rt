@@ -1,0 +1,6 @@
+//! The file that forgets what is old of what a desk keeps, but for the newest of it.
+#![tactic(auto)]
+
+mod pruning;
+
+pub use pruning::pruning_file;
