@@ -8,7 +8,7 @@ ghost use Rattle.rehearsal.specs.Rehearsals.{empty};
 ghost use Rattle.rehearsal.specs.declared.acts.Act.TheVariants as Act;
 
 use crate::acts::Act;
-use crate::client::{Client, OPENING_CALLS};
+use crate::client::Client;
 use crate::told::Voted;
 use edge_kit::{Crash, PubKey};
 use slash_defs::Message;
@@ -77,12 +77,13 @@ impl Cast {
         Ok(voted)
     }
 
-    /// Stops a client, and starts it again.
+    /// Stops a client, and starts it again, over disks of which the first stops at the call of this number, from 1 on, after the
+    /// opening, if one is given.
     fn restart(
         &mut self,
         client: usize,
         crash: Crash,
-        stop: Option<u64>,
+        disk_call: Option<u64>,
         now: u64,
     ) -> Result<(), AllocError>
         requires client { client < length self.old.clients.items }
@@ -92,7 +93,7 @@ impl Cast {
         let started = self
             .clients
             .remove(client)
-            .restart(self.alloc, crash, stop, now)?;
+            .restart(self.alloc, crash, disk_call, now)?;
         if self.clients.insert(client, started).is_err() {
             return Err(AllocError);
         }
@@ -193,8 +194,7 @@ impl Cast {
         requires disk { disk_call < 2 ^ 32 }
         ensures { IfOk result (λ holder. PlaysAt self.old self.new client key now (Act.StopWithin message disk_call crash) holder) }
     {
-        let stop = OPENING_CALLS + disk_call - 1;
-        self.restart(client, Crash::Before, Some(stop), now)?;
+        self.restart(client, Crash::Before, Some(disk_call), now)?;
         let _voted = self.vote(client, key, message, now)?;
         self.restart(client, crash, None, now)?;
         Ok(client)

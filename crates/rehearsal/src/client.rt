@@ -1,5 +1,5 @@
 //! A client of a rehearsal: a desk over disks in memory, and a signer in memory.
-ghost use Rattle.std.specs.Prelude.{◌≡◌, ◌≤◌, ◌++◌, ◌∷◌, [], ℕ, Some, Contains, IsSome, IfOk, OnOk};
+ghost use Rattle.std.specs.Prelude.{◌≡◌, ◌≤◌, ◌+◌, ◌-◌, ◌^◌, ◌++◌, ◌∷◌, [], ℕ, Some, Contains, IsSome, IfOk, OnOk, if◌then◌else◌, length, min, nat_le, option_map};
 ghost use Rattle.desk_machine.specs.Machine.{moment_limit};
 ghost use Rattle.desk_machine.specs.declared.call.Outcome.TheVariants as outcome;
 ghost use Rattle.desk_machine.specs.declared.call.DeskCall.TheVariants as call;
@@ -17,9 +17,25 @@ use signer_link::{MemSigner, SignReply, SignRequest, Signer};
 use slash_defs::{Book, File, Message};
 use std::alloc::{AllocError, Global};
 
-/// How many calls of its first disk the opening of a desk makes, where the journal is begun: it syncs, asks for the length,
-/// and reads.
-pub(crate) const OPENING_CALLS: u64 = 3;
+/// The number, from 0 on, of the last call that the opening of a desk makes of its first disk, where the journal is begun,
+/// by the bytes of the first file: it syncs, asks for the length, and reads; of a file of more than 4,096 bytes it reads
+/// the head before.
+fn last_opening_call(bytes: usize) -> u64
+    ensures { result ≡ (if nat_le bytes 4096 then 2 else 3) }
+{
+    if bytes <= 4096 { 2 } else { 3 }
+}
+
+/// The number of the call at which the first disk stops that is to stop at the call of this number, from 1 on, after the
+/// opening of a desk.
+fn stop_after(first: &[u8], disk_call: Option<u64>) -> Option<u64>
+    ensures { result ≡ option_map (λ n. min (2 ^ 64 - 1) ((if nat_le (length first.now) 4096 then 2 else 3) + n)) disk_call }
+{
+    match disk_call {
+        Some(call) => Some(last_opening_call(first.len()).saturating_add(call)),
+        None => None,
+    }
+}
 
 /// The genesis root of the one chain.
 fn genesis() -> Root
@@ -50,13 +66,13 @@ fn open(
 }
 
 /// Stops a desk: of the bytes that are not synced the crash makes what it does. Then it is opened again, at an epoch,
-/// over disks of which the first stops at a call. The error is want of memory, also where it ran out at a disk
-/// before.
+/// over disks of which the first stops at the call of this number, from 1 on, after the opening, if one is given. The
+/// error is want of memory, also where it ran out at a disk before.
 fn restart(
     alloc: Global,
     desk: Desk<MemDisk>,
     crash: Crash,
-    stop: Option<u64>,
+    disk_call: Option<u64>,
     now: u64,
 ) -> Result<Desk<MemDisk>, AllocError>
     requires { now ≤ moment_limit }
@@ -68,6 +84,7 @@ fn restart(
     }
     let first = disks.first.image(alloc, crash)?;
     let second = disks.second.image(alloc, crash)?;
+    let stop = stop_after(first.as_slice(), disk_call);
     open(alloc, first, second, stop, now)
 }
 
@@ -89,19 +106,20 @@ impl Client {
         })
     }
 
-    /// Stops the client, and starts it again.
+    /// Stops the client, and starts it again, over disks of which the first stops at the call of this number, from 1 on, after
+    /// the opening, if one is given.
     pub(crate) fn restart(
         self,
         alloc: Global,
         crash: Crash,
-        stop: Option<u64>,
+        disk_call: Option<u64>,
         now: u64,
     ) -> Result<Client, AllocError>
         requires { now ≤ moment_limit }
         ensures { IfOk result (λ new. self.desk.contents.genesis ≡ genesis → Restarts now self.desk.contents new.desk.contents) }
     {
         Ok(Client {
-            desk: restart(alloc, self.desk, crash, stop, now)?,
+            desk: restart(alloc, self.desk, crash, disk_call, now)?,
             signer: self.signer,
         })
     }

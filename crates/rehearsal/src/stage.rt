@@ -117,7 +117,7 @@ impl Stage {
         Ok(())
     }
 
-    /// What is counted after so many steps.
+    /// What is counted after that many steps.
     fn counts(&self, steps: u64) -> Counts
         requires steps { steps ≤ 20000 }
         requires stood { Stood self.now.number self.now.count steps self.now }
@@ -134,8 +134,8 @@ impl Stage {
     }
 }
 
-/// Rehearses: so many clients with two keys each vote, propose blocks, hand keys over, stop at any moment and prune, in
-/// so many steps, all drawn from one number; and what was sent is looked through for slashable pairs. Desks stand over
+/// Rehearses: that many clients with two keys each vote, propose blocks, hand keys over, stop at any moment and prune, in
+/// that many steps, all drawn from one number; and what was sent is looked through for slashable pairs. Desks stand over
 /// disks in memory, without the watch. There are none: `conflicts` is 0, since what happens is a lawful run of all
 /// clients (`world_law::handover_law`).
 ///
