@@ -10,7 +10,7 @@ use Rattle.record_replay.specs.declared.state.KeyState.TheVariants.{Active, Clos
 use Rattle.desk_machine.specs.Watches.{KeptWatches, WatchesStand}
 use Rattle.std.proofs.lemmas.List.Elements.{Contains-push}
 use Rattle.desk_machine.specs.Making.{MaySettle}
-use Rattle.desk_machine.specs.Machine.{IsBarred, MayCall, Reply, after, torn_first}
+use Rattle.desk_machine.specs.Machine.{IsBarred, IsUp, MayCall, MaySign, Reply, after, torn_first}
 use Rattle.desk_machine.specs.declared.open_grant.OpenGrant.{OpenGrant}
 use Rattle.desk_machine.specs.declared.event.DeskEvent.{DeskEvent}
 use Rattle.desk_machine.specs.declared.call.DeskCall.{DeskCall}
@@ -20,6 +20,7 @@ use Rattle.desk_machine.specs.declared.call.DeskReply.TheVariants as reply
 use Rattle.check_sign.specs.Contents.{Contents}
 use Rattle.check_sign.specs.Standing.{DeskStands}
 use Rattle.check_sign.specs.Calls.{Counted}
+use Rattle.check_sign.specs.Refusing.{Forbids}
 use Rattle.check_sign.proofs.MarkLemmas.{active_at, closing_at}
 
 -- the first torn call stays
@@ -49,6 +50,14 @@ barred_leave desk state key now reply.Closing s h = (h, s)
 barred_leave desk state key now (reply.Live epoch) s h = (h, s)
 barred_leave desk state key now (reply.Watching first second) s h = (h, s)
 barred_leave desk state key now r s h = absurd h
+
+-- a message of a key that may sign is forbidden
+pub forbidden_proposal : (desk : Contents) (state : State) (key : PubKey) (m : Message) (now : ℕ) (r : DeskReply) → DeskStands desk (record state { latest = max state.latest now }) → IsUp state → MaySign state key → Forbids state.keys key m r
+    → Reply state (call.Propose key m now) r × DeskStands desk (after state (call.Propose key m now) r)
+forbidden_proposal desk state key m now reply.Unknown s up may h = ((up, h), s)
+forbidden_proposal desk state key m now (reply.Refused v) s up may h = ((up, (may.0.1, h), may.1), s)
+forbidden_proposal desk state key m now reply.OutOfMemory s up may h = ((up, ((may.0.1, h), may.1)), s)
+forbidden_proposal desk state key m now r s up may h = absurd h
 
 -- the key is active or being closed
 pub watchable : (r : KeyState) (states held : List (PubKey × KeyState)) (key : PubKey) → r ≡ key_state states key → states ≡ held → (r ≡ Active) ⊎ (r ≡ Closing) → (kept_of held key ≡ Some Active) ⊎ (kept_of held key ≡ Some Closing)

@@ -7,9 +7,11 @@ pub mod ImageLemmas
 pub mod LeaveLemmas
 pub mod MachineLemmas
 pub mod MarkLemmas
+pub mod MergeLemmas
 pub mod OpenLemmas
 pub mod ProposalLemmas
 pub mod ReadLemmas
+pub mod RefusalLemmas
 pub mod SnapshotLemmas
 pub mod StepLemmas
 pub mod WeightLemmas

@@ -2,7 +2,6 @@
 use Rattle.std.proofs.Common.{◌≡◌, ◌≢◌, ◌⊎◌, inl, inr, ℕ, ◌+◌, ◌≤◌, arith, Bool, true, false, cond, List, [], ◌∷◌, ◌++◌, Option, Some, None, refl, sym, ◌∙◌, ap, subst, append-nil, max, Ok, Err, ⊎_elim, Contains}
 use Rattle.std.specs.Prelude.{◌↔◌, IsSomeAnd, is_some, unwrap_or, if◌then◌else◌}
 use Rattle.std.specs.BTreeMap.{is_at}
-use Rattle.std.proofs.lemmas.List.Sums.{sum_by-cons}
 use Rattle.std.proofs.lemmas.Map.{keys-set_value}
 use Rattle.edge_kit.specs.Causes.{Rose}
 use Rattle.edge_kit.specs.declared.bytes.PubKey.{PubKey}
@@ -14,7 +13,7 @@ use Rattle.slash_defs.specs.declared.message.Message.TheVariants as message
 use Rattle.protect_record.specs.Parts.{Parts}
 use Rattle.protect_record.specs.Passing.{Passes}
 use Rattle.protect_record.specs.Pasts.{Past, no_past, with_own, IsPastBlock, IsPastVote}
-use Rattle.protect_record.specs.Exporting.{export_of}
+use Rattle.protect_record.specs.Exporting.{export_of, prune_book}
 use Rattle.protect_record.specs.Standing.{Stands}
 use Rattle.protect_record.proofs.MemberLemmas.{contains_cases, contains_first, contains_none}
 use Rattle.record_codec.specs.declared.item.JournalItem.{JournalItem}
@@ -34,6 +33,8 @@ use Rattle.record_journal.specs.declared.log.AppendFault.TheVariants as fault
 use Rattle.record_replay.specs.Batches.{message_item}
 use Rattle.record_replay.proofs.GrowLemmas.{grows_block, grows_vote}
 use Rattle.record_replay.specs.Items.{items_in}
+use Rattle.record_replay.specs.Pruning.{pruning_of}
+use Rattle.record_replay.proofs.PruningLemmas.{pruned_same}
 use Rattle.record_replay.specs.Replaying.{ItemsStand, KeyStands}
 use Rattle.record_replay.specs.declared.state.KeyState.{KeyState}
 use Rattle.record_replay.specs.declared.state.KeyState.TheVariants.{Known, Active, Closing, Closed}
@@ -252,6 +253,32 @@ may_close desk state key parts k n grants s kept is closing count same none =
     let counted : n ≡ open_grants state.grants key = count ∙ ap (λ l. open_grants l key) (same ∙ s.grants) in
     (is_some_of (kept_of state.keys key) past.0 past.1, closing_at desk.states state.states key s.states (sym closing ∙ is), omega (arith, counted, none))
 
+-- what is handed over of a key that may be closed, and the past that it is of
+pub record MayBeClosed (state : State) (key : PubKey) (given : Book) : Type 0 where
+  pub proceeds : Proceeds state (call.FinishClose key)
+  pub parts : Parts
+  pub past : Past
+  pub at : kept_of state.keys key ≡ Some past
+  pub stands : Stands parts past
+  pub book : given ≡ export_of parts
+
+pub may_be_closed : (desk : Contents) (state : State) (key : PubKey) (book : Book) → DeskStands desk state → IsSomeAnd (kept_of desk.keys key) (λ parts. book ≡ export_of parts) → kept_of desk.states key ≡ Some Closing → open_grants desk.grants key ≡ 0
+    → MayBeClosed state key book
+may_be_closed desk state key book s exported closing idle =
+    let parts = past_with (kept_of desk.keys key) (λ parts. book ≡ export_of parts) exported in
+    let past = some_at desk.keys state.keys key parts.0 s.keys parts.1 in record {
+      proceeds = (
+        is_some_of (kept_of state.keys key) past.0 past.1,
+        ap (λ l. kept_of l key) (sym s.states) ∙ closing,
+        ap (λ l. open_grants l key) (sym s.grants) ∙ idle,
+      );
+      parts = parts.0;
+      past = past.0;
+      at = past.1;
+      stands = past.2;
+      book = parts.2;
+    }
+
 pub closing_fault : {D : Type 0} (faults : D → ℕ) (old new : Journaled D) (desk : Contents) (state : State) (key : PubKey) (f : AppendFault) (r : DeskReply) → Proceeds state (call.FinishClose key) → Wrote faults old (item.Close key ∷ []) new (Err f)
     → PayloadsStand old.payloads (lasting state) → old.size ≡ state.size → old.size ≡ journal_size old.payloads → old.torn ≡ None → IsUp state
     → ItemsStand (items_in old.payloads ++ item.Close key ∷ []) state.keys (with_kept state.states key Closed)
@@ -274,6 +301,15 @@ closing_done faults old new desk state key parts past book proceeds wrote payloa
       ((up, proceeds, subst sizes size wrote.0), some_is (kept_of state.keys key) past (λ p. IsExport p book) at (record { parts = parts; stands = stands; value = value })),
       grown faults old new (item.Close key ∷ []) desk state (after state (call.FinishClose key) (reply.Closed book)) wrote size journal payloads_are size_is torn_is closed refl payloads.generation up rest,
     )
+
+-- ---- a key that is pruned
+
+-- the book that prunes its record is the one of its past
+pub pruned_by : (desk : Contents) (state : State) (key : PubKey) (book : Book) → DeskStands desk state → IsSomeAnd (kept_of desk.keys key) (λ parts. book ≡ prune_book parts) → (past : Past) × (kept_of state.keys key ≡ Some past) × (book ≡ pruning_of past)
+pruned_by desk state key book s pruned =
+    let parts = past_with (kept_of desk.keys key) (λ parts. book ≡ prune_book parts) pruned in
+    let past = some_at desk.keys state.keys key parts.0 s.keys parts.1 in
+    (past.0, past.1, parts.2 ∙ pruned_same parts.0 past.0 past.2)
 
 -- ---- the journal of a desk is its own, whose root is the desk's
 

@@ -8,6 +8,7 @@ pub mod Calls
 pub mod Images
 pub mod Marking
 pub mod Writing
+pub mod Refusing
 pub mod Opening
 pub mod Paths
 pub mod PathLaws

@@ -1,67 +1,26 @@
-//! Keys that become active, and keys that are closed.
-ghost use Rattle.std.specs.Prelude.{◌≡◌, ◌≤◌, None};
+//! Keys that are closed.
+ghost use Rattle.std.specs.Prelude.{◌≡◌, None, Some, IsSome, IsSomeAnd, IfErr, IfOk, OnOk};
+ghost use Rattle.protect_record.specs.Exporting.{export_of};
+ghost use Rattle.record_join.specs.Keys.{kept_of};
 ghost use Rattle.record_journal.specs.TwoDisks.{EitherRose};
 ghost use Rattle.check_sign.specs.Contents.{disks_in};
-ghost use Rattle.desk_machine.specs.Machine.{moment_limit};
+ghost use Rattle.desk_machine.specs.Grants.{open_grants};
 ghost use Rattle.check_sign.specs.Calls.{IsStep, Counted};
 ghost use Rattle.check_sign.specs.Writing.{Moved, journal_of};
 ghost use Rattle.desk_machine.specs.declared.call.DeskCall.TheVariants as DeskCall;
 
 use crate::desk::Desk;
-use crate::marking::{mark_active, set_state, state_of, unmark};
+use crate::marking::{set_state, state_of};
 use crate::writing::{refusal, write_items};
 use desk_machine::{DeskReply, Event};
-use desk_parts::{fits_one, note, note_closed};
+use desk_parts::{note, note_closed};
 use edge_kit::{Disk, PubKey};
 use record_codec::JournalItem;
-use record_replay::{KeyState, replay_laws};
+use record_replay::KeyState;
+use slash_defs::Book;
+use std::alloc::AllocError;
 
 impl<D: Disk> Desk<D> {
-    /// Makes a key active.
-    pub(crate) fn activate_key(&mut self, key: PubKey, now: u64) -> DeskReply
-        requires { now ≤ moment_limit }
-        ensures machine { IsStep self.old.contents (DeskCall.Activate key now) result self.new.contents }
-        ensures counted { Counted self.old.contents (DeskCall.Activate key now) result self.new.contents }
-        ensures rose { result ≡ DeskReply.Disk → self.old.contents.torn ≡ None → EitherRose D.faults (disks_in self.old) (disks_in self.new) }
-        ensures moved { Moved D.moment D.leaves D.faults (journal_of self.old) (journal_of self.new) }
-    {
-        self.latest = self.latest.max(now);
-        if self.journal.failed() {
-            return DeskReply::Disk;
-        }
-        match state_of(&self.states, &key) {
-            KeyState::Active => return DeskReply::Already,
-            KeyState::Closing => return DeskReply::Closing,
-            KeyState::Known | KeyState::Closed => {}
-        }
-        replay_laws();
-        if !fits_one(&self.books, &key) {
-            return DeskReply::TooManyKeys {
-                have: self.books.len() as u64,
-                new: 1,
-            };
-        }
-        if self.watches.reserve(&key).is_err() {
-            return DeskReply::OutOfMemory;
-        }
-        let Ok(fresh) = self.books.prepare_key(key) else {
-            return DeskReply::OutOfMemory;
-        };
-        let Ok(before) = mark_active(&mut self.states, key) else {
-            self.books.take_back(fresh);
-            return DeskReply::OutOfMemory;
-        };
-        let items = [JournalItem::Activate { key }];
-        if let Err(fault) = write_items(&mut self.journal, self.alloc, &items) {
-            unmark(&mut self.states, &key, before);
-            self.books.take_back(fresh);
-            return refusal(fault);
-        }
-        self.watches.begin(&key, self.latest);
-        note(&mut self.events, Event::Activated { key }, self.latest);
-        DeskReply::Active
-    }
-
     /// Begins to close an active key. Takes no memory.
     pub(crate) fn begin_closing(&mut self, key: PubKey) -> DeskReply
         ensures machine { IsStep self.old.contents (DeskCall.BeginClose key) result self.new.contents }
@@ -69,7 +28,6 @@ impl<D: Disk> Desk<D> {
         ensures rose { result ≡ DeskReply.Disk → self.old.contents.torn ≡ None → EitherRose D.faults (disks_in self.old) (disks_in self.new) }
         ensures moved { Moved D.moment D.leaves D.faults (journal_of self.old) (journal_of self.new) }
     {
-        replay_laws();
         let Some(_) = self.books.get(&key) else {
             return DeskReply::Unknown;
         };
@@ -91,23 +49,9 @@ impl<D: Disk> Desk<D> {
         ensures rose { result ≡ DeskReply.Disk → self.old.contents.torn ≡ None → EitherRose D.faults (disks_in self.old) (disks_in self.new) }
         ensures moved { Moved D.moment D.leaves D.faults (journal_of self.old) (journal_of self.new) }
     {
-        if self.journal.failed() {
-            return DeskReply::Disk;
-        }
-        let Some(record) = self.books.get(&key) else {
-            return DeskReply::Unknown;
-        };
-        replay_laws();
-        let state = state_of(&self.states, &key);
-        if state != KeyState::Closing {
-            return DeskReply::NotClosing(state);
-        }
-        let grants = self.grants.count_of(&key) as u64;
-        if grants > 0 {
-            return DeskReply::Busy { grants };
-        }
-        let Ok(book) = record.export(self.alloc) else {
-            return DeskReply::OutOfMemory;
+        let book = match self.closing_book(&key) {
+            Ok(book) => book,
+            Err(bar) => return bar,
         };
         let items = [JournalItem::Close { key }];
         if let Err(fault) = write_items(&mut self.journal, self.alloc, &items) {
@@ -115,5 +59,36 @@ impl<D: Disk> Desk<D> {
         }
         set_state(&mut self.states, &key, KeyState::Closed);
         DeskReply::Closed(note_closed(&mut self.events, key, book, self.latest))
+    }
+
+    /// What is handed over of a key that may be closed. The `Err` is the first of what bars it: the disk failed, no
+    /// past is kept of the key, its state, its open grants, or want of memory.
+    fn closing_book(&self, key: &PubKey) -> Result<Book, DeskReply>
+        ensures machine { IfErr result (λ r. IsStep self.now.contents (DeskCall.FinishClose key.now) r self.now.contents) }
+        ensures counted { IfErr result (λ r. Counted self.now.contents (DeskCall.FinishClose key.now) r self.now.contents) }
+        ensures failed { IfErr result (λ r. r ≡ DeskReply.Disk → IsSome self.now.contents.torn) }
+        ensures up { OnOk result (self.now.contents.torn ≡ None) }
+        ensures closing { OnOk result (kept_of self.now.contents.states key.now ≡ Some KeyState.Closing) }
+        ensures idle { OnOk result (open_grants self.now.contents.grants key.now ≡ 0) }
+        ensures book { IfOk result (λ book. IsSomeAnd (kept_of self.now.contents.keys key.now) (λ parts. book ≡ export_of parts)) }
+    {
+        if self.journal.failed() {
+            return Err(DeskReply::Disk);
+        }
+        let Some(record) = self.books.get(key) else {
+            return Err(DeskReply::Unknown);
+        };
+        let state = state_of(&self.states, key);
+        if state != KeyState::Closing {
+            return Err(DeskReply::NotClosing(state));
+        }
+        let grants = self.grants.count_of(key) as u64;
+        if grants > 0 {
+            return Err(DeskReply::Busy { grants });
+        }
+        match record.export(self.alloc) {
+            Ok(book) => Ok(book),
+            Err(AllocError) => Err(DeskReply::OutOfMemory),
+        }
     }
 }

@@ -1,5 +1,7 @@
 //! The journal is compacted: what the desk keeps is written into the file that isn't current.
-ghost use Rattle.std.specs.Prelude.{◌≡◌, ◌≤◌, ◌++◌, List, None, length, map, IfOk, OnOk};
+ghost use Rattle.std.specs.Prelude.{◌≡◌, ◌<◌, ◌≤◌, ◌++◌, List, None, IsSome, length, map, IfErr, IfOk, OnOk};
+ghost use Rattle.journal_frames.specs.Frames.{generation_of};
+ghost use Rattle.desk_machine.specs.Machine.{last_generation};
 ghost use Rattle.std.specs.List.{AllByRecursion};
 ghost use Rattle.record_codec.specs.Spelling.{IsBatch};
 ghost use Rattle.record_codec.specs.declared.item.JournalItem.{JournalItem};
@@ -34,14 +36,10 @@ impl<D: Disk> Desk<D> {
         ensures keeps { KeepsJournal D.moment D.leaves D.faults (journal_of self.old) (journal_of self.new) }
         ensures disks { WritesOne (DeskCall.Compact) result self.old self.new }
     {
-        batches_law();
-        journal_law();
         pair_law();
-        if self.journal.failed() {
-            return DeskReply::Disk;
-        }
-        if self.journal.generation() == u64::MAX {
-            return DeskReply::LastGeneration;
+        match self.may_compact() {
+            Ok(()) => {}
+            Err(bar) => return bar,
         }
         let Ok(snapshot) = snapshot_payloads(self.alloc, &self.books, &self.states) else {
             return DeskReply::OutOfMemory;
@@ -60,6 +58,26 @@ impl<D: Disk> Desk<D> {
             Err(CompactFault::OutOfMemory) => DeskReply::OutOfMemory,
             Err(CompactFault::Full { size, wanted }) => DeskReply::Full { size, wanted },
         }
+    }
+
+    /// Whether the journal may be compacted. The `Err` is the first of what bars it: the disk failed, or the
+    /// generation is the last.
+    fn may_compact(&self) -> Result<(), DeskReply>
+        ensures machine { IfErr result (λ r. IsStep self.now.contents (DeskCall.Compact) r self.now.contents) }
+        ensures counted { IfErr result (λ r. Counted self.now.contents (DeskCall.Compact) r self.now.contents) }
+        ensures own { IfErr result (λ r. IsOwn self.now.contents (DeskCall.Compact) r self.now.contents) }
+        ensures disks { IfErr result (λ r. WritesOne (DeskCall.Compact) r self.now self.now) }
+        ensures failed { IfErr result (λ r. r ≡ DeskReply.Disk → IsSome self.now.contents.torn) }
+        ensures up { OnOk result (self.now.contents.torn ≡ None) }
+        ensures less { OnOk result (generation_of self.now.contents.payloads < last_generation) }
+    {
+        if self.journal.failed() {
+            return Err(DeskReply::Disk);
+        }
+        if self.journal.generation() == u64::MAX {
+            return Err(DeskReply::LastGeneration);
+        }
+        Ok(())
     }
 }
 

@@ -82,9 +82,9 @@ impl<D: Disk> Desk<D> {
             KeyState::Active | KeyState::Closing => {}
             KeyState::Known | KeyState::Closed => return DeskReply::NotActive,
         }
-        if self.watches.reserve(&key).is_err() {
+        let Ok(()) = self.watches.reserve(&key) else {
             return DeskReply::OutOfMemory;
-        }
+        };
         self.watches.tell(&key, epoch, live, now);
         let told = Event::Told { key, epoch, live };
         note(&mut self.events, told, self.latest);

@@ -1,6 +1,7 @@
 //! The desk: it decides whether something may be signed, and keeps what it decided.
 #![tactic(auto)]
 
+mod activating;
 mod calls;
 mod calls_by;
 mod closing;

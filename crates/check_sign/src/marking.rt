@@ -2,12 +2,17 @@
 ghost use Rattle.std.specs.Prelude.{◌≡◌, ◌<◌, Some, None, IsSome, OnOk, OnErr, IfOk, length, List};
 ghost use Rattle.edge_kit.specs.declared.bytes.PubKey.{PubKey};
 ghost use Rattle.std.specs.BTreeMap.{IsOrdered};
+ghost use Rattle.protect_record.specs.Pasts.{Past};
+ghost use Rattle.record_join.specs.BooksPasts.{BooksStand};
 ghost use Rattle.record_join.specs.Keys.{key_cmp, kept_of, with_key, with_kept};
+ghost use Rattle.record_join.specs.Preparing.{AreTaken};
+ghost use Rattle.record_replay.specs.Replaying.{with_known};
 ghost use Rattle.record_replay.specs.declared.state.KeyState.{KeyState};
 ghost use Rattle.desk_machine.specs.States.{key_state};
 ghost use Rattle.check_sign.specs.Marking.{IsMarked};
 
 use edge_kit::PubKey;
+use record_join::{Books, Fresh};
 use record_replay::KeyState;
 use std::alloc::AllocError;
 use std::collections::BTreeMap;
@@ -33,6 +38,31 @@ pub fn mark_active(
     match states.insert(key, KeyState::Active) {
         Ok(before) => Ok(before),
         Err(_) => Err(AllocError),
+    }
+}
+
+/// Keeps a key, with an empty record where it is a new one, and makes it active. Gives what undoes both. Where memory was
+/// wanted, both are as before.
+pub fn mark_kept(
+    books: &mut Books,
+    states: &mut BTreeMap<PubKey, KeyState>,
+    key: PubKey,
+) -> Result<(Fresh, Option<KeyState>), AllocError>
+    ensures fresh { IfOk result (λ undo. AreTaken books.old undo.0 books.new) }
+    ensures known { OnOk result ((pasts : List (PubKey × Past)) → BooksStand books.old pasts → BooksStand books.new (with_known pasts key)) }
+    ensures marked { IfOk result (λ undo. IsMarked states.old.entries key undo.1 states.new.entries) }
+    ensures kept { OnErr result ((pasts : List (PubKey × Past)) → BooksStand books.old pasts → BooksStand books.new pasts) }
+    ensures unmarked { OnErr result (states.new.entries ≡ states.old.entries) }
+{
+    let Ok(fresh) = books.prepare_key(key) else {
+        return Err(AllocError);
+    };
+    match mark_active(states, key) {
+        Ok(before) => Ok((fresh, before)),
+        Err(AllocError) => {
+            books.take_back(fresh);
+            Err(AllocError)
+        }
     }
 }
 

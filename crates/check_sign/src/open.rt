@@ -15,7 +15,7 @@ use std::alloc::Global;
 pub enum OpenFault {
     /// The journal's own.
     Journal(record_journal::OpenFault),
-    /// The journal names more than 65,536 keys: none is kept, and so many would be.
+    /// The journal names more than 65,536 keys: none is kept, and that many would be.
     TooManyKeys {
         /// How many keys are kept: none.
         have: u64,

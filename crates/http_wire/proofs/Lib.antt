@@ -17,3 +17,4 @@ pub mod ReadBackLemmas
 pub mod ResponseBackLemmas
 pub mod RefusalLemmas
 pub mod ResponseLaws
+pub mod PlainLemmas

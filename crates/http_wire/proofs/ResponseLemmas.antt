@@ -1,5 +1,5 @@
 -- A response from its heads and its body.
-use Rattle.std.proofs.Common.{◌≡◌, inl, inr, ℕ, ◌+◌, ◌≤◌, true, false, List, [], ◌∷◌, ◌++◌, length, length-append, Option, Some, None, Err, Vec, Global, refl, sym, ap, subst, ◌∙◌, arith, append_assoc}
+use Rattle.std.proofs.Common.{◌≡◌, inl, inr, ℕ, ◌+◌, ◌≤◌, true, false, List, [], ◌∷◌, ◌++◌, length, length-append, Option, Some, None, Ok, Err, Vec, Global, refl, sym, ap, subst, ◌∙◌, arith, append_assoc}
 use Rattle.std.proofs.lemmas.List.{append-nil}
 use Rattle.std.proofs.lemmas.List.Elements.{All-push, All-nil}
 use Rattle.std.proofs.lemmas.Grind.{flat_map-append}
@@ -14,9 +14,9 @@ use Rattle.http_wire.specs.Fronts.{Within, StopsWithin}
 use Rattle.http_wire.specs.Heads.{SpellsResponseHead, IsResponseText, head_limit}
 use Rattle.http_wire.specs.Framings.{Pair, encoding_of, framing_of, body_limit}
 use Rattle.http_wire.specs.Parts.{parts_of}
-use Rattle.http_wire.specs.Codings.{IsEncodedBy}
-use Rattle.http_wire.specs.Bodies.{IsBody, IsNoBody, IsLongBody}
-use Rattle.http_wire.specs.Steps.{Took, BodyStep}
+use Rattle.http_wire.specs.Bodies.{IsNoBody, IsLongBody}
+use Rattle.http_wire.specs.Steps.{Took}
+use Rattle.http_wire.specs.Plain.{PlainStep}
 use Rattle.http_wire.specs.Messages.{HasResponseHead, SpellsResponse, BeginsResponse, HasNoResponseHead, IsNoResponse, IsInterim, AreInterim, IsFinalHead, is_interim}
 
 pub no_interim : (a : Option (List ℕ)) → Took a a (AreInterim 0)
@@ -89,9 +89,8 @@ nine_heads a b n took e = record {
 abbrev pub with_body : Response → Vec ℕ Global → Response
 with_body r body = record r { body = body }
 
-pub response_read : (a b c : Option (List ℕ)) (r : Response) (body : Vec ℕ Global) → Took a b (λ t. IsFinalHead t r) → encoding_of (parts_of r.fields.items) ≡ None
-    → Took b c (λ tail. IsBody true (framing_of (parts_of r.fields.items)) tail c body.items) → Took a c (λ bytes. SpellsResponse bytes c (with_body r body))
-response_read a b c r body head plain took = record {
+pub response_read : (a b c : Option (List ℕ)) (r : Response) (body : Vec ℕ Global) → Took a b (λ t. IsFinalHead t r) → Took b c (PlainStep true (parts_of r.fields.items) c (Ok tt) body.items) → Took a c (λ bytes. SpellsResponse bytes c (with_body r body))
+response_read a b c r body head took = record {
   bytes = head.bytes ++ took.bytes;
   taken = Consumes-trans a b c head.bytes took.bytes head.taken took.taken;
   holds = record {
@@ -107,8 +106,8 @@ response_read a b c r body head plain took = record {
     short = head.holds.short;
     final = head.holds.final;
     has = record { status = head.holds.has.status; fields = head.holds.has.fields };
-    plain = plain;
-    body = took.holds;
+    plain = took.holds.0;
+    body = took.holds.1;
   };
 }
 
@@ -134,26 +133,11 @@ begins_response P a b c r head took =
       };
     }
 
-pub response_coded : (a b : Option (List ℕ)) (r : Response) (v : Vec ℕ Global) → Took a b (λ t. IsFinalHead t r) → encoding_of (parts_of r.fields.items) ≡ Some v.items → Took a b (λ bytes. IsNoResponse bytes b (fault.Encoded v))
-response_coded a b r v head e = begins_response (λ fields tail. (encoding_of fields ≡ Some v.items) × (tail ≡ [])) a b b r head (record { bytes = []; taken = Consumes-nil b; holds = (e, refl) })
-
 -- what a fault of the body makes of the response
-pub response_faulty : (a b c : Option (List ℕ)) (r : Response) (body : List ℕ) (f : WireFault) → Took a b (λ t. IsFinalHead t r) → encoding_of (parts_of r.fields.items) ≡ None
-    → Took b c (BodyStep true (framing_of (parts_of r.fields.items)) c (Err f) body) → Took a c (λ bytes. IsNoResponse bytes c f)
-response_faulty a b c r body fault.BadHead head plain took = absurd took.holds
-response_faulty a b c r body fault.BadBody head plain took =
-    begins_response (λ fields tail. (encoding_of fields ≡ None) × IsNoBody (framing_of fields) tail c) a b c r head (record { bytes = took.bytes; taken = took.taken; holds = (plain, took.holds) })
-response_faulty a b c r body (fault.TooLong n) head plain took =
-    begins_response (λ fields tail. (n ≡ body_limit) × (encoding_of fields ≡ None) × IsLongBody true (framing_of fields) tail) a b c r head (record { bytes = took.bytes; taken = took.taken; holds = (took.holds.0, plain, took.holds.1) })
-response_faulty a b c r body (fault.Encoded v) head plain took = absurd took.holds
-response_faulty a b c r body fault.Link head plain took = record { bytes = head.bytes ++ took.bytes; taken = Consumes-trans a b c head.bytes took.bytes head.taken took.taken; holds = tt }
-response_faulty a b c r body fault.OutOfMemory head plain took = record { bytes = head.bytes ++ took.bytes; taken = Consumes-trans a b c head.bytes took.bytes head.taken took.taken; holds = tt }
-
--- a body in another coding
-pub response_encoded : (a b : Option (List ℕ)) (r : Response) (value : List ℕ) (f : WireFault) → IsEncodedBy value f → Took a b (λ t. IsFinalHead t r) → encoding_of (parts_of r.fields.items) ≡ Some value → Took a b (λ bytes. IsNoResponse bytes b f)
-response_encoded a b r value fault.BadHead is head e = absurd is
-response_encoded a b r value fault.BadBody is head e = absurd is
-response_encoded a b r value (fault.TooLong n) is head e = absurd is
-response_encoded a b r value (fault.Encoded v) is head e = response_coded a b r v head (e ∙ ap Some (sym is))
-response_encoded a b r value fault.Link is head e = absurd is
-response_encoded a b r value fault.OutOfMemory is head e = record { bytes = head.bytes; taken = head.taken; holds = tt }
+pub response_faulty : (a b c : Option (List ℕ)) (r : Response) (body : List ℕ) (f : WireFault) → Took a b (λ t. IsFinalHead t r) → Took b c (PlainStep true (parts_of r.fields.items) c (Err f) body) → Took a c (λ bytes. IsNoResponse bytes c f)
+response_faulty a b c r body fault.BadHead head took = absurd took.holds
+response_faulty a b c r body fault.BadBody head took = begins_response (λ fields tail. (encoding_of fields ≡ None) × IsNoBody (framing_of fields) tail c) a b c r head took
+response_faulty a b c r body (fault.TooLong n) head took = begins_response (λ fields tail. (n ≡ body_limit) × (encoding_of fields ≡ None) × IsLongBody true (framing_of fields) tail) a b c r head took
+response_faulty a b c r body (fault.Encoded v) head took = begins_response (λ fields tail. (encoding_of fields ≡ Some v.items) × (tail ≡ [])) a b c r head took
+response_faulty a b c r body fault.Link head took = record { bytes = head.bytes ++ took.bytes; taken = Consumes-trans a b c head.bytes took.bytes head.taken took.taken; holds = tt }
+response_faulty a b c r body fault.OutOfMemory head took = record { bytes = head.bytes ++ took.bytes; taken = Consumes-trans a b c head.bytes took.bytes head.taken took.taken; holds = tt }

@@ -15,3 +15,4 @@ pub mod Messages
 pub mod Spellings
 pub mod ReadBack
 pub mod Codings
+pub mod Plain

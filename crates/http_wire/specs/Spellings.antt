@@ -22,6 +22,14 @@ sized_fields n = codes "Content-Type: application/json\r\nContent-Length: " ++ d
 abbrev pub body_fields : ℕ → List ℕ
 body_fields n = if n == 0 then [] else sized_fields n
 
+-- the first line of a request
+abbrev pub request_line : List ℕ → List ℕ → List ℕ
+request_line method target = method ++ codes " " ++ target ++ codes " HTTP/1.1\r\n"
+
+-- the fixed fields of a request with a body of so many bytes, and the empty line
+abbrev pub request_fields : ℕ → List ℕ
+request_fields n = codes "Accept: application/json\r\nConnection: close\r\n" ++ body_fields n ++ codes "\r\n"
+
 -- a request before its body, whose own fields come before the fixed ones
 abbrev pub spelled_request_head : Request → List ℕ
 spelled_request_head r =
@@ -33,6 +41,10 @@ spelled_request_head r =
 
 abbrev pub spelled_request : Request → List ℕ
 spelled_request r = spelled_request_head r ++ r.body.items
+
+-- the end of the first line of a response
+abbrev pub phrase_end : ℕ → List ℕ
+phrase_end n = codes " " ++ unwrap_or (reason_phrase n) [] ++ codes "\r\n"
 
 -- the first line of a response
 abbrev pub status_line : ℕ → List ℕ

@@ -13,6 +13,7 @@ mod limits;
 mod listen;
 mod message;
 mod parse;
+mod plain;
 mod read;
 mod response;
 mod sized;

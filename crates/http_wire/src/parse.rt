@@ -1,7 +1,7 @@
 //! The parts of a head that was read.
 ghost use Rattle.std.specs.Prelude.{◌≡◌, ◌≤◌, [], All, IfOk, length, map};
 ghost use Rattle.httparse.specs.Grammar.{RequestHead, ResponseHead};
-ghost use Rattle.httparse.specs.Spans.{IsHeaderWithin, header_bytes};
+ghost use Rattle.httparse.specs.Spans.{IsWithin, IsHeaderWithin, header_bytes, span_bytes};
 ghost use Rattle.http_wire.specs.Heads.{IsRequestText, IsResponseText, SpellsRequestHead, SpellsResponseHead};
 ghost use Rattle.http_wire.specs.Parts.{parts, parts_of};
 ghost use Rattle.http_wire.specs.Messages.{HasRequestHead, HasResponseHead};
@@ -10,7 +10,7 @@ use crate::field::Field;
 use crate::message::{Request, Response};
 use http::Method;
 use httparse::Status;
-use httparse::spans::{EMPTY_HEADER_SPAN, HeaderSpan, parse_request, parse_response};
+use httparse::spans::{EMPTY_HEADER_SPAN, HeaderSpan, RequestSpans, parse_request, parse_response};
 use std::alloc::{AllocError, Global};
 
 /// The fields that spans cover.
@@ -54,15 +54,33 @@ pub(crate) fn request_of(alloc: Global, text: &[u8]) -> Result<Request, AllocErr
 {
     let mut spans = [EMPTY_HEADER_SPAN; 64];
     match parse_request(text, &mut spans) {
-        Ok(Status::Complete(head)) => Ok(Request {
-            method: method_of(alloc, head.method.of(text))?,
-            target: Vec::from_slice(alloc, head.path.of(text))?,
-            fields: fields_of(alloc, text, &spans[..head.headers])?,
-            body: Vec::new(alloc),
-        }),
+        Ok(Status::Complete(head)) => request_at(alloc, text, head, &spans[..head.headers]),
         Ok(Status::Partial) => unreachable!(),
         Err(_) => unreachable!(),
     }
+}
+
+/// The request without its body that spans cover.
+fn request_at(
+    alloc: Global,
+    text: &[u8],
+    head: RequestSpans,
+    spans: &[HeaderSpan],
+) -> Result<Request, AllocError>
+    requires method { IsWithin (length text.now) head.method }
+    requires path { IsWithin (length text.now) head.path }
+    requires fields { All (IsHeaderWithin (length text.now)) spans.now }
+    ensures method { IfOk result (λ r. r.method ≡ span_bytes text.now head.method) }
+    ensures target { IfOk result (λ r. r.target.items ≡ span_bytes text.now head.path) }
+    ensures fields { IfOk result (λ r. parts_of r.fields.items ≡ map (header_bytes text.now) spans.now) }
+    ensures body { IfOk result (λ r. r.body.items ≡ []) }
+{
+    Ok(Request {
+        method: method_of(alloc, head.method.of(text))?,
+        target: Vec::from_slice(alloc, head.path.of(text))?,
+        fields: fields_of(alloc, text, spans)?,
+        body: Vec::new(alloc),
+    })
 }
 
 /// The response without its body that a head begins.

@@ -1,19 +1,19 @@
 //! Messages that are read.
-ghost use Rattle.std.specs.Prelude.{◌≡◌, ◌≤◌, [], ℕ, List, length};
+ghost use Rattle.std.specs.Prelude.{◌≡◌, ◌≤◌, [], ℕ, List, IfOk, length};
 ghost use Rattle.edge_kit.specs.Causes.{Rose};
 ghost use Rattle.http_wire.specs.Listening.{OnlyListens};
 ghost use Rattle.http_wire.specs.Steps.{Took, TookAtMost};
 ghost use Rattle.http_wire.specs.Bounds.{request_limit};
+ghost use Rattle.http_wire.specs.Heads.{head_limit};
 ghost use Rattle.http_wire.specs.Messages.{RequestStep};
+ghost use Rattle.http_wire.specs.Plain.{RequestHeadStep};
 
-use crate::body::read_body;
-use crate::encoded::encoded;
-use crate::framing::{encoding, read_framing};
 use crate::front::read_form;
 use crate::heads::RequestText;
 use crate::limits::HEAD_LIMIT;
 use crate::message::{Request, WireFault};
 use crate::parse::request_of;
+use crate::plain::read_plain_body;
 use crate::stop::Stop;
 use edge_kit::Link;
 use std::alloc::Global;
@@ -28,23 +28,38 @@ pub fn read_request<L: Link>(alloc: Global, link: &mut L) -> Result<Request, Wir
     ensures fault { result ≡ Err WireFault.Link → Rose (L.faults link.old) (L.faults link.new) }
     ensures listens { OnlyListens (L.held link.old) (L.held link.new) (L.coming link.old) (L.coming link.new) (L.faults link.old) (L.faults link.new) }
 {
+    let mut request = match read_request_head(alloc, link) {
+        Ok(request) => request,
+        Err(fault) => return Err(fault),
+    };
+    match read_plain_body(
+        alloc,
+        link,
+        request.fields.as_slice(),
+        false,
+        &mut request.body,
+    ) {
+        Ok(()) => Ok(request),
+        Err(fault) => Err(fault),
+    }
+}
+
+/// Reads the head of a request.
+fn read_request_head<L: Link>(alloc: Global, link: &mut L) -> Result<Request, WireFault>
+    ensures step { Took (L.left link.old) (L.left link.new) (RequestHeadStep (L.left link.new) result) }
+    ensures bound { TookAtMost (L.left link.old) (L.left link.new) head_limit }
+    ensures body { IfOk result (λ r. r.body.items ≡ []) }
+    ensures fault { result ≡ Err WireFault.Link → Rose (L.faults link.old) (L.faults link.new) }
+    ensures listens { OnlyListens (L.held link.old) (L.held link.new) (L.coming link.old) (L.coming link.new) (L.faults link.old) (L.faults link.new) }
+{
     let text = match read_form::<RequestText, L>(alloc, link, HEAD_LIMIT) {
         Ok(text) => text,
         Err(Stop::Stuck) => return Err(WireFault::BadHead),
         Err(Stop::Link) => return Err(WireFault::Link),
         Err(Stop::Memory) => return Err(WireFault::OutOfMemory),
     };
-    let mut request = match request_of(alloc, text.as_slice()) {
-        Ok(request) => request,
-        Err(_) => return Err(WireFault::OutOfMemory),
-    };
-    match encoding(request.fields.as_slice()) {
-        Some(field) => return Err(encoded(alloc, field)),
-        None => {}
-    }
-    let framing = read_framing(request.fields.as_slice());
-    match read_body(alloc, link, framing, false, &mut request.body) {
-        Ok(()) => Ok(request),
-        Err(fault) => Err(fault),
+    match request_of(alloc, text.as_slice()) {
+        Ok(request) => Ok(request),
+        Err(_) => Err(WireFault::OutOfMemory),
     }
 }

@@ -8,14 +8,12 @@ ghost use Rattle.http_wire.specs.Bounds.{response_limit};
 ghost use Rattle.http_wire.specs.Heads.{head_limit};
 ghost use Rattle.http_wire.specs.Messages.{FinalHeadStep, ResponseStep, is_interim};
 
-use crate::body::read_body;
-use crate::encoded::encoded;
-use crate::framing::{encoding, read_framing};
 use crate::front::read_form;
 use crate::heads::ResponseText;
 use crate::limits::HEAD_LIMIT;
 use crate::message::{Response, WireFault};
 use crate::parse::response_of;
+use crate::plain::read_plain_body;
 use crate::stop::Stop;
 use edge_kit::Link;
 use std::alloc::Global;
@@ -66,12 +64,13 @@ pub fn read_response<L: Link>(alloc: Global, link: &mut L) -> Result<Response, W
         Ok(response) => response,
         Err(fault) => return Err(fault),
     };
-    match encoding(response.fields.as_slice()) {
-        Some(field) => return Err(encoded(alloc, field)),
-        None => {}
-    }
-    let framing = read_framing(response.fields.as_slice());
-    match read_body(alloc, link, framing, true, &mut response.body) {
+    match read_plain_body(
+        alloc,
+        link,
+        response.fields.as_slice(),
+        true,
+        &mut response.body,
+    ) {
         Ok(()) => Ok(response),
         Err(fault) => Err(fault),
     }

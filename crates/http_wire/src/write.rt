@@ -6,7 +6,7 @@ ghost use Rattle.edge_kit.specs.Links.{Stays};
 ghost use Rattle.http.specs.StatusCode.{IsStatusCode, reason_phrase};
 ghost use Rattle.http_wire.specs.Listening.{OnlySpeaks, AppendsFront};
 ghost use Rattle.http_wire.specs.Parts.{parts, parts_of};
-ghost use Rattle.http_wire.specs.Spellings.{print_pair, print_pairs, sized_fields, body_fields, status_line, response_fields, spelled_request_head, spelled_request, spelled_response_head, spelled_response};
+ghost use Rattle.http_wire.specs.Spellings.{print_pair, print_pairs, sized_fields, body_fields, request_line, request_fields, status_line, phrase_end, response_fields, spelled_request_head, spelled_request, spelled_response_head, spelled_response};
 
 use crate::field::Field;
 use crate::message::{Request, Response, WireFault};
@@ -100,22 +100,40 @@ fn send_all<L: Link>(link: &mut L, bytes: &[u8]) -> Result<(), Failed>
 fn request_head(alloc: Global, request: &Request) -> Result<Vec<u8>, AllocError>
     ensures { IfOk result (λ text. text.items ≡ spelled_request_head request.now) }
 {
-    let mut text = method_bytes(alloc, &request.method)?;
-    text.extend_from_slice(b" ")?;
-    text.extend_from_slice(request.target.as_slice())?;
-    text.extend_from_slice(b" HTTP/1.1\r\n")?;
-    push_fields(&mut text, request.fields.as_slice())?;
-    text.extend_from_slice(b"Accept: application/json\r\nConnection: close\r\n")?;
-    push_body_fields(alloc, &mut text, request.body.len())?;
-    text.extend_from_slice(b"\r\n")?;
+    let mut text = Vec::new(alloc);
+    push_request_head(alloc, &mut text, request)?;
     Ok(text)
 }
 
-/// The bytes of a method.
-fn method_bytes(alloc: Global, method: &Method) -> Result<Vec<u8>, AllocError>
-    ensures { IfOk result (λ text. text.items ≡ method.now) }
+/// Adds the bytes of a request before its body.
+fn push_request_head(alloc: Global, text: &mut Vec<u8>, request: &Request) -> Result<(), AllocError>
+    ensures { OnOk result (text.new.items ≡ text.old.items ++ spelled_request_head request.now) }
 {
-    Vec::from_slice(alloc, method.as_str().as_bytes())
+    push_request_line(text, &request.method, request.target.as_slice())?;
+    push_fields(text, request.fields.as_slice())?;
+    push_request_fields(alloc, text, request.body.len())?;
+    Ok(())
+}
+
+/// Adds the first line of a request.
+fn push_request_line(text: &mut Vec<u8>, method: &Method, target: &[u8]) -> Result<(), AllocError>
+    ensures { OnOk result (text.new.items ≡ text.old.items ++ request_line method.now target.now) }
+{
+    text.extend_from_slice(method.as_str().as_bytes())?;
+    text.extend_from_slice(b" ")?;
+    text.extend_from_slice(target)?;
+    text.extend_from_slice(b" HTTP/1.1\r\n")?;
+    Ok(())
+}
+
+/// Adds the fixed fields of a request, and the empty line behind them.
+fn push_request_fields(alloc: Global, text: &mut Vec<u8>, len: usize) -> Result<(), AllocError>
+    ensures { OnOk result (text.new.items ≡ text.old.items ++ request_fields len) }
+{
+    text.extend_from_slice(b"Accept: application/json\r\nConnection: close\r\n")?;
+    push_body_fields(alloc, text, len)?;
+    text.extend_from_slice(b"\r\n")?;
+    Ok(())
 }
 
 /// The bytes of a response before its body.
@@ -124,10 +142,23 @@ fn response_head(alloc: Global, response: &Response) -> Result<Vec<u8>, AllocErr
     ensures { IfOk result (λ text. text.items ≡ spelled_response_head response.now) }
 {
     let mut text = Vec::new(alloc);
-    push_status_line(alloc, &mut text, response.status)?;
-    push_fields(&mut text, response.fields.as_slice())?;
-    push_response_fields(alloc, &mut text, response.body.len())?;
+    push_response_head(alloc, &mut text, response)?;
     Ok(text)
+}
+
+/// Adds the bytes of a response before its body.
+fn push_response_head(
+    alloc: Global,
+    text: &mut Vec<u8>,
+    response: &Response,
+) -> Result<(), AllocError>
+    requires { IsStatusCode response.now.status }
+    ensures { OnOk result (text.new.items ≡ text.old.items ++ spelled_response_head response.now) }
+{
+    push_status_line(alloc, text, response.status)?;
+    push_fields(text, response.fields.as_slice())?;
+    push_response_fields(alloc, text, response.body.len())?;
+    Ok(())
 }
 
 /// Adds the first line of a response.
@@ -137,6 +168,14 @@ fn push_status_line(alloc: Global, text: &mut Vec<u8>, status: u16) -> Result<()
 {
     text.extend_from_slice(b"HTTP/1.1 ")?;
     push_number(alloc, text, u64::from(status))?;
+    push_phrase(text, status)
+}
+
+/// Adds the phrase of a status between a space and the end of its line.
+fn push_phrase(text: &mut Vec<u8>, status: u16) -> Result<(), AllocError>
+    requires { IsStatusCode status }
+    ensures { OnOk result (text.new.items ≡ text.old.items ++ phrase_end status) }
+{
     text.extend_from_slice(b" ")?;
     text.extend_from_slice(phrase_of(status).as_bytes())?;
     text.extend_from_slice(b"\r\n")?;

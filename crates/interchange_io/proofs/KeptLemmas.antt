@@ -1,34 +1,54 @@
 -- What a walk over members or items keeps of those that it has read.
-use Rattle.std.proofs.Common.{◌≡◌, ℕ, zero, suc, ◌<◌, ◌≤◌, List, [], ◌∷◌, ◌++◌, length, false, true≢false, bytes_eq, Option, Some, None, Result, Ok, Err, fold, option_and_then, refl, sym, ap, ◌∙◌, subst, arith, append_assoc, append-nil}
+use Rattle.std.proofs.Common.{◌≡◌, ℕ, zero, suc, ◌<◌, ◌≤◌, List, [], ◌∷◌, ◌++◌, length, Bool, true, false, true≢false, bytes_eq, Option, Some, None, Result, Ok, Err, fold, option_and_then, refl, sym, ap, ◌∙◌, subst, arith, append_assoc, append-nil}
 use Rattle.std.proofs.lemmas.Slice.Eq.{bytes_eq-Decides}
 use Rattle.json.specs.Token.{Token}
 use Rattle.json.specs.Json as json
-use Rattle.json.specs.Json.{Parse, parse_map, after_end_array, items_step, items, value}
+use Rattle.json.specs.Json.{read_key, Parse, parse_map, after_end_array, items_step, items, value}
 use Rattle.json.proofs.Grammar.{left, Takes, skip_value-shorter, after_end_array-shorter}
 use Rattle.serde_json.specs.Data.{Data, Items, item, Members, put}
 use Rattle.serde_json.specs.Find.{get_member}
 use Rattle.serde_json.specs.Read.{of_items, converted}
 use Rattle.serde_json.proofs.Views.{get_member-put, get_member-put_other}
+use Rattle.interchange_io.specs.declared.member.Member.{Member}
 use Rattle.interchange_io.specs.declared.fault.ReadFault.{ReadFault}
+use Rattle.interchange_io.specs.Members.{name_of}
+use Rattle.interchange_io.specs.Parts.{where_named}
 use Rattle.interchange_io.specs.declared.halt.Halt.{Halt}
 use Rattle.interchange_io.specs.Halts.{ReadsOrHalts}
 use Rattle.interchange_io.proofs.HaltLemmas.{Halts-map}
 use Rattle.interchange_io.specs.Steps.{◌>>=◌, each}
-use Rattle.json_walk.specs.Walk.{items_at, ReadsAs, nothing_of}
-use Rattle.json_walk.proofs.WalkLemmas.{ItemsWalk}
+use Rattle.json_walk.specs.Walk.{value_at, items_at, ReadsAs, nothing_of}
+use Rattle.json_walk.proofs.WalkLemmas.{MembersWalk, members_turn, ItemsWalk}
 
 -- ---- members
 
-pub apart : (a b : List ℕ) → bytes_eq a b ≡ false → a ≡ b → ⊥
+apart : (a b : List ℕ) → bytes_eq a b ≡ false → a ≡ b → ⊥
 apart a b e same = true≢false (sym ((bytes_eq-Decides a b).1 same) ∙ e)
 
 -- the member that came last
-pub put_here : {R : Type 0} (f : Option Data → R) (name k : List ℕ) (d : Data) (found : Members) (r : R) → k ≡ name → f (Some d) ≡ r → r ≡ f (get_member name (put k d found))
+put_here : {R : Type 0} (f : Option Data → R) (name k : List ℕ) (d : Data) (found : Members) (r : R) → k ≡ name → f (Some d) ≡ r → r ≡ f (get_member name (put k d found))
 put_here f name k d found r same e = sym e ∙ ap f (sym (subst (λ q. get_member q (put k d found) ≡ Some d) same (get_member-put k d found)))
 
 -- a member of another name
-pub put_other : {R : Type 0} (f : Option Data → R) (name k : List ℕ) (d : Data) (found : Members) (r : R) → (name ≡ k → ⊥) → r ≡ f (get_member name found) → r ≡ f (get_member name (put k d found))
+put_other : {R : Type 0} (f : Option Data → R) (name k : List ℕ) (d : Data) (found : Members) (r : R) → (name ≡ k → ⊥) → r ≡ f (get_member name found) → r ≡ f (get_member name (put k d found))
 put_other f name k d found r other e = e ∙ ap f (sym (get_member-put_other name k d found other))
+
+named : {R : Type 0} (says : Option Data → R) (m : Member) (name : List ℕ) (d : Data) (found : Members) (before : R) (b : Bool) → bytes_eq name (name_of m) ≡ b → before ≡ says (get_member (name_of m) found)
+    → where_named m says name d before ≡ says (get_member (name_of m) (put name d found))
+named says m name d found before true e h = rw e (put_here says (name_of m) name d found (says (Some d)) ((bytes_eq-Decides name (name_of m)).0 e) refl)
+named says m name d found before false e h = rw e (put_other says (name_of m) name d found before (λ q. apart name (name_of m) e (sym q)) h)
+
+-- one more member
+pub kept : {R : Type 0} (says : Option Data → R) (m : Member) (name : List ℕ) (d : Data) (found : Members) (before : R) → before ≡ says (get_member (name_of m) found)
+    → where_named m says name d before ≡ says (get_member (name_of m) (put name d found))
+kept says m name d found before h = named says m name d found before (bytes_eq name (name_of m)) refl h
+
+-- the walk, with one more member put into what was found
+pub members_put : {P : Type 0} (says : P → Members → Type 0) (more : P → List ℕ → Data → P) (before now : P) (depth : ℕ) (name : List ℕ) (start ts s new : List Token)
+    → ((found : Members) (d : Data) → says before found → says (more before name d) (put name d found))
+    → MembersWalk (says before) depth start ts → read_key ts ≡ Some (Some name, s) → ReadsAs now (more before name) (value_at depth s) new → length new < length s → MembersWalk (says now) depth start new
+members_put says more before now depth name start ts s new step =
+    members_turn (says before) (says now) (more before name) now depth name start ts s new (λ found d h e. subst (λ parts. says parts (put name d found)) e (step found d h))
 
 -- ---- items
 

@@ -14,3 +14,4 @@ pub mod UnitedLemmas
 pub mod FileLemmas
 mod HaltLemmas
 mod KeptLemmas
+mod PartsLemmas

@@ -8,3 +8,4 @@ pub mod Ranges
 pub mod Contents
 pub mod Halts
 pub mod Found
+pub mod Parts

@@ -1,5 +1,5 @@
 -- The one text of an interchange file (EIP-3076, JSON schema): compact JSON with its members in byte order.
-use Rattle.std.specs.Prelude.{ℕ, List, map, Option, Some, None, codes, decimal}
+use Rattle.std.specs.Prelude.{ℕ, List, ◌++◌, map, Option, Some, None, codes, decimal}
 use Rattle.edge_kit.specs.Texts.{hex_text}
 use Rattle.serde_json.specs.Data.{Data, string, array, object, Members, no_members, member}
 use Rattle.serde_json.specs.View.{items_of}
@@ -18,6 +18,11 @@ use Rattle.interchange_io.specs.WrittenOrder.{canonical}
 abbrev pub with_root : Option Root → Members → Members
 with_root None rest = rest
 with_root (Some root) rest = member (name_of members.SigningRoot) (string (hex_text root.0)) rest
+
+-- a block or a vote up to its first number
+abbrev pub opening_text : Option Root → List ℕ
+opening_text None = codes "{"
+opening_text (Some root) = codes "{\"signing_root\":" ++ compact_text (string (hex_text root.0)) ++ codes ","
 
 -- an element of `signed_blocks`
 abbrev pub block_data : BlockEntry → Data

@@ -5,6 +5,7 @@ ghost use Rattle.json_walk.specs.Walk.{value_at, items_at, members_at};
 ghost use Rattle.interchange_io.specs.Halts.{ReadsOrHalts};
 ghost use Rattle.interchange_io.specs.Reading.{book_in, united_in};
 ghost use Rattle.interchange_io.specs.Found.{book_from, books_at};
+ghost use Rattle.interchange_io.specs.Parts.{PutsOrHalts, book_with, no_book};
 
 use crate::entries::{read_block_list, read_vote_list};
 use crate::fault::ReadFault;
@@ -19,13 +20,29 @@ use json_walk::{Entered, enter_array, enter_object, skip};
 use slash_defs::{BlockEntry, Book, VoteEntry};
 use std::alloc::Global;
 
-fn book_of_parts(
+/// What was found of a key and its entries so far.
+#[derive(Drop)]
+struct BookParts {
     key: Result<PubKey, ReadFault>,
     blocks: Result<Items<BlockEntry>, ReadFault>,
     votes: Result<Items<VoteEntry>, ReadFault>,
-) -> Result<(PubKey, Book), ReadFault>
-    ensures { result ≡ book_from key blocks votes }
+}
+
+/// Nothing was found.
+fn no_book(alloc: Global) -> BookParts
+    ensures { result ≡ no_book }
 {
+    BookParts {
+        key: Err(ReadFault::Missing(Member::Pubkey)),
+        blocks: Ok(Items::new(alloc)),
+        votes: Ok(Items::new(alloc)),
+    }
+}
+
+fn book_of_parts(parts: BookParts) -> Result<(PubKey, Book), ReadFault>
+    ensures { result ≡ book_from parts.key parts.blocks parts.votes }
+{
+    let BookParts { key, blocks, votes } = parts;
     match key {
         Ok(key) => match blocks {
             Ok(blocks) => match votes {
@@ -38,6 +55,26 @@ fn book_of_parts(
     }
 }
 
+/// The next value, that of the member of this name.
+fn read_book_member(
+    alloc: Global,
+    reader: &mut Reader<'_>,
+    depth: usize,
+    name: &str,
+    parts: &mut BookParts,
+) -> Result<(), Halt>
+    ensures value { PutsOrHalts result parts.new (book_with parts.old name.now) (value_at depth reader.old) reader.new }
+    ensures shorter { OnOk result (length reader.new < length reader.old) }
+{
+    match name {
+        "pubkey" => parts.key = read_pubkey(reader, depth)?,
+        "signed_blocks" => parts.blocks = read_block_list(alloc, reader, depth)?,
+        "signed_attestations" => parts.votes = read_vote_list(alloc, reader, depth)?,
+        _ => skip(reader, depth)?,
+    }
+    Ok(())
+}
+
 fn read_book_members(
     alloc: Global,
     reader: &mut Reader<'_>,
@@ -46,23 +83,11 @@ fn read_book_members(
     ensures value { ReadsOrHalts result (λ ms. book_in (object ms)) (members_at depth reader.old) reader.new }
     ensures shorter { OnOk result (length reader.new < length reader.old) }
 {
-    let mut key = Err(ReadFault::Missing(Member::Pubkey));
-    let no_blocks = Items::new(alloc);
-    let no_votes = Items::new(alloc);
-    let mut block_list = Ok(no_blocks);
-    let mut vote_list = Ok(no_votes);
+    let mut parts = no_book(alloc);
     'members: while let Some(name) = reader.next_key()? {
-        if name == Member::Pubkey.name() {
-            key = read_pubkey(reader, depth)?;
-        } else if name == Member::SignedBlocks.name() {
-            block_list = read_block_list(alloc, reader, depth)?;
-        } else if name == Member::SignedAttestations.name() {
-            vote_list = read_vote_list(alloc, reader, depth)?;
-        } else {
-            skip(reader, depth)?;
-        }
+        read_book_member(alloc, reader, depth, name, &mut parts)?;
     }
-    Ok(book_of_parts(key, block_list, vote_list))
+    Ok(book_of_parts(parts))
 }
 
 fn read_book(

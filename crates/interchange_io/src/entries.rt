@@ -6,6 +6,7 @@ ghost use Rattle.interchange_io.specs.Halts.{ReadsOrHalts};
 ghost use Rattle.interchange_io.specs.Steps.{each};
 ghost use Rattle.interchange_io.specs.Reading.{block_in, vote_in};
 ghost use Rattle.interchange_io.specs.Found.{block_from, vote_from, blocks_at, votes_at};
+ghost use Rattle.interchange_io.specs.Parts.{Puts, block_with, vote_with};
 
 use crate::fault::ReadFault;
 use crate::halt::Halt;
@@ -18,12 +19,25 @@ use json_walk::{Entered, enter_array, enter_object, skip};
 use slash_defs::{BlockEntry, VoteEntry};
 use std::alloc::Global;
 
-fn block_of_parts(
+/// What was found of a block so far.
+#[derive(Drop)]
+struct BlockParts {
     slot: Result<u64, ReadFault>,
     root: Result<Option<Root>, ReadFault>,
-) -> Result<BlockEntry, ReadFault>
-    ensures { result ≡ block_from slot root }
+}
+
+/// What was found of a vote so far.
+#[derive(Drop)]
+struct VoteParts {
+    source: Result<u64, ReadFault>,
+    target: Result<u64, ReadFault>,
+    root: Result<Option<Root>, ReadFault>,
+}
+
+fn block_of_parts(parts: BlockParts) -> Result<BlockEntry, ReadFault>
+    ensures { result ≡ block_from parts.slot parts.root }
 {
+    let BlockParts { slot, root } = parts;
     match slot {
         Ok(slot) => match root {
             Ok(root) => Ok(BlockEntry { slot, root }),
@@ -33,13 +47,14 @@ fn block_of_parts(
     }
 }
 
-fn vote_of_parts(
-    source: Result<u64, ReadFault>,
-    target: Result<u64, ReadFault>,
-    root: Result<Option<Root>, ReadFault>,
-) -> Result<VoteEntry, ReadFault>
-    ensures { result ≡ vote_from source target root }
+fn vote_of_parts(parts: VoteParts) -> Result<VoteEntry, ReadFault>
+    ensures { result ≡ vote_from parts.source parts.target parts.root }
 {
+    let VoteParts {
+        source,
+        target,
+        root,
+    } = parts;
     match source {
         Ok(source) => match target {
             Ok(target) => match root {
@@ -56,6 +71,24 @@ fn vote_of_parts(
     }
 }
 
+/// The next value, that of a block's member of this name.
+fn read_block_member(
+    reader: &mut Reader<'_>,
+    depth: usize,
+    name: &str,
+    parts: &mut BlockParts,
+) -> Result<(), Invalid>
+    ensures value { Puts result parts.new (block_with parts.old name.now) (value_at depth reader.old) reader.new }
+    ensures shorter { OnOk result (length reader.new < length reader.old) }
+{
+    match name {
+        "slot" => parts.slot = read_number(reader, depth, Member::Slot)?,
+        "signing_root" => parts.root = read_signing_root(reader, depth)?,
+        _ => skip(reader, depth)?,
+    }
+    Ok(())
+}
+
 fn read_block_members(
     reader: &mut Reader<'_>,
     depth: usize,
@@ -63,18 +96,14 @@ fn read_block_members(
     ensures value { Reads result (λ ms. block_in (object ms)) (members_at depth reader.old) reader.new }
     ensures shorter { OnOk result (length reader.new < length reader.old) }
 {
-    let mut slot = Err(ReadFault::Missing(Member::Slot));
-    let mut root = Ok(None);
+    let mut parts = BlockParts {
+        slot: Err(ReadFault::Missing(Member::Slot)),
+        root: Ok(None),
+    };
     'members: while let Some(name) = reader.next_key()? {
-        if name == Member::Slot.name() {
-            slot = read_number(reader, depth, Member::Slot)?;
-        } else if name == Member::SigningRoot.name() {
-            root = read_signing_root(reader, depth)?;
-        } else {
-            skip(reader, depth)?;
-        }
+        read_block_member(reader, depth, name, &mut parts)?;
     }
-    Ok(block_of_parts(slot, root))
+    Ok(block_of_parts(parts))
 }
 
 fn read_block(
@@ -125,6 +154,25 @@ pub(crate) fn read_block_list(
     }
 }
 
+/// The next value, that of a vote's member of this name.
+fn read_vote_member(
+    reader: &mut Reader<'_>,
+    depth: usize,
+    name: &str,
+    parts: &mut VoteParts,
+) -> Result<(), Invalid>
+    ensures value { Puts result parts.new (vote_with parts.old name.now) (value_at depth reader.old) reader.new }
+    ensures shorter { OnOk result (length reader.new < length reader.old) }
+{
+    match name {
+        "source_epoch" => parts.source = read_number(reader, depth, Member::SourceEpoch)?,
+        "target_epoch" => parts.target = read_number(reader, depth, Member::TargetEpoch)?,
+        "signing_root" => parts.root = read_signing_root(reader, depth)?,
+        _ => skip(reader, depth)?,
+    }
+    Ok(())
+}
+
 fn read_vote_members(
     reader: &mut Reader<'_>,
     depth: usize,
@@ -132,21 +180,15 @@ fn read_vote_members(
     ensures value { Reads result (λ ms. vote_in (object ms)) (members_at depth reader.old) reader.new }
     ensures shorter { OnOk result (length reader.new < length reader.old) }
 {
-    let mut source = Err(ReadFault::Missing(Member::SourceEpoch));
-    let mut target = Err(ReadFault::Missing(Member::TargetEpoch));
-    let mut root = Ok(None);
+    let mut parts = VoteParts {
+        source: Err(ReadFault::Missing(Member::SourceEpoch)),
+        target: Err(ReadFault::Missing(Member::TargetEpoch)),
+        root: Ok(None),
+    };
     'members: while let Some(name) = reader.next_key()? {
-        if name == Member::SourceEpoch.name() {
-            source = read_number(reader, depth, Member::SourceEpoch)?;
-        } else if name == Member::TargetEpoch.name() {
-            target = read_number(reader, depth, Member::TargetEpoch)?;
-        } else if name == Member::SigningRoot.name() {
-            root = read_signing_root(reader, depth)?;
-        } else {
-            skip(reader, depth)?;
-        }
+        read_vote_member(reader, depth, name, &mut parts)?;
     }
-    Ok(vote_of_parts(source, target, root))
+    Ok(vote_of_parts(parts))
 }
 
 fn read_vote(reader: &mut Reader<'_>, depth: usize) -> Result<Result<VoteEntry, ReadFault>, Invalid>

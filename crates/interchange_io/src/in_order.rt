@@ -4,9 +4,9 @@ ghost use Rattle.interchange_io.specs.WrittenOrder.{canonical};
 
 use crate::sorted::{SortedBook, sorted_books};
 use edge_kit::{Items, PubKey};
-use slash_defs::{Book, File};
+use slash_defs::{BlockEntry, Book, File, VoteEntry};
 use std::alloc::{AllocError, Global};
-use std::collections::BTreeMap;
+use std::collections::{BTreeMap, BTreeSet};
 
 /// The file in the order in which it is written: its keys in byte order and each once, the entries of a key in
 /// file order, equal ones once.
@@ -43,10 +43,24 @@ fn plain_books(
 fn plain_book(alloc: Global, sorted: &SortedBook) -> Result<Book, AllocError>
     ensures { IfOk result (λ book. book ≡ sorted.now) }
 {
-    let blocks = sorted.blocks().iter().copied().collect(alloc)?;
-    let votes = sorted.votes().iter().copied().collect(alloc)?;
-    Ok(Book {
-        blocks: Items::from_vec(blocks),
-        votes: Items::from_vec(votes),
-    })
+    let blocks = plain_blocks(alloc, sorted.blocks())?;
+    let votes = plain_votes(alloc, sorted.votes())?;
+    Ok(Book { blocks, votes })
+}
+
+/// The blocks, in order.
+fn plain_blocks(
+    alloc: Global,
+    sorted: &BTreeSet<BlockEntry>,
+) -> Result<Items<BlockEntry>, AllocError>
+    ensures { IfOk result (λ blocks. blocks ≡ sorted.now.keys) }
+{
+    Ok(Items::from_vec(sorted.iter().copied().collect(alloc)?))
+}
+
+/// The votes, in order.
+fn plain_votes(alloc: Global, sorted: &BTreeSet<VoteEntry>) -> Result<Items<VoteEntry>, AllocError>
+    ensures { IfOk result (λ votes. votes ≡ sorted.now.keys) }
+{
+    Ok(Items::from_vec(sorted.iter().copied().collect(alloc)?))
 }

@@ -4,6 +4,7 @@ ghost use Rattle.serde_json.specs.Data.{object};
 ghost use Rattle.json_walk.specs.Walk.{value_at, members_at};
 ghost use Rattle.interchange_io.specs.Halts.{ReadsOrHalts};
 ghost use Rattle.interchange_io.specs.Found.{metadata_from, metadata_at};
+ghost use Rattle.interchange_io.specs.Parts.{PutsOrHalts, metadata_with};
 
 use crate::fault::ReadFault;
 use crate::halt::Halt;
@@ -14,16 +15,42 @@ use json::Reader;
 use json_walk::{Entered, enter_object, skip};
 use std::alloc::Global;
 
-fn metadata_of_parts(
+/// What was found of the metadata so far.
+#[derive(Drop)]
+struct MetadataParts {
     version: Result<(), ReadFault>,
     genesis: Result<Root, ReadFault>,
-) -> Result<Root, ReadFault>
-    ensures { result ≡ metadata_from version genesis }
+}
+
+fn metadata_of_parts(parts: MetadataParts) -> Result<Root, ReadFault>
+    ensures { result ≡ metadata_from parts.version parts.genesis }
 {
+    let MetadataParts { version, genesis } = parts;
     match version {
         Ok(()) => genesis,
         Err(fault) => Err(fault),
     }
+}
+
+/// The next value, that of the metadata's member of this name.
+fn read_metadata_member(
+    alloc: Global,
+    reader: &mut Reader<'_>,
+    depth: usize,
+    name: &str,
+    parts: &mut MetadataParts,
+) -> Result<(), Halt>
+    ensures value { PutsOrHalts result parts.new (metadata_with parts.old name.now) (value_at depth reader.old) reader.new }
+    ensures shorter { OnOk result (length reader.new < length reader.old) }
+{
+    match name {
+        "interchange_format_version" => parts.version = read_version(alloc, reader, depth)?,
+        "genesis_validators_root" => {
+            parts.genesis = read_root(reader, depth, Member::GenesisValidatorsRoot)?;
+        }
+        _ => skip(reader, depth)?,
+    }
+    Ok(())
 }
 
 fn read_metadata_members(
@@ -34,18 +61,14 @@ fn read_metadata_members(
     ensures value { ReadsOrHalts result (λ ms. metadata_at (Some (object ms))) (members_at depth reader.old) reader.new }
     ensures shorter { OnOk result (length reader.new < length reader.old) }
 {
-    let mut version = Err(ReadFault::Missing(Member::InterchangeFormatVersion));
-    let mut genesis = Err(ReadFault::Missing(Member::GenesisValidatorsRoot));
+    let mut parts = MetadataParts {
+        version: Err(ReadFault::Missing(Member::InterchangeFormatVersion)),
+        genesis: Err(ReadFault::Missing(Member::GenesisValidatorsRoot)),
+    };
     'members: while let Some(name) = reader.next_key()? {
-        if name == Member::InterchangeFormatVersion.name() {
-            version = read_version(alloc, reader, depth)?;
-        } else if name == Member::GenesisValidatorsRoot.name() {
-            genesis = read_root(reader, depth, Member::GenesisValidatorsRoot)?;
-        } else {
-            skip(reader, depth)?;
-        }
+        read_metadata_member(alloc, reader, depth, name, &mut parts)?;
     }
-    Ok(metadata_of_parts(version, genesis))
+    Ok(metadata_of_parts(parts))
 }
 
 /// The next value, the metadata, of which the genesis validators root is kept.

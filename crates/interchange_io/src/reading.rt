@@ -7,6 +7,7 @@ ghost use Rattle.interchange_io.specs.Halts.{ReadsOrHalts};
 ghost use Rattle.interchange_io.specs.Steps.{Gives};
 ghost use Rattle.interchange_io.specs.Reading.{file_in, of_data, of_text, file_of};
 ghost use Rattle.interchange_io.specs.Found.{file_from};
+ghost use Rattle.interchange_io.specs.Parts.{PutsOrHalts, file_with};
 
 use crate::books::read_data;
 use crate::fault::{ReadFault, Stop};
@@ -78,6 +79,32 @@ fn stop_of(file: Result<File, ReadFault>) -> Result<File, Stop>
     }
 }
 
+/// What was found of a file so far.
+#[derive(Drop)]
+struct FileParts {
+    metadata: Result<Root, ReadFault>,
+    books: Result<Items<(PubKey, Book)>, ReadFault>,
+}
+
+/// The next value, that of the file's member of this name.
+fn read_file_member(
+    alloc: Global,
+    reader: &mut Reader<'_>,
+    depth: usize,
+    name: &str,
+    parts: &mut FileParts,
+) -> Result<(), Halt>
+    ensures value { PutsOrHalts result parts.new (file_with parts.old name.now) (value_at depth reader.old) reader.new }
+    ensures shorter { OnOk result (length reader.new < length reader.old) }
+{
+    match name {
+        "metadata" => parts.metadata = read_metadata(alloc, reader, depth)?,
+        "data" => parts.books = read_data(alloc, reader, depth)?,
+        _ => skip(reader, depth)?,
+    }
+    Ok(())
+}
+
 fn read_file_members(
     alloc: Global,
     reader: &mut Reader<'_>,
@@ -86,18 +113,14 @@ fn read_file_members(
     ensures value { ReadsOrHalts result (λ ms. file_in (object ms)) (members_at depth reader.old) reader.new }
     ensures shorter { OnOk result (length reader.new < length reader.old) }
 {
-    let mut metadata = Err(ReadFault::Missing(Member::Metadata));
-    let mut books = Err(ReadFault::Missing(Member::Data));
+    let mut parts = FileParts {
+        metadata: Err(ReadFault::Missing(Member::Metadata)),
+        books: Err(ReadFault::Missing(Member::Data)),
+    };
     'members: while let Some(name) = reader.next_key()? {
-        if name == Member::Metadata.name() {
-            metadata = read_metadata(alloc, reader, depth)?;
-        } else if name == Member::Data.name() {
-            books = read_data(alloc, reader, depth)?;
-        } else {
-            skip(reader, depth)?;
-        }
+        read_file_member(alloc, reader, depth, name, &mut parts)?;
     }
-    Ok(file_of_parts(metadata, books))
+    Ok(file_of_parts(parts))
 }
 
 fn read_file(
@@ -115,12 +138,10 @@ fn read_file(
     }
 }
 
-fn file_of_parts(
-    metadata: Result<Root, ReadFault>,
-    books: Result<Items<(PubKey, Book)>, ReadFault>,
-) -> Result<File, ReadFault>
-    ensures { result ≡ file_from metadata books }
+fn file_of_parts(parts: FileParts) -> Result<File, ReadFault>
+    ensures { result ≡ file_from parts.metadata parts.books }
 {
+    let FileParts { metadata, books } = parts;
     match metadata {
         Ok(genesis) => match books {
             Ok(books) => Ok(File { genesis, books }),

@@ -1,17 +1,13 @@
-use Rattle.std.proofs.Common.{◌≡◌, Some, None, Err, refl, sym, ap, ◌∙◌, arith, rules}
-use Rattle.std.proofs.lemmas.Slice.Eq.{bytes_eq-Decides}
+use Rattle.std.proofs.Common.{◌≡◌, Some, None, Err, refl, sym, ◌∙◌, arith, rules}
 use Rattle.json.specs.Json.{read_key}
 use Rattle.serde_json.specs.Data.{object}
-use Rattle.serde_json.specs.Find.{get_member}
-use Rattle.json_walk.specs.Walk.{nothing_of}
-use Rattle.json_walk.proofs.WalkLemmas.{members_start, members_turn, members_stopped, members_no_name, members_done}
+use Rattle.json_walk.proofs.WalkLemmas.{members_start, members_stopped, members_no_name, members_done}
 use Rattle.interchange_io.specs.declared.halt.Halt.TheVariants as halt
-use Rattle.interchange_io.specs.declared.member.Member.TheVariants as member
-use Rattle.interchange_io.specs.Members.{name_of}
-use Rattle.interchange_io.specs.Found.{version_at, root_at, metadata_at, metadata_from}
 use Rattle.interchange_io.proofs.HaltLemmas.{Halts-map, Halts-Err}
-use Rattle.interchange_io.proofs.KeptLemmas.{apart, put_here, put_other}
-use Rattle.interchange_io.proofs.metadata.read_metadata_members.Invariants.{says}
+use Rattle.interchange_io.specs.Found.{metadata_at}
+use Rattle.interchange_io.specs.Parts.{metadata_with}
+use Rattle.interchange_io.proofs.KeptLemmas.{members_put}
+use Rattle.interchange_io.proofs.PartsLemmas.{metadata_says, metadata_more, metadata_done}
 use Rattle.interchange_io.proofs.metadata.read_metadata_members.Goals as goal
 
 pub members-init : goal.members-init
@@ -20,53 +16,22 @@ members-init c = members_start _ c.args.depth c.args.reader.now (refl, refl)
 pub returns-in_err-name-clause-value : goal.returns-in_err-name-clause-value
 returns-in_err-name-clause-value c =
     let same : c.from_residual.result ≡ Err halt.Json = search rules in
-    Halts-Err _ _ _ _ _ same (members_no_name (says c.members.version c.members.genesis) c.args.depth c.args.reader.now c.members.reader c.members.invariant c.in_err-name.ensures.value)
+    Halts-Err _ _ _ _ _ same (members_no_name (metadata_says c.members.parts) c.args.depth c.args.reader.now c.members.reader c.members.invariant c.in_err-name.ensures.value)
 
-pub returns-in_err-version-clause-value : goal.returns-in_err-version-clause-value
-returns-in_err-version-clause-value c =
+pub returns-in_err-read_metadata_member-clause-value : goal.returns-in_err-read_metadata_member-clause-value
+returns-in_err-read_metadata_member-clause-value c =
     let named : read_key c.members.reader ≡ Some (Some c.in-Some.name.now, c.next_key.new.self) = grind arith in
-    let same : c.from_residual-in_err-version.result ≡ Err c.in_err-version.field-0.0 = search rules in
-    Halts-Err _ _ _ _ _ same (Halts-map _ (members_stopped (says c.members.version c.members.genesis) c.args.depth c.in-Some.name.now c.args.reader.now c.members.reader c.next_key.new.self c.members.invariant named) c.in_err-version.ensures.value)
-
-pub members-preserved-then-eq : goal.members-preserved-then-eq
-members-preserved-then-eq c =
-    let named : read_key c.members.reader ≡ Some (Some c.in-Some.name.now, c.next_key.new.self) = grind arith in
-    let same : c.in-Some.name.now ≡ name_of member.InterchangeFormatVersion = (bytes_eq-Decides _ _).0 (sym c.eq.ensures ∙ c.if-eq.true) ∙ c.name.ensures in
-    members_turn (says c.members.version c.members.genesis) (says c.in_ok-version.version c.members.genesis) (λ d. version_at (Some d)) c.in_ok-version.version c.args.depth c.in-Some.name.now c.args.reader.now c.members.reader c.next_key.new.self c.read_version.new.reader
-    (λ found d h e. (put_here version_at (name_of member.InterchangeFormatVersion) c.in-Some.name.now d found c.in_ok-version.version same e, put_other (root_at member.GenesisValidatorsRoot) (name_of member.GenesisValidatorsRoot) c.in-Some.name.now d found c.members.genesis (λ q. apart (name_of member.GenesisValidatorsRoot) (name_of member.InterchangeFormatVersion) refl (q ∙ same)) h.1))
-    c.members.invariant named c.in_ok-version.ensures.value c.in_ok-version.ensures.shorter
-
-pub returns-in_err-genesis-clause-value : goal.returns-in_err-genesis-clause-value
-returns-in_err-genesis-clause-value c =
-    let named : read_key c.members.reader ≡ Some (Some c.in-Some.name.now, c.next_key.new.self) = grind arith in
-    let same : c.from_residual-in_err-genesis.result ≡ Err halt.Json = search rules in
-    Halts-Err _ _ _ _ _ same (members_stopped (says c.members.version c.members.genesis) c.args.depth c.in-Some.name.now c.args.reader.now c.members.reader c.next_key.new.self c.members.invariant named c.in_err-genesis.ensures.value)
-
-pub members-preserved-then-eq-2 : goal.members-preserved-then-eq-2
-members-preserved-then-eq-2 c =
-    let named : read_key c.members.reader ≡ Some (Some c.in-Some.name.now, c.next_key.new.self) = grind arith in
-    let same : c.in-Some.name.now ≡ name_of member.GenesisValidatorsRoot = (bytes_eq-Decides _ _).0 (sym c.eq-else-eq.ensures ∙ c.if-eq-2.true) ∙ c.name-else-eq.ensures in
-    members_turn (says c.members.version c.members.genesis) (says c.members.version c.in_ok-genesis.genesis) (λ d. root_at member.GenesisValidatorsRoot (Some d)) c.in_ok-genesis.genesis c.args.depth c.in-Some.name.now c.args.reader.now c.members.reader c.next_key.new.self c.read_root.new.reader
-    (λ found d h e. (put_other version_at (name_of member.InterchangeFormatVersion) c.in-Some.name.now d found c.members.version (λ q. apart (name_of member.InterchangeFormatVersion) (name_of member.GenesisValidatorsRoot) refl (q ∙ same)) h.0, put_here (root_at member.GenesisValidatorsRoot) (name_of member.GenesisValidatorsRoot) c.in-Some.name.now d found c.in_ok-genesis.genesis same e))
-    c.members.invariant named c.in_ok-genesis.ensures.value c.in_ok-genesis.ensures.shorter
-
-pub returns-in_err-skip-clause-value : goal.returns-in_err-skip-clause-value
-returns-in_err-skip-clause-value c =
-    let named : read_key c.members.reader ≡ Some (Some c.in-Some.name.now, c.next_key.new.self) = grind arith in
-    let same : c.from_residual-in_err-skip.result ≡ Err halt.Json = search rules in
-    Halts-Err _ _ _ _ _ same (members_stopped (says c.members.version c.members.genesis) c.args.depth c.in-Some.name.now c.args.reader.now c.members.reader c.next_key.new.self c.members.invariant named c.in_err-skip.ensures.value)
+    let same : c.from_residual-in_err-read_metadata_member.result ≡ Err c.in_err-read_metadata_member.field-0.0 = search rules in
+    Halts-Err _ _ _ _ _ same (Halts-map _ (members_stopped (metadata_says c.members.parts) c.args.depth c.in-Some.name.now c.args.reader.now c.members.reader c.next_key.new.self c.members.invariant named) c.in_err-read_metadata_member.ensures.value)
 
 pub members-preserved : goal.members-preserved
 members-preserved c =
     let named : read_key c.members.reader ≡ Some (Some c.in-Some.name.now, c.next_key.new.self) = grind arith in
-    let other-0 : c.in-Some.name.now ≡ name_of member.InterchangeFormatVersion → ⊥ = grind arith in
-    let other-1 : c.in-Some.name.now ≡ name_of member.GenesisValidatorsRoot → ⊥ = grind arith in
-    members_turn (says c.members.version c.members.genesis) (says c.members.version c.members.genesis) nothing_of tt c.args.depth c.in-Some.name.now c.args.reader.now c.members.reader c.next_key.new.self c.skip.new.reader
-    (λ found d h e. (put_other version_at (name_of member.InterchangeFormatVersion) c.in-Some.name.now d found c.members.version (λ q. other-0 (sym q)) h.0, put_other (root_at member.GenesisValidatorsRoot) (name_of member.GenesisValidatorsRoot) c.in-Some.name.now d found c.members.genesis (λ q. other-1 (sym q)) h.1))
-    c.members.invariant named c.in_ok-skip.ensures.value c.in_ok-skip.ensures.shorter
+    members_put metadata_says metadata_with c.members.parts c.read_metadata_member.new.parts c.args.depth c.in-Some.name.now c.args.reader.now c.members.reader c.next_key.new.self c.read_metadata_member.new.reader (metadata_more c.members.parts c.in-Some.name.now)
+    c.members.invariant named c.in_ok-read_metadata_member.ensures.value c.in_ok-read_metadata_member.ensures.shorter
 
 pub returns-clause-value : goal.returns-clause-value
 returns-clause-value c =
     let over : read_key c.members.reader ≡ Some (None, c.next_key.new.self) = grind arith in
-    members_done (says c.members.version c.members.genesis) (λ ms. metadata_at (Some (object ms))) c.metadata_of_parts.result c.args.depth c.args.reader.now c.members.reader c.next_key.new.self
-    (λ found h. ap (λ x. metadata_from x (root_at member.GenesisValidatorsRoot (get_member (name_of member.GenesisValidatorsRoot) found))) (sym h.0) ∙ ap (λ x. metadata_from c.members.version x) (sym h.1) ∙ sym c.metadata_of_parts.ensures) c.members.invariant over
+    members_done (metadata_says c.members.parts) (λ ms. metadata_at (Some (object ms))) c.metadata_of_parts.result c.args.depth c.args.reader.now c.members.reader c.next_key.new.self
+    (λ found h. metadata_done c.members.parts found h ∙ sym c.metadata_of_parts.ensures) c.members.invariant over

@@ -17,8 +17,8 @@ returns-in-Known-clause-machine g c = λ state stands.
       later_watched _ state _ _ _ _ _ c.args.now s s.watches refl refl c.max-self-inside.ensures,
     )
 
-pub returns-then-is_err-clause-machine : goal.returns-then-is_err-clause-machine
-returns-then-is_err-clause-machine g c = λ state stands.
+pub returns-in_default-reserve-clause-machine : goal.returns-in_default-reserve-clause-machine
+returns-in_default-reserve-clause-machine g c = λ state stands.
     let s = opened c.args.self.now _ state c.self.view_is stands in
     let at = some_at c.self.inside.books state.keys c.args.key c.in-Some.field-0.now s.keys (search rules) in (
       (is_some_of _ at.0 at.1, watchable c.state_of.result c.self.inside.states.entries state.states c.args.key c.state_of.ensures.value s.states c.in-Active.is),
