@@ -40,10 +40,29 @@ pub fn finish_close(desk: &mut NotedDesk, key: PubKey) -> &'static str {
 
 /// Has a vote from epoch 1 to epoch 2 granted, and settles the grant as sent.
 pub fn sign(desk: &mut NotedDesk, key: PubKey) -> &'static str {
+    vote(desk, key, 1, 2)
+}
+
+/// Has each of these keys sign that many votes: the first from epoch 0 to epoch 1, each further one an epoch later.
+pub fn vote_all(desk: &mut NotedDesk, keys: &[PubKey], count: u64) {
+    for key in keys {
+        vote_in_turn(desk, *key, count);
+    }
+}
+
+fn vote_in_turn(desk: &mut NotedDesk, key: PubKey, count: u64) {
+    for source in 0..count {
+        let _ = vote(desk, key, source, source.saturating_add(1));
+    }
+}
+
+/// Has a vote granted, and settles the grant as sent.
+fn vote(desk: &mut NotedDesk, key: PubKey, source: u64, target: u64) -> &'static str {
+    let root = root(10);
     let message = Message::Vote {
-        source: 1,
-        target: 2,
-        root: root(10),
+        source,
+        target,
+        root,
     };
     let now = 0;
     match desk.call(DeskCall::Propose { key, message, now }) {

@@ -15,6 +15,7 @@ const SETUP: &DutySetup = &DutySetup {
     fork: FORK,
     watch: false,
     slots: 1,
+    keep_epochs: None,
 };
 
 /// Casts three votes of a slot.

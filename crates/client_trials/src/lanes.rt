@@ -1,8 +1,9 @@
 //! Lanes, as a part of a line describes them. Its words, each of which may lack: `active=1,2` keys that are active at the
-//! desk, since `epoch=N`; `watches=1` where the desk watches keys; `lacks=1` keys that the signer lacks; `signer-fails=0,1`
-//! and `node-fails=0,1` the calls of the signer and of the node that fail; and `says` before the answers of the node.
+//! desk, since `epoch=N`; `voted=N` how many votes each of them signed, the first from epoch 0 to epoch 1; `watches=1`
+//! where the desk watches keys; `lacks=1` keys that the signer lacks; `signer-fails=0,1` and `node-fails=0,1` the calls of
+//! the signer and of the node that fail; and `says` before the answers of the node.
 use crate::answers::answers_in;
-use crate::desks::activate;
+use crate::desks::{activate, vote_all};
 use crate::words::{Unread, keys_in, number_in, numbers_in, root};
 use check_sign::{Desk, MOMENT_LIMIT};
 use duty_workers::Lane;
@@ -52,6 +53,7 @@ fn desk_of(alloc: Global, part: &str) -> Result<NotedDesk, Unread> {
     let watches = number_in(alloc, part, "watches")? == 1;
     let mut desk = desk_over(alloc, Vec::new(alloc), None, watches, epoch)?;
     activate_all(&mut desk, keys.as_slice(), epoch);
+    vote_all(&mut desk, keys.as_slice(), number_in(alloc, part, "voted")?);
     Ok(desk)
 }
 

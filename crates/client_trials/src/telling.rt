@@ -1,13 +1,13 @@
 //! What desks, nodes and lanes have come to, in words.
 use crate::desks::standings;
 use crate::lanes::{MemLane, NotedDesk};
-use crate::words::key;
+use crate::words::{key, root};
 use check_sign::{DeskEvent, Event};
 use edge_kit::hex_text;
 use node_calls::{Ask, MemNode, NodeCall, Post, PostCall};
 use node_fallback::Nodes;
 use std::alloc::{AllocError, Global};
-use test_texts::Noting;
+use test_texts::{Noting, kept_words};
 
 fn word(ask: &Ask) -> &'static str {
     match ask {
@@ -88,6 +88,14 @@ fn compactions(events: &[DeskEvent]) -> u64 {
         }
     }
     count
+}
+
+/// Writes what a desk's disks say of each key at the end, in words.
+pub fn write_kept(alloc: Global, text: &mut String, lane: MemLane) -> Result<(), AllocError> {
+    let (noted, _signer, _nodes) = lane.into_parts();
+    let Noting { desk, notes: _ } = noted;
+    let (disks, _) = desk.end();
+    text.push_str(kept_words(alloc, &disks, root(0))?.as_str())
 }
 
 /// Writes how many events a desk has, how many of them are compactions, and whether its second file is begun.

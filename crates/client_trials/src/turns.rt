@@ -1,19 +1,20 @@
 //! The subject `turns`: turns of the duty loop. The first part of a line has the words `start=N`, when the clock starts;
 //! `turns=N`, how many are taken; `watches=1` where keys are watched; `late=MOMENT,SECONDS`, the wait that is over
-//! late; and `joins=KEY`, the keys that become active after the first of two turns. The second part describes the
-//! loop's own desk and node, and each further part a lane. The chain began at second 1000.
+//! late; `keep=N` of how many epochs all is kept, all of it where that is absent; and `joins=KEY`, the keys that become
+//! active after the first of two turns. The second part describes the loop's own desk and node, and each further part a
+//! lane. The chain began at second 1000. Where not all is kept, what is kept at the loop's own desk is written.
 ghost use Rattle.std.specs.Prelude.{OnOk};
 ghost use Rattle.duty_work.specs.Houses.{IsHolding};
 
 use crate::answers::FORK;
 use crate::lanes::{MemLane, activate_all, lane_of};
-use crate::telling::write_lane;
+use crate::telling::{write_kept, write_lane};
 use crate::words::{Unread, keys_in, number_in, numbers_in, root};
 use duty_loop::{DutyEnd, Held, first_held, run_duties, take_turn};
 use duty_plans::DutySetup;
 use edge_clock::{Clock, Delay, MemClock};
 use edge_kit::{MemSink, PubKey};
-use std::alloc::Global;
+use std::alloc::{AllocError, Global};
 use std::sync::Wait;
 use std::thread::Threads;
 
@@ -43,12 +44,17 @@ fn course_of(alloc: Global, part: &str) -> Result<Course, Unread> {
     let slots = number_in(alloc, part, "turns")?;
     let clock = clock_of(alloc, part)?;
     let joining = keys_in(alloc, part, "joins")?;
+    let keep_epochs = match number_in(alloc, part, "keep")? {
+        0 => None,
+        epochs => Some(epochs),
+    };
     let setup = DutySetup {
         genesis: root(0),
         genesis_time: 1000,
         fork: FORK,
         watch,
         slots,
+        keep_epochs,
     };
     Ok(Course {
         setup,
@@ -159,6 +165,19 @@ fn write_turns<R: Threads + Wait + Sync>(
     Ok(write!(text, "{}ended {ended:?}\n", printed.as_str())?)
 }
 
+/// Writes what the loop's own desk and node have come to: where not all is kept, what is.
+fn write_own(
+    alloc: Global,
+    text: &mut String,
+    course: &Course,
+    own: MemLane,
+) -> Result<(), AllocError> {
+    if course.setup.keep_epochs.is_some() {
+        return write_kept(alloc, text, own);
+    }
+    write_lane(alloc, text, own)
+}
+
 /// Takes the turns over the loop's own desk and node and over lanes, and writes what comes of them.
 fn play_over<R: Threads + Wait + Sync>(
     rt: &R,
@@ -171,7 +190,7 @@ fn play_over<R: Threads + Wait + Sync>(
     let mut own = lane_of(alloc, own)?;
     let mut lanes = lanes_of(alloc, lanes)?;
     write_turns(rt, alloc, text, course, &mut own, lanes.as_mut_slice())?;
-    write_lane(alloc, text, own)?;
+    write_own(alloc, text, course, own)?;
     for lane in lanes {
         write_lane(alloc, text, lane)?;
     }

@@ -1,4 +1,5 @@
--- What the values of the options of `serve` write: where it listens, its token, when it ends, its lanes, and its nodes.
+-- What the values of the options of `serve` write: where it listens, its token, when it ends, its lanes, what it keeps, how
+-- long it waits for a node, and its nodes.
 use Rattle.std.specs.Prelude.{ℕ, ◌==◌, ◌&&◌, nat_le, nat_lt, Bool, List, [], ◌∷◌, length, Option, Some, None, is_some, option_map, filter_map, if◌then◌else◌, codes}
 use Rattle.std.specs.Char.{is_ascii_graphic}
 use Rattle.std.specs.List.{list_all, slice_split}
@@ -16,6 +17,9 @@ use Rattle.command_line.specs.declared.serve_options.DoorOptions.{DoorOptions}
 use Rattle.command_line.specs.declared.serve_options.EndOptions.{EndOptions}
 use Rattle.command_line.specs.declared.serve_options.ServeOptions.{ServeOptions}
 use Rattle.command_line.specs.declared.serve_options.SigningOptions.{SigningOptions}
+use Rattle.command_line.specs.declared.serve_options.WorkOptions.{WorkOptions}
+use Rattle.command_line.specs.declared.kept_epochs.KeptEpochs.{KeptEpochs}
+use Rattle.command_line.specs.declared.kept_epochs.KeptEpochs.TheVariants.{All, Last}
 
 -- the next reading, where this one gave a value
 infixl 10 ◌>>=◌
@@ -74,6 +78,21 @@ token_at text = if is_token text then Some text else None
 abbrev pub lanes_at : Text → Option ℕ
 lanes_at text = quoted_number text >>= between 1 64
 
+-- ---- the work
+
+-- of how many epochs all is kept: of all, or of a number of them, 2 or more, in decimal
+abbrev pub epochs_at : Text → Option KeptEpochs
+epochs_at text = if bytes_eq text (codes "all") then Some All else option_map Last (quoted_number text >>= between 2 18446744073709551615)
+
+-- the number of epochs; none where all are kept
+abbrev pub last_of : KeptEpochs → Option ℕ
+last_of All = None
+last_of (Last count) = Some count
+
+-- the seconds of a question to a node: 1 to 60, in decimal
+abbrev pub timeout_at : Text → Option ℕ
+timeout_at text = quoted_number text >>= between 1 60
+
 -- ---- the nodes
 
 -- a text is the address of a service
@@ -128,6 +147,21 @@ ends_in options = do
   lanes ← lanes_in options
   Some (record { slots = slots; connections = connections; lanes = lanes })
 
+-- the epochs that the value of `--keep-epochs` writes, or, where it is absent, the last 64
+abbrev pub keep_epochs_in : List Row → Option KeptEpochs
+keep_epochs_in options = option_map_or epochs_at (first_of (codes "keep-epochs") options) (Some (Last 64))
+
+-- the seconds that the value of `--timeout` writes, or, where it is absent, two
+abbrev pub timeout_in : List Row → Option ℕ
+timeout_in options = option_map_or timeout_at (first_of (codes "timeout") options) (Some 2)
+
+-- what it keeps of what was signed, and how long it waits for a node
+abbrev pub work_in : List Row → Option WorkOptions
+work_in options = do
+  keep_epochs ← keep_epochs_in options
+  timeout ← timeout_in options
+  Some (record { keep_epochs = keep_epochs; timeout = timeout })
+
 -- the nodes, in the order of the words
 abbrev pub nodes_in : List Row → Option (List Service)
 nodes_in options = all_of (codes "node") options >>= services_of
@@ -138,6 +172,7 @@ serve_options_in options = do
   signing ← signing_in options
   door ← door_in options
   ends ← ends_in options
+  work ← work_in options
   nodes ← nodes_in options
   Some (record {
     genesis = signing.genesis;
@@ -149,5 +184,7 @@ serve_options_in options = do
     slots = ends.slots;
     connections = ends.connections;
     lanes = ends.lanes;
+    keep_epochs = work.keep_epochs;
+    timeout = work.timeout;
     nodes = nodes;
   })

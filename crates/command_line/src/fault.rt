@@ -42,6 +42,12 @@ pub(crate) enum Fault<'a> {
     /// The lanes are out of form, none, or too many.
     #[error("error: invalid value '{0}' for '--lanes <N>': 1 to 64 in decimal is wanted")]
     Lanes(&'a str),
+    /// The epochs are neither all nor a number of two or more.
+    #[error("error: invalid value '{0}' for '--keep-epochs <N>': all, or a number in decimal of 2 or more is wanted")]
+    KeepEpochs(&'a str),
+    /// The seconds are out of form, none, or too many.
+    #[error("error: invalid value '{0}' for '--timeout <SECONDS>': 1 to 60 in decimal is wanted")]
+    Timeout(&'a str),
     /// A node's address is no address of a service.
     #[error("error: invalid value '{0}' for '<NODE>...': a URL of scheme http with a host is wanted, without user, password, query or fragment")]
     Node(&'a str),

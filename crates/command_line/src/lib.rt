@@ -3,8 +3,10 @@
 
 mod fault;
 mod fork_text;
+mod kept_epochs;
 mod lane_count;
 mod listen_address;
+mod node_timeout;
 mod options;
 mod path_text;
 mod planned;
@@ -14,8 +16,10 @@ mod serving;
 mod token_text;
 mod words;
 
+pub use kept_epochs::KeptEpochs;
 pub use lane_count::LaneCount;
 pub use listen_address::{ListenAddress, ListenHost};
+pub use node_timeout::NodeTimeout;
 pub use path_text::PathText;
 pub use planned::{Plan, ShownText, Usage};
 pub use rehearsal_size::RehearsalSize;

@@ -1,12 +1,14 @@
 //! The values of options, as `clap` found them.
 ghost use Rattle.std.specs.Prelude.{◌≡◌, ◌<◌, ◌≤◌, IfOk, IfSome, map, option_map};
 ghost use Rattle.clap.specs.Words.{all_of, first_of, found_of, rows_of};
-ghost use Rattle.command_line.specs.Serving.{lanes_in, limit_in, listen_in, signer_in, token_in};
+ghost use Rattle.command_line.specs.Serving.{keep_epochs_in, lanes_in, limit_in, listen_in, signer_in, timeout_in, token_in};
 ghost use Rattle.command_line.specs.Options.{clients_in, fork_in, genesis_in, journal_in, number_in, steps_in, watch_in};
 
 use crate::fork_text::read_fork;
+use crate::kept_epochs::KeptEpochs;
 use crate::lane_count::LaneCount;
 use crate::listen_address::{ListenAddress, read_listen};
+use crate::node_timeout::NodeTimeout;
 use crate::path_text::{PathText, read_path};
 use crate::token_text::{TokenText, read_token};
 use clap::ArgMatches;
@@ -73,7 +75,7 @@ pub(crate) fn number_of(options: &ArgMatches<'_>, id: &str) -> Option<u64>
     read_quoted(text)
 }
 
-/// How many clients a rehearsal is to have, if so many may be.
+/// How many clients a rehearsal is to have, if that many may be.
 pub(crate) fn clients_of(options: &ArgMatches<'_>) -> Option<u64>
     ensures clients { result ≡ clients_in (rows_of (found_of options.now)) }
     ensures some { IfSome result (λ n. 0 < n) }
@@ -87,7 +89,7 @@ pub(crate) fn clients_of(options: &ArgMatches<'_>) -> Option<u64>
     }
 }
 
-/// How many steps a rehearsal is to have, if so many may be.
+/// How many steps a rehearsal is to have, if that many may be.
 pub(crate) fn steps_of(options: &ArgMatches<'_>) -> Option<u64>
     ensures steps { result ≡ steps_in (rows_of (found_of options.now)) }
     ensures short { IfSome result (λ n. n ≤ 20000) }
@@ -147,5 +149,25 @@ pub(crate) fn lanes_of(options: &ArgMatches<'_>) -> Option<LaneCount>
     match text_of(options, "lanes") {
         Some(text) => LaneCount::read(text),
         None => Some(LaneCount::four()),
+    }
+}
+
+/// The value of `--keep-epochs`, if it has its form; where it is absent, the last 64.
+pub(crate) fn keep_epochs_of(options: &ArgMatches<'_>) -> Option<KeptEpochs>
+    ensures { result ≡ keep_epochs_in (rows_of (found_of options.now)) }
+{
+    match text_of(options, "keep-epochs") {
+        Some(text) => KeptEpochs::read(text),
+        None => Some(KeptEpochs::sixty_four()),
+    }
+}
+
+/// The value of `--timeout`, if it has its form; where it is absent, two seconds.
+pub(crate) fn timeout_of(options: &ArgMatches<'_>) -> Option<NodeTimeout>
+    ensures { result ≡ timeout_in (rows_of (found_of options.now)) }
+{
+    match text_of(options, "timeout") {
+        Some(text) => NodeTimeout::read(text),
+        None => Some(NodeTimeout::two()),
     }
 }

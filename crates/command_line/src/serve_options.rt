@@ -1,6 +1,8 @@
 //! The options of a server.
+use crate::kept_epochs::KeptEpochs;
 use crate::lane_count::LaneCount;
 use crate::listen_address::ListenAddress;
+use crate::node_timeout::NodeTimeout;
 use crate::path_text::PathText;
 use crate::token_text::TokenText;
 use edge_kit::{Items, Root};
@@ -28,6 +30,10 @@ pub struct ServeOptions {
     pub connections: u64,
     /// In how many lanes duties are done beside each other.
     pub lanes: LaneCount,
+    /// Of how many epochs before the one at hand everything that was signed is kept.
+    pub keep_epochs: KeptEpochs,
+    /// How long a question to a node may take.
+    pub timeout: NodeTimeout,
     /// The addresses of the beacon nodes, in the order of the words, at least one.
     pub nodes: Items<ServiceUrl>,
 }
@@ -44,6 +50,8 @@ impl fmt::Debug for ServeOptions {
             .field("slots", &self.slots)
             .field("connections", &self.connections)
             .field("lanes", &self.lanes)
+            .field("keep_epochs", &self.keep_epochs)
+            .field("timeout", &self.timeout)
             .field("nodes", &self.nodes.as_slice())
             .finish()
     }
@@ -70,4 +78,11 @@ pub(crate) struct EndOptions {
     pub(crate) slots: u64,
     pub(crate) connections: u64,
     pub(crate) lanes: LaneCount,
+}
+
+/// What a server keeps of what was signed, and how long it waits for a node.
+#[derive(Clone, Copy)]
+pub(crate) struct WorkOptions {
+    pub(crate) keep_epochs: KeptEpochs,
+    pub(crate) timeout: NodeTimeout,
 }

@@ -3,15 +3,15 @@ ghost use Rattle.std.specs.Prelude.{◌≡◌, IfOk, map};
 ghost use Rattle.std.specs.Result.{result_ok};
 ghost use Rattle.clap.specs.Words.{found_of, rows_of};
 ghost use Rattle.command_line.specs.Plans.{serve_in, taken_as};
-ghost use Rattle.command_line.specs.Serving.{door_in, ends_in, nodes_in, serve_options_in, services_of, signing_in};
+ghost use Rattle.command_line.specs.Serving.{door_in, ends_in, nodes_in, serve_options_in, services_of, signing_in, work_in};
 
 use crate::fault::{Fault, refused};
 use crate::options::{
-    genesis_of, journal_of, lanes_of, limit_of, listen_of, signer_of, text_of, texts_of, token_of,
-    watch_of,
+    genesis_of, journal_of, keep_epochs_of, lanes_of, limit_of, listen_of, signer_of, text_of,
+    texts_of, timeout_of, token_of, watch_of,
 };
 use crate::planned::{Plan, Usage};
-use crate::serve_options::{DoorOptions, EndOptions, ServeOptions, SigningOptions};
+use crate::serve_options::{DoorOptions, EndOptions, ServeOptions, SigningOptions, WorkOptions};
 use clap::ArgMatches;
 use edge_kit::Items;
 use service_url::ServiceUrl;
@@ -49,6 +49,10 @@ fn read_options<'a>(
         Ok(ends) => ends,
         Err(fault) => return Ok(Err(fault)),
     };
+    let work = match read_work(options) {
+        Ok(work) => work,
+        Err(fault) => return Ok(Err(fault)),
+    };
     let nodes = match read_nodes(alloc, options)? {
         Ok(nodes) => nodes,
         Err(fault) => return Ok(Err(fault)),
@@ -63,6 +67,8 @@ fn read_options<'a>(
         slots: ends.slots,
         connections: ends.connections,
         lanes: ends.lanes,
+        keep_epochs: work.keep_epochs,
+        timeout: work.timeout,
         nodes,
     }))
 }
@@ -123,6 +129,22 @@ fn read_ends<'a>(options: &ArgMatches<'a>) -> Result<EndOptions, Fault<'a>>
         slots,
         connections,
         lanes,
+    })
+}
+
+/// What a server keeps of what was signed, and how long it waits for a node.
+fn read_work<'a>(options: &ArgMatches<'a>) -> Result<WorkOptions, Fault<'a>>
+    ensures { result_ok result ≡ work_in (rows_of (found_of options.now)) }
+{
+    let Some(keep_epochs) = keep_epochs_of(options) else {
+        return Err(Fault::KeepEpochs(value_of(options, "keep-epochs")));
+    };
+    let Some(timeout) = timeout_of(options) else {
+        return Err(Fault::Timeout(value_of(options, "timeout")));
+    };
+    Ok(WorkOptions {
+        keep_epochs,
+        timeout,
     })
 }
 

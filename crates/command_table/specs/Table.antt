@@ -56,9 +56,13 @@ door_rules = option_rule (codes "listen") true ∷ option_rule (codes "token") t
 abbrev pub end_rules : List Rule
 end_rules = watch_rule ∷ option_rule (codes "slots") false ∷ option_rule (codes "connections") false ∷ option_rule (codes "lanes") false ∷ []
 
+-- what it keeps of what was signed, and how long it waits for a node
+abbrev pub work_rules : List Rule
+work_rules = option_rule (codes "keep-epochs") false ∷ option_rule (codes "timeout") false ∷ []
+
 -- the command `serve` with its options, and its nodes last
 abbrev pub serve_shape : Shape
-serve_shape = (fold with_rule (new_app (codes "serve")) (signing_rules true ++ door_rules ++ end_rules ++ nodes_rule ∷ [])).top
+serve_shape = (fold with_rule (new_app (codes "serve")) (signing_rules true ++ door_rules ++ end_rules ++ work_rules ++ nodes_rule ∷ [])).top
 
 -- a command over a journal that there is
 abbrev pub journal_shape : Text → Shape

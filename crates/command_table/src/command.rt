@@ -44,6 +44,11 @@ Options of serve:
           [default: no end]
       --lanes <N>
           How many duties are done beside each other, 1 to 64 [default: 4]
+      --keep-epochs <N>
+          Of how many epochs before the one at hand everything signed is kept, 2 or more, or all
+          [default: 64]
+      --timeout <SECONDS>
+          How long a question to a beacon node may take, 1 to 60 [default: 2]
       <NODE>...
           Beacon nodes, as http://127.0.0.1:5052, one or more, behind the options [required]
 
@@ -76,7 +81,7 @@ const SESSION: [Row; 5] = [
 ];
 
 /// The options of `serve`, and its nodes last.
-const SERVE: [Row; 10] = [
+const SERVE: [Row; 12] = [
     Row::Genesis,
     Row::Choice {
         id: "journal",
@@ -119,6 +124,18 @@ const SERVE: [Row; 10] = [
         id: "lanes",
         name: "N",
         about: "How many duties are done beside each other, 1 to 64 [default: 4]",
+        is_required: false,
+    },
+    Row::Choice {
+        id: "keep-epochs",
+        name: "N",
+        about: "Of how many epochs before the one at hand everything signed{n}is kept, 2 or more, or all [default: 64]",
+        is_required: false,
+    },
+    Row::Choice {
+        id: "timeout",
+        name: "SECONDS",
+        about: "How long a question to a beacon node may take, 1 to 60 [default: 2]",
         is_required: false,
     },
     Row::Nodes,

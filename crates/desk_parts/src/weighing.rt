@@ -1,4 +1,4 @@
-//! What a compaction would leave at most, told by counts alone.
+//! What a compaction would leave at most, by counts alone.
 ghost use Rattle.std.specs.Prelude.{◌≡◌, ◌-◌, ◌^◌, min};
 ghost use Rattle.key_snapshot.specs.Weights.{key_weight};
 ghost use Rattle.desk_parts.specs.Weights.{desk_weight};
@@ -31,10 +31,10 @@ pub fn weigh(books: &Books) -> u64
 }
 
 /// The weight of a key's record, or 2^64 - 1 where that is less.
-fn weigh_record(record: &Record) -> u64
-    ensures { result ≡ min (2 ^ 64 - 1) (key_weight record.now) }
+fn weigh_record(of_key: &Record) -> u64
+    ensures { result ≡ min (2 ^ 64 - 1) (key_weight of_key.now) }
 {
-    let blocks = BLOCK.saturating_mul(record.block_count() as u64);
-    let votes = VOTE.saturating_mul(record.vote_count() as u64);
+    let blocks = BLOCK.saturating_mul(of_key.block_count() as u64);
+    let votes = VOTE.saturating_mul(of_key.vote_count() as u64);
     KEY.saturating_add(blocks).saturating_add(votes)
 }

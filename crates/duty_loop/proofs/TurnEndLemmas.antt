@@ -2,6 +2,8 @@
 use Rattle.std.proofs.Common.{◌≡◌, ℕ, zero, suc, true, false, List, [], ◌∷◌, ◌++◌, length, Option, Some, None, Result, Ok, Err, refl}
 use Rattle.std.specs.Prelude.{nat_lt}
 use Rattle.edge_kit.specs.declared.bytes.PubKey.{PubKey}
+use Rattle.slash_defs.specs.declared.book.Book.{Book}
+use Rattle.slash_defs.specs.declared.book.File.{File}
 use Rattle.desk_machine.specs.declared.call.DeskCall.TheVariants as call
 use Rattle.desk_machine.specs.declared.call.DeskReply.{DeskReply}
 use Rattle.desk_machine.specs.declared.call.DeskReply.TheVariants as reply
@@ -14,9 +16,10 @@ use Rattle.duty_turns.specs.declared.held.DutyEnd.{DutyEnd}
 use Rattle.duty_turns.specs.declared.held.DutyEnd.TheVariants as end
 use Rattle.duty_turns.specs.Lines.{duty_lines}
 use Rattle.duty_turns.specs.Standing.{Standing}
-use Rattle.duty_turns.specs.Times.{is_first_slot, next_slot, slot_of, slot_start, votes_start}
+use Rattle.duty_pruning.specs.Pruning.{pruning_file}
+use Rattle.duty_turns.specs.Times.{epoch_of, is_first_slot, next_slot, slot_of, slot_start, votes_start}
 use Rattle.duty_turns.specs.TurnSteps.{TurnPlan, TurnReply, TurnStep, Fits, Own, Owned, Writes, Wrote}
-use Rattle.duty_turns.specs.Turns.{Next, NextPlan, active_of, asked_plan, at_slot, blocks_in, calls, close_plan, closed_plan, compacted, due_plan, failed_plan, listed_plan, next_turn, own_reply, ready_plan, refreshes, refreshes_lanes, shortens, size_limit, sized, turn_plan, turns_plan, votes_in, votes_plan, waits, with_active, woken_plan, work_of, works}
+use Rattle.duty_turns.specs.Turns.{Next, NextPlan, active_of, asked_plan, at_slot, blocks_in, calls, close_plan, closed_plan, due_plan, exported, exports, failed_plan, keys_of_turn, merges, listed_plan, next_turn, own_reply, prunes, ready_plan, refreshes, refreshes_lanes, is_worth_compacting, shortens, sized, turn_plan, turns_plan, unless_short, votes_in, votes_plan, waits, with_active, woken_plan, work_of, works}
 use Rattle.duty_loop.proofs.GivesLemmas.{Always, Gives, Said, calls_always, gives_ask, gives_bind, gives_done, if_always, looks_up_always, refreshes_always, refreshes_lanes_always, stop_always, waits_always, works_always}
 use Rattle.duty_loop.proofs.PartLemmas.{EndInCut, WhyNone, asked_part}
 
@@ -44,27 +47,46 @@ failed_turn front s (Owned (Replies (reply.HasFailed true))) =
     gives_done (Why Standing) (front ++ (Own (Calls call.HasFailed), Owned (Replies (reply.HasFailed true))) ∷ []) (Err end.Disk) (front, refl)
 failed_turn front s r = gives_done (Why Standing) (front ++ (Own (Calls call.HasFailed), r) ∷ []) (Ok s) tt
 
-closed_turn : (front : List TurnStep) (text : List ℕ) (s : Standing) (r : TurnReply) → Fits (Writes text) r → Gives (Why Standing) (front ++ (Writes text, r) ∷ []) (closed_plan s r)
-closed_turn front text s (Wrote true piece) fit =
-    let behind : List TurnStep = front ++ (Writes text, Wrote true piece) ∷ [] in
-    gives_ask (Why Standing) behind (Own (Calls call.HasFailed)) (λ r. failed_plan s (own_reply r)) (λ r fit. failed_turn behind s r)
-closed_turn front text s (Wrote false piece) fit = gives_done (Why Standing) (front ++ (Writes text, Wrote false piece) ∷ []) (Err end.Write) (front, text, piece, refl)
-closed_turn front text s r fit = absurd fit
+unless_short_turn : (p : NextPlan) → IsTurn p → (r : DeskReply) → IsTurn (unless_short r p)
+unless_short_turn p h reply.OutOfMemory = stop_always (Why Standing)
+unless_short_turn p h r = h
 
-close_turn : (slot : ℕ) (ds : List Duty) (results : List DutyResult) (s : Standing) → IsTurn (close_plan slot ds results s)
-close_turn slot ds results s front =
+merges_turn : (file : File) (books : List (PubKey × Book)) (p : NextPlan) → IsTurn p → IsTurn (merges file books p)
+merges_turn file [] p h = h
+merges_turn file (b ∷ books) p h = calls_always (Why Standing) (call.Merge file) (λ r. unless_short r p) (unless_short_turn p h)
+
+exported_turn : (keep epoch : ℕ) (p : NextPlan) → IsTurn p → (r : DeskReply) → IsTurn (exported keep epoch r p)
+exported_turn keep epoch p h (reply.Exported file) = merges_turn (pruning_file keep epoch file) (pruning_file keep epoch file).books p h
+exported_turn keep epoch p h r = unless_short_turn p h r
+
+exports_turn : (keep epoch : ℕ) (keys : List PubKey) (p : NextPlan) → IsTurn p → IsTurn (exports keep epoch keys p)
+exports_turn keep epoch [] p h = h
+exports_turn keep epoch (key ∷ keys) p h = calls_always (Why Standing) (call.Export (key ∷ keys)) (λ r. exported keep epoch r p) (exported_turn keep epoch p h)
+
+prunes_turn : (keep_epochs : Option ℕ) (slot : ℕ) (active : Option (List PubKey)) (p : NextPlan) → IsTurn p → IsTurn (prunes keep_epochs slot active p)
+prunes_turn None slot active p h = h
+prunes_turn (Some keep) slot None p h = h
+prunes_turn (Some keep) slot (Some active) p h = exports_turn keep (epoch_of slot) (keys_of_turn slot active) p h
+
+asks_failed_turn : (s : Standing) → IsTurn (calls call.HasFailed (failed_plan s))
+asks_failed_turn s front = gives_ask (Why Standing) front (Own (Calls call.HasFailed)) (λ r. failed_plan s (own_reply r)) (λ r fit. failed_turn front s r)
+
+closed_turn : (setup : DutySetup) (slot : ℕ) (front : List TurnStep) (text : List ℕ) (s : Standing) (r : TurnReply) → Fits (Writes text) r → Gives (Why Standing) (front ++ (Writes text, r) ∷ []) (closed_plan setup slot s r)
+closed_turn setup slot front text s (Wrote true piece) fit =
+    prunes_turn setup.keep_epochs slot s.active (calls call.HasFailed (failed_plan s)) (asks_failed_turn s) (front ++ (Writes text, Wrote true piece) ∷ [])
+closed_turn setup slot front text s (Wrote false piece) fit = gives_done (Why Standing) (front ++ (Writes text, Wrote false piece) ∷ []) (Err end.Write) (front, text, piece, refl)
+closed_turn setup slot front text s r fit = absurd fit
+
+close_turn : (setup : DutySetup) (slot : ℕ) (ds : List Duty) (results : List DutyResult) (s : Standing) → IsTurn (close_plan setup slot ds results s)
+close_turn setup slot ds results s front =
     let text = duty_lines slot ds results in
-    gives_ask (Why Standing) front (Writes text) (closed_plan s) (closed_turn front text s)
+    gives_ask (Why Standing) front (Writes text) (closed_plan setup slot s) (closed_turn setup slot front text s)
 
 -- ---- what stands between
 
-compacted_turn : (p : NextPlan) → IsTurn p → (r : DeskReply) → IsTurn (compacted r p)
-compacted_turn p h reply.OutOfMemory = stop_always (Why Standing)
-compacted_turn p h r = h
-
 sized_turn : (p : NextPlan) → IsTurn p → (r : DeskReply) → IsTurn (sized r p)
 sized_turn p h (reply.Size size weight) =
-    if_always (Why Standing) (nat_lt size_limit size) (calls call.Compact (λ r. compacted r p)) p (calls_always (Why Standing) call.Compact (λ r. compacted r p) (compacted_turn p h)) h
+    if_always (Why Standing) (is_worth_compacting size weight) (calls call.Compact (λ r. unless_short r p)) p (calls_always (Why Standing) call.Compact (λ r. unless_short r p) (unless_short_turn p h)) h
 sized_turn p h r = stop_always (Why Standing)
 
 shortens_turn : (s : Standing) (p : NextPlan) → IsTurn p → IsTurn (shortens s p)
@@ -77,10 +99,10 @@ votes_turn setup s ds proposed reached =
     let now = slot_of setup.genesis_time reached in
     let place = length (blocks_in ds) in
     let all : List Duty = blocks_in ds ++ votes_in ds in
-    let behind : List DutyResult → NextPlan = λ cast. close_plan s.slot all (proposed ++ cast) (at_slot (next_slot s.slot) s) in
-    if_always (Why Standing) (nat_lt s.slot now) (close_plan s.slot (blocks_in ds) proposed (at_slot now s)) (works (work_of setup s) place (votes_in ds) behind)
-    (close_turn s.slot (blocks_in ds) proposed (at_slot now s))
-    (works_always (Why Standing) (work_of setup s) place (votes_in ds) behind (λ cast. close_turn s.slot all (proposed ++ cast) (at_slot (next_slot s.slot) s)))
+    let behind : List DutyResult → NextPlan = λ cast. close_plan setup s.slot all (proposed ++ cast) (at_slot (next_slot s.slot) s) in
+    if_always (Why Standing) (nat_lt s.slot now) (close_plan setup s.slot (blocks_in ds) proposed (at_slot now s)) (works (work_of setup s) place (votes_in ds) behind)
+    (close_turn setup s.slot (blocks_in ds) proposed (at_slot now s))
+    (works_always (Why Standing) (work_of setup s) place (votes_in ds) behind (λ cast. close_turn setup s.slot all (proposed ++ cast) (at_slot (next_slot s.slot) s)))
 
 due_turn : (setup : DutySetup) (s : Standing) (ds : List Duty) → IsTurn (due_plan setup s ds)
 due_turn setup s ds =
@@ -105,8 +127,8 @@ woken_turn setup s reached =
     let now = slot_of setup.genesis_time reached in
     let keys = calls call.Keys (listed_plan setup s) in
     let part = shortens s keys in
-    if_always (Why Standing) (nat_lt s.slot now) (close_plan s.slot [] [] (at_slot now s)) (refreshes (refreshes_lanes part))
-    (close_turn s.slot [] [] (at_slot now s))
+    if_always (Why Standing) (nat_lt s.slot now) (close_plan setup s.slot [] [] (at_slot now s)) (refreshes (refreshes_lanes part))
+    (close_turn setup s.slot [] [] (at_slot now s))
     (refreshes_always (Why Standing) (refreshes_lanes part) (refreshes_lanes_always (Why Standing) part
     (shortens_turn s keys (calls_always (Why Standing) call.Keys (listed_plan setup s) (listed_turn setup s)))))
 

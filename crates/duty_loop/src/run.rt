@@ -25,7 +25,7 @@ use std::collections::BTreeMap;
 use std::sync::Wait;
 use std::thread::Threads;
 
-/// Takes the turns of a duty loop, so many as the setup says, beginning at the clock's slot: in each the nodes are
+/// Takes the turns of a duty loop, as many as the setup says, beginning at the clock's slot: in each the nodes are
 /// asked what is due for the desk's active keys, and that is done in the lanes, each duty under a grant of its lane's
 /// desk. What became of each is a line of the output. A slot whose time is over when its turn comes is passed over.
 ///

@@ -9,15 +9,15 @@ ghost use Rattle.duty_turns.specs.Standing.{Standing};
 ghost use Rattle.duty_turns.specs.Turns.{NextPlan, calls, duties_plan, listed_plan, ready_plan, renewed_plan, shortens, sized, then_on, turn_plan, watch_plan, woken_plan};
 ghost use Rattle.duty_turns.specs.TurnSteps.{SinkSeen, sink_seen};
 ghost use Rattle.duty_asks.specs.Placed.{HoldsPlaced};
-ghost use Rattle.duty_work.specs.Houses.{IsHolding, PartTurns, Turns, end_of, house};
-ghost use Rattle.duty_loop.specs.Shortening.{IsCompaction, ShortenedOn, compacted_by};
+ghost use Rattle.duty_work.specs.Houses.{CalledOn, IsHolding, PartTurns, Turns, end_of, house, short_by};
+ghost use Rattle.duty_loop.specs.Shortening.{IsCompaction};
 
 use crate::keys::active_of;
 use crate::watch::watch;
 use desk_machine::{DeskCall, DeskCalls, DeskReply, KeyStanding};
 use duty_asks::{Stop, ask_duties};
 use duty_plans::DutySetup;
-use duty_turns::{DutyEnd, Held, is_first_slot, slot_of, slot_start};
+use duty_turns::{DutyEnd, Held, is_first_slot, is_worth_compacting, slot_of, slot_start};
 use duty_work::{close, do_due};
 use duty_workers::{Lane, refresh_lanes};
 use edge_clock::Clock;
@@ -29,15 +29,15 @@ use std::alloc::{AllocError, Global};
 use std::sync::Wait;
 use std::thread::Threads;
 
-/// How many bytes a journal may have without being compacted at an epoch's first slot.
-const SIZE_LIMIT: u64 = 1_073_741_824;
-
 /// Takes one turn: waits for the start of the held slot, asks the nodes what is due for the desk's active keys, and
 /// has it done in the lanes, blocks at once and votes a third into the slot (consensus-specs, `SECONDS_PER_SLOT`,
 /// `INTERVALS_PER_SLOT`). What became of each duty is a line of the output, which is written behind the last of them.
 /// Then the next turn is the next slot's. Where a wait is over in a later slot, the duties that are left are dropped,
-/// and the next turn is that slot's. At an epoch's first slot, before the desk is asked for its keys, a journal of more
-/// than 1,073,741,824 bytes is compacted; whatever the desk replies, the turn goes on, but for want of memory.
+/// and the next turn is that slot's. At an epoch's first slot, before the desk is asked for its keys, a journal is compacted
+/// that has 67,108,864 bytes at least, half of which or more that frees, or more than 1,073,741,824, of which it frees a
+/// quarter or more. Behind the lines, where not all is kept, the desk is asked to export a part of the active keys, which
+/// in 32 slots come each once, and a file is merged by which it forgets what is old of them, if there is anything.
+/// Whatever the desk replies, the turn goes on, but for want of memory.
 ///
 /// A lane does duties with a desk, a signing service and nodes of its own, beside the others. The duties of a slot have
 /// places, its blocks and then its votes, from 0 on; the one at a place goes to the lane that the place is modulo the
@@ -118,7 +118,7 @@ fn begin<
     let later = slot_of(setup.genesis_time, reached);
     if slot < later {
         held.slot = later;
-        return close(alloc, slot, &[], &[], desk, out);
+        return close(alloc, setup, slot, &[], &[], held, desk, out);
     }
     let Ok(()) = nodes.refresh() else {
         return Err(DutyEnd::OutOfMemory);
@@ -168,37 +168,37 @@ fn shorten<
 fn compact_grown<K: DeskCalls>(slot: u64, desk: &mut K) -> Result<(), AllocError>
     requires ready { K.ready desk.old }
     ensures ready { K.ready desk.new }
-    ensures shortened { (start : Option ℕ) (lanes : List (Seat K)) (nodes : List Seen) (out : SinkSeen) (s : Standing) (next : NextPlan) → slot ≡ s.slot → ShortenedOn K.leads start (shortens s next) next
+    ensures called { (start : Option ℕ) (lanes : List (Seat K)) (nodes : List Seen) (out : SinkSeen) (s : Standing) (next : NextPlan) → slot ≡ s.slot → CalledOn K.leads start (shortens s next) next
         (house desk.old lanes nodes out) (house desk.new lanes nodes out) result }
 {
     if !is_first_slot(slot) {
         return Ok(());
     }
     match desk.call(DeskCall::Size) {
-        DeskReply::Size { size, weight } => compact_above(size, weight, desk),
+        DeskReply::Size { size, weight } => compact_worth(size, weight, desk),
         _ => unreachable!(),
     }
 }
 
-/// Has a journal of so many bytes compacted, if that is more than the limit. Whatever the desk replies, the turn goes
-/// on, but for want of memory.
-fn compact_above<K: DeskCalls>(size: u64, _weight: u64, desk: &mut K) -> Result<(), AllocError>
+/// Has a journal of that many bytes compacted, if that is worth it. Whatever the desk replies, the turn goes on, but for
+/// want of memory.
+fn compact_worth<K: DeskCalls>(size: u64, weight: u64, desk: &mut K) -> Result<(), AllocError>
     requires ready { K.ready desk.old }
     ensures ready { K.ready desk.new }
-    ensures shortened { (start : Option ℕ) (lanes : List (Seat K)) (nodes : List Seen) (out : SinkSeen) (next : NextPlan) → ShortenedOn K.leads start (sized (reply.Size size _weight) next) next
+    ensures called { (start : Option ℕ) (lanes : List (Seat K)) (nodes : List Seen) (out : SinkSeen) (next : NextPlan) → CalledOn K.leads start (sized (reply.Size size weight) next) next
         (house desk.old lanes nodes out) (house desk.new lanes nodes out) result }
 {
-    if size <= SIZE_LIMIT {
+    if !is_worth_compacting(size, weight) {
         return Ok(());
     }
     let reply = desk.call(DeskCall::Compact);
-    compacted_by(reply)
+    short_by(reply)
 }
 
 /// Whether memory ran out at a compaction. A disk that failed is asked for at the turn's end.
-fn compacted_by(reply: DeskReply) -> Result<(), AllocError>
+fn short_by(reply: DeskReply) -> Result<(), AllocError>
     requires { IsCompaction reply }
-    ensures { result ≡ compacted_by reply }
+    ensures { result ≡ short_by reply }
 {
     match reply {
         DeskReply::Compacted {

@@ -15,4 +15,7 @@ pub struct DutySetup {
     pub watch: bool,
     /// How many turns are taken, one for each slot that is reached.
     pub slots: u64,
+    /// Of how many epochs before the one of a turn all is kept that a key signed; of what is older the newest stands
+    /// for the rest. `None`: all is kept.
+    pub keep_epochs: Option<u64>,
 }

@@ -5,3 +5,4 @@ pub mod KeepLemmas
 pub mod AskedLemmas
 pub mod TurnLemmas
 pub mod ToldLemmas
+pub mod MergeLemmas

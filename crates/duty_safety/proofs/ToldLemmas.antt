@@ -25,7 +25,7 @@ use Rattle.duty_turns.specs.Lines.{duty_lines}
 use Rattle.duty_turns.specs.Standing.{Standing}
 use Rattle.duty_turns.specs.Times.{is_first_slot, next_slot, slot_start, votes_start}
 use Rattle.duty_turns.specs.TurnSteps.{Fits, TurnCall, TurnPlan, TurnReply, TurnStep, LooksUp, Own, Refreshes, RefreshesLanes, Waits, Works, Writes, Due, Refreshed, LanesRefreshed, Woke, Worked, Wrote}
-use Rattle.duty_turns.specs.Turns.{Next, NextPlan, active_of, asked_plan, at_slot, blocks_in, calls, close_plan, compacted, lanes_refreshed, own_reply, refreshed, refreshes, refreshes_lanes, shortens, size_limit, sized, votes_in, waits, with_active, woken, work_of, works}
+use Rattle.duty_turns.specs.Turns.{Next, NextPlan, active_of, asked_plan, at_slot, blocks_in, calls, close_plan, lanes_refreshed, own_reply, refreshed, refreshes, refreshes_lanes, is_worth_compacting, shortens, sized, unless_short, votes_in, waits, with_active, woken, work_of, works}
 use Rattle.duty_safety.specs.OnTime.{AllWaits, IsWait, Wait, cast_plan, done_plan, listed_on_time, on_time_turn, ready_on_time}
 use Rattle.duty_safety.specs.Told.{AllDone, AllTold, EachDoneIn, ToldIfNext}
 use Rattle.duty_safety.proofs.AskedLemmas.{At, asked_stays}
@@ -62,13 +62,13 @@ not_next : (steps : List TurnStep) (t : Standing) → Follows Fits (Done (Err en
 not_next [] t h = cc
 not_next (s ∷ steps) t h = h
 
-close_so : (slot : ℕ) (ds : List Duty) (results : List DutyResult) (s : Standing) (steps : List TurnStep) (t : Standing) → Follows Fits (close_plan slot ds results s) steps (Some (Ok t))
+close_so : (setup : DutySetup) (slot : ℕ) (ds : List Duty) (results : List DutyResult) (s : Standing) (steps : List TurnStep) (t : Standing) → Follows Fits (close_plan setup slot ds results s) steps (Some (Ok t))
     → (rest : List TurnStep) × (steps ≡ (Writes (duty_lines slot ds results), Wrote true (duty_lines slot ds results)) ∷ rest)
-close_so slot ds results s [] t h = absurd h
-close_so slot ds results s ((c, Wrote true piece) ∷ rest) t h =
+close_so setup slot ds results s [] t h = absurd h
+close_so setup slot ds results s ((c, Wrote true piece) ∷ rest) t h =
     let text = duty_lines slot ds results in
     (rest, ap (λ (d : TurnCall). (d, Wrote true piece) ∷ rest) h.0 ∙ ap (λ (p : List ℕ). (Writes text, Wrote true p) ∷ rest) h.1)
-close_so slot ds results s ((c, r) ∷ rest) t h = absurd (not_next rest t h.2)
+close_so setup slot ds results s ((c, r) ∷ rest) t h = absurd (not_next rest t h.2)
 
 -- ---- blocks and votes are all that is due
 
@@ -110,8 +110,8 @@ told_due setup s active ds steps t due f =
     let place = length (blocks_in ds) in
     let blocks = works_so work 0 (blocks_in ds) (λ proposed. waits moment (λ reached. cast_plan setup s ds proposed)) steps (Ok t) f in
     let woke = waits_so moment (λ reached. cast_plan setup s ds blocks.1) blocks.2 (Ok t) blocks.6 in
-    let votes = works_so work place (votes_in ds) (λ cast. close_plan s.slot (blocks_in ds ++ votes_in ds) (blocks.1 ++ cast) next) woke.1 (Ok t) woke.3 in
-    let close = close_so s.slot (blocks_in ds ++ votes_in ds) (blocks.1 ++ votes.1) next votes.2 t votes.6 in
+    let votes = works_so work place (votes_in ds) (λ cast. close_plan setup s.slot (blocks_in ds ++ votes_in ds) (blocks.1 ++ cast) next) woke.1 (Ok t) woke.3 in
+    let close = close_so setup s.slot (blocks_in ds ++ votes_in ds) (blocks.1 ++ votes.1) next votes.2 t votes.6 in
     let text = duty_lines s.slot (blocks_in ds ++ votes_in ds) (blocks.1 ++ votes.1) in
     let all = all_due s.answers s.slot active ds due in
     let looked : TurnStep = (LooksUp s.answers s.slot active, Due ds) in
@@ -186,13 +186,13 @@ module _ (setup : DutySetup) (slot : ℕ) where
   done_tells steps (Err ended) h = tt
   done_tells steps (Ok t) h = absurd (not_next steps t h)
 
-  compacted_tells : (r : DeskReply) (p : NextPlan) → Tells setup slot p → Tells setup slot (compacted r p)
-  compacted_tells reply.OutOfMemory p h = stop_tells
-  compacted_tells r p h = h
+  unless_short_tells : (r : DeskReply) (p : NextPlan) → Tells setup slot p → Tells setup slot (unless_short r p)
+  unless_short_tells reply.OutOfMemory p h = stop_tells
+  unless_short_tells r p h = h
 
   sized_tells : (r : DeskReply) (p : NextPlan) → Tells setup slot p → Tells setup slot (sized r p)
-  sized_tells (reply.Size size weight) p h = if_tells (nat_lt size_limit size) (calls call.Compact (λ r. compacted r p)) p
-      (ask_tells (Own (Calls call.Compact)) (λ r. compacted (own_reply r) p) (λ r. compacted_tells (own_reply r) p h)) h
+  sized_tells (reply.Size size weight) p h = if_tells (is_worth_compacting size weight) (calls call.Compact (λ r. unless_short r p)) p
+      (ask_tells (Own (Calls call.Compact)) (λ r. unless_short (own_reply r) p) (λ r. unless_short_tells (own_reply r) p h)) h
   sized_tells r p h = stop_tells
 
   shortens_tells : (s : Standing) (p : NextPlan) → Tells setup slot p → Tells setup slot (shortens s p)

@@ -3,6 +3,8 @@ use Rattle.std.proofs.Common.{ℕ, zero, suc, ◌≤◌, ◌<◌, ◌^◌, true,
 use Rattle.std.specs.Prelude.{max, nat_lt}
 use Rattle.std.proofs.lemmas.Bool.{le-ltb}
 use Rattle.edge_kit.specs.declared.bytes.PubKey.{PubKey}
+use Rattle.slash_defs.specs.declared.book.Book.{Book}
+use Rattle.slash_defs.specs.declared.book.File.{File}
 use Rattle.edge_clock.specs.Clocks.{IsOnTime}
 use Rattle.desk_machine.specs.declared.call.DeskCall.{DeskCall}
 use Rattle.desk_machine.specs.declared.call.DeskCall.TheVariants as call
@@ -18,9 +20,10 @@ use Rattle.duty_turns.specs.declared.held.DutyEnd.{DutyEnd}
 use Rattle.duty_turns.specs.declared.held.DutyEnd.TheVariants as end
 use Rattle.duty_turns.specs.Lines.{duty_lines}
 use Rattle.duty_turns.specs.Standing.{Standing}
-use Rattle.duty_turns.specs.Times.{is_first_slot, next_slot, slot_of, slot_start, votes_start}
+use Rattle.duty_pruning.specs.Pruning.{pruning_file}
+use Rattle.duty_turns.specs.Times.{epoch_of, is_first_slot, next_slot, slot_of, slot_start, votes_start}
 use Rattle.duty_turns.specs.TurnSteps.{Does, Fits, House, TurnCall, TurnPlan, TurnReply, TurnStep, LooksUp, Own, Refreshes, RefreshesLanes, Waits, Works, Writes, Woke, Wrote}
-use Rattle.duty_turns.specs.Turns.{Next, NextPlan, active_of, asked_plan, at_slot, blocks_in, calls, close_plan, closed_plan, compacted, due_plan, failed_plan, found, lanes_refreshed, listed_plan, next_turn, own_reply, ready_plan, refreshed, refreshes, refreshes_lanes, shortens, size_limit, sized, turn_plan, turns_plan, votes_in, votes_plan, waits, with_active, woken, woken_plan, work_of, worked}
+use Rattle.duty_turns.specs.Turns.{Next, NextPlan, active_of, asked_plan, at_slot, blocks_in, calls, close_plan, closed_plan, due_plan, exported, exports, failed_plan, found, keys_of_turn, lanes_refreshed, listed_plan, merges, next_turn, own_reply, prunes, ready_plan, refreshed, refreshes, refreshes_lanes, is_worth_compacting, shortens, sized, turn_plan, turns_plan, unless_short, votes_in, votes_plan, waits, with_active, woken, woken_plan, work_of, worked}
 use Rattle.duty_safety.specs.OnTime.{AllWaits, AreOnTime, IsWait, Wait, WakesInSlot, cast_plan, done_plan, listed_on_time, on_time_turn, on_time_turns, ready_on_time}
 use Rattle.duty_safety.proofs.KeepLemmas.{Keeps, found_keeps, keeps_ask, keeps_bind, keeps_done, keeps_else, keeps_if, keeps_stop, lanes_refreshed_keeps, refreshed_keeps, woken_keeps, worked_keeps}
 use Rattle.duty_safety.proofs.AskedLemmas.{At, asked_stays}
@@ -51,24 +54,45 @@ failed_keeps : (W : Wait) (first : ℕ) (s : Standing) (r : DeskReply) → first
 failed_keeps W first s (reply.HasFailed true) h = keeps_done W (From first) (Err end.Disk) tt
 failed_keeps W first s r h = keeps_done W (From first) (Ok s) h
 
-closed_keeps : (W : Wait) (first : ℕ) (s : Standing) (r : TurnReply) → first ≤ s.slot → Keeps W (From first) (closed_plan s r) (closed_plan s r)
-closed_keeps W first s (Wrote true piece) h =
-    keeps_ask W (From first) (Own (Calls call.HasFailed)) (λ r. failed_plan s (own_reply r)) (λ r. failed_plan s (own_reply r)) (λ r w. failed_keeps W first s (own_reply r) h)
-closed_keeps W first s r h = keeps_done W (From first) (Err end.Write) tt
+unless_short_keeps : (W : Wait) (first : ℕ) (r : DeskReply) (p q : NextPlan) → Keeps W (From first) p q → Keeps W (From first) (unless_short r p) (unless_short r q)
+unless_short_keeps W first reply.OutOfMemory p q h = keeps_stop W (From first)
+unless_short_keeps W first r p q h = h
 
-close_keeps : (W : Wait) (first slot : ℕ) (ds : List Duty) (results : List DutyResult) (s : Standing) → first ≤ s.slot → Keeps W (From first) (close_plan slot ds results s) (close_plan slot ds results s)
-close_keeps W first slot ds results s h = keeps_ask W (From first) (Writes (duty_lines slot ds results)) (closed_plan s) (closed_plan s) (λ r w. closed_keeps W first s r h)
+merges_keeps : (W : Wait) (first : ℕ) (file : File) (books : List (PubKey × Book)) (p q : NextPlan) → Keeps W (From first) p q → Keeps W (From first) (merges file books p) (merges file books q)
+merges_keeps W first file [] p q h = h
+merges_keeps W first file (b ∷ books) p q h =
+    keeps_ask W (From first) (Own (Calls (call.Merge file))) (λ r. unless_short (own_reply r) p) (λ r. unless_short (own_reply r) q) (λ r w. unless_short_keeps W first (own_reply r) p q h)
+
+exported_keeps : (W : Wait) (first keep epoch : ℕ) (r : DeskReply) (p q : NextPlan) → Keeps W (From first) p q → Keeps W (From first) (exported keep epoch r p) (exported keep epoch r q)
+exported_keeps W first keep epoch (reply.Exported file) p q h = merges_keeps W first (pruning_file keep epoch file) (pruning_file keep epoch file).books p q h
+exported_keeps W first keep epoch r p q h = unless_short_keeps W first r p q h
+
+exports_keeps : (W : Wait) (first keep epoch : ℕ) (keys : List PubKey) (p q : NextPlan) → Keeps W (From first) p q → Keeps W (From first) (exports keep epoch keys p) (exports keep epoch keys q)
+exports_keeps W first keep epoch [] p q h = h
+exports_keeps W first keep epoch (key ∷ keys) p q h =
+    keeps_ask W (From first) (Own (Calls (call.Export (key ∷ keys)))) (λ r. exported keep epoch (own_reply r) p) (λ r. exported keep epoch (own_reply r) q) (λ r w. exported_keeps W first keep epoch (own_reply r) p q h)
+
+prunes_keeps : (W : Wait) (first : ℕ) (keep_epochs : Option ℕ) (slot : ℕ) (active : Option (List PubKey)) (p q : NextPlan) → Keeps W (From first) p q → Keeps W (From first) (prunes keep_epochs slot active p) (prunes keep_epochs slot active q)
+prunes_keeps W first None slot active p q h = h
+prunes_keeps W first (Some keep) slot None p q h = h
+prunes_keeps W first (Some keep) slot (Some active) p q h = exports_keeps W first keep (epoch_of slot) (keys_of_turn slot active) p q h
+
+closed_keeps : (W : Wait) (first : ℕ) (setup : DutySetup) (slot : ℕ) (s : Standing) (r : TurnReply) → first ≤ s.slot → Keeps W (From first) (closed_plan setup slot s r) (closed_plan setup slot s r)
+closed_keeps W first setup slot s (Wrote true piece) h =
+    let asks : NextPlan = calls call.HasFailed (failed_plan s) in
+    prunes_keeps W first setup.keep_epochs slot s.active asks asks
+    (keeps_ask W (From first) (Own (Calls call.HasFailed)) (λ r. failed_plan s (own_reply r)) (λ r. failed_plan s (own_reply r)) (λ r w. failed_keeps W first s (own_reply r) h))
+closed_keeps W first setup slot s r h = keeps_done W (From first) (Err end.Write) tt
+
+close_keeps : (W : Wait) (first : ℕ) (setup : DutySetup) (slot : ℕ) (ds : List Duty) (results : List DutyResult) (s : Standing) → first ≤ s.slot → Keeps W (From first) (close_plan setup slot ds results s) (close_plan setup slot ds results s)
+close_keeps W first setup slot ds results s h = keeps_ask W (From first) (Writes (duty_lines slot ds results)) (closed_plan setup slot s) (closed_plan setup slot s) (λ r w. closed_keeps W first setup slot s r h)
 
 -- ---- what stands between
 
-compacted_keeps : (W : Wait) (first : ℕ) (r : DeskReply) (p q : NextPlan) → Keeps W (From first) p q → Keeps W (From first) (compacted r p) (compacted r q)
-compacted_keeps W first reply.OutOfMemory p q h = keeps_stop W (From first)
-compacted_keeps W first r p q h = h
-
 sized_keeps : (W : Wait) (first : ℕ) (r : DeskReply) (p q : NextPlan) → Keeps W (From first) p q → Keeps W (From first) (sized r p) (sized r q)
 sized_keeps W first (reply.Size size weight) p q h =
-    keeps_if W (From first) (nat_lt size_limit size) (calls call.Compact (λ r. compacted r p)) p (calls call.Compact (λ r. compacted r q)) q
-    (keeps_ask W (From first) (Own (Calls call.Compact)) (λ r. compacted (own_reply r) p) (λ r. compacted (own_reply r) q) (λ r w. compacted_keeps W first (own_reply r) p q h)) h
+    keeps_if W (From first) (is_worth_compacting size weight) (calls call.Compact (λ r. unless_short r p)) p (calls call.Compact (λ r. unless_short r q)) q
+    (keeps_ask W (From first) (Own (Calls call.Compact)) (λ r. unless_short (own_reply r) p) (λ r. unless_short (own_reply r) q) (λ r w. unless_short_keeps W first (own_reply r) p q h)) h
 sized_keeps W first r p q h = keeps_stop W (From first)
 
 shortens_keeps : (W : Wait) (first : ℕ) (s : Standing) (p q : NextPlan) → Keeps W (From first) p q → Keeps W (From first) (shortens s p) (shortens s q)
@@ -81,15 +105,15 @@ shortens_keeps W first s p q h =
 module _ (setup : DutySetup) (W : Wait) (first : ℕ) (cap : first < 2 ^ 64) (bounds : Bounds setup W first) where
   cast_keeps : (s : Standing) (ds : List Duty) (proposed : List DutyResult) → first ≤ s.slot → Keeps W (From first) (cast_plan setup s ds proposed) (cast_plan setup s ds proposed)
   cast_keeps s ds proposed h =
-      let behind : List DutyResult → NextPlan = λ cast. close_plan s.slot (blocks_in ds ++ votes_in ds) (proposed ++ cast) (at_slot (next_slot s.slot) s) in
+      let behind : List DutyResult → NextPlan = λ cast. close_plan setup s.slot (blocks_in ds ++ votes_in ds) (proposed ++ cast) (at_slot (next_slot s.slot) s) in
       keeps_ask W (From first) (Works (work_of setup s) (length (blocks_in ds)) (votes_in ds)) (λ r. worked r behind) (λ r. worked r behind)
-      (λ r w. worked_keeps W (From first) r behind behind (λ cast. close_keeps W first s.slot (blocks_in ds ++ votes_in ds) (proposed ++ cast) (at_slot (next_slot s.slot) s) (slot_behind first s.slot cap h)))
+      (λ r w. worked_keeps W (From first) r behind behind (λ cast. close_keeps W first setup s.slot (blocks_in ds ++ votes_in ds) (proposed ++ cast) (at_slot (next_slot s.slot) s) (slot_behind first s.slot cap h)))
 
   votes_keep : (s : Standing) (ds : List Duty) (proposed : List DutyResult) (reached : ℕ) → first ≤ s.slot → W (votes_start setup.genesis_time s.slot) reached
       → Keeps W (From first) (votes_plan setup s ds proposed reached) (cast_plan setup s ds proposed)
   votes_keep s ds proposed reached h w =
       let now = slot_of setup.genesis_time reached in
-      keeps_else W (From first) (nat_lt s.slot now) (close_plan s.slot (blocks_in ds) proposed (at_slot now s)) (cast_plan setup s ds proposed) (cast_plan setup s ds proposed)
+      keeps_else W (From first) (nat_lt s.slot now) (close_plan setup s.slot (blocks_in ds) proposed (at_slot now s)) (cast_plan setup s ds proposed) (cast_plan setup s ds proposed)
       (le-ltb s.slot now (bounds s.slot (votes_start setup.genesis_time s.slot) reached h (votes_slot setup.genesis_time s.slot) w)) (cast_keeps s ds proposed h)
 
   due_keeps : (s : Standing) (ds : List Duty) → first ≤ s.slot → Keeps W (From first) (due_plan setup s ds) (done_plan setup s ds)
@@ -123,7 +147,7 @@ module _ (setup : DutySetup) (W : Wait) (first : ℕ) (cap : first < 2 ^ 64) (bo
       let now = slot_of setup.genesis_time reached in
       let old = shortens s (calls call.Keys (listed_plan setup s)) in
       let new = shortens s (calls call.Keys (listed_on_time setup s)) in
-      keeps_else W (From first) (nat_lt s.slot now) (close_plan s.slot [] [] (at_slot now s)) (refreshes (refreshes_lanes old)) (refreshes (refreshes_lanes new))
+      keeps_else W (From first) (nat_lt s.slot now) (close_plan setup s.slot [] [] (at_slot now s)) (refreshes (refreshes_lanes old)) (refreshes (refreshes_lanes new))
       (le-ltb s.slot now (bounds s.slot (slot_start setup.genesis_time s.slot) reached h (start_slot setup.genesis_time s.slot) w))
       (keeps_ask W (From first) Refreshes (λ r. refreshed r (refreshes_lanes old)) (λ r. refreshed r (refreshes_lanes new)) (λ r is. refreshed_keeps W (From first) r (refreshes_lanes old) (refreshes_lanes new)
       (keeps_ask W (From first) RefreshesLanes (λ r. lanes_refreshed r old) (λ r. lanes_refreshed r new) (λ r is. lanes_refreshed_keeps W (From first) r old new

@@ -1,2 +1,3 @@
 pub mod OnTime
 pub mod Told
+pub mod Merging

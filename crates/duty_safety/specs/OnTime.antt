@@ -41,7 +41,7 @@ AreOnTime setup steps = AllWaits (WakesInSlot setup) steps
 -- the votes are cast, and a line is written of each duty
 abbrev pub cast_plan : DutySetup → Standing → List Duty → List DutyResult → NextPlan
 cast_plan setup s ds proposed =
-    works (work_of setup s) (length (blocks_in ds)) (votes_in ds) (λ cast. close_plan s.slot (blocks_in ds ++ votes_in ds) (proposed ++ cast) (at_slot (next_slot s.slot) s))
+    works (work_of setup s) (length (blocks_in ds)) (votes_in ds) (λ cast. close_plan setup s.slot (blocks_in ds ++ votes_in ds) (proposed ++ cast) (at_slot (next_slot s.slot) s))
 
 -- what is due is done: blocks at once, votes a third into the slot
 abbrev pub done_plan : DutySetup → Standing → List Duty → NextPlan

@@ -1,5 +1,5 @@
 //! What holds of duties, whatever takes the desk's calls.
-ghost use Rattle.std.specs.Prelude.{ℕ, ◌<◌, ◌≤◌, ◌^◌, List, All, Contains, ◌++◌, Option, Some, Result, Ok};
+ghost use Rattle.std.specs.Prelude.{ℕ, ◌<◌, ◌≤◌, ◌^◌, List, All, Contains, ◌++◌, Option, Some, None, Result, Ok};
 ghost use Rattle.edge_kit.specs.declared.bytes.PubKey.{PubKey};
 ghost use Rattle.slash_defs.specs.declared.message.Message.{Message};
 ghost use Rattle.slash_defs.specs.Lists.{SafeList};
@@ -16,10 +16,11 @@ ghost use Rattle.duty_plans.specs.Guards.{granted_in};
 ghost use Rattle.duty_plans.specs.declared.setup.DutySetup.{DutySetup};
 ghost use Rattle.duty_turns.specs.declared.held.DutyEnd.{DutyEnd};
 ghost use Rattle.duty_turns.specs.Standing.{Standing};
-ghost use Rattle.duty_turns.specs.Times.{slot_of};
+ghost use Rattle.duty_turns.specs.Times.{epoch_of, slot_of};
 ghost use Rattle.duty_turns.specs.TurnSteps.{Does, Fits, House, TurnStep};
 ghost use Rattle.duty_turns.specs.Turns.{Next, turn_plan, turns_plan};
 ghost use Rattle.session_run.specs.Safe.{CoveredOnceActive};
+ghost use Rattle.duty_safety.specs.Merging.{MergesOnly};
 ghost use Rattle.duty_safety.specs.OnTime.{AreOnTime, on_time_turn, on_time_turns};
 ghost use Rattle.duty_safety.specs.Told.{AllTold};
 
@@ -58,4 +59,13 @@ pub fn on_time_law<K: DeskCalls>()
         → Follows Fits (on_time_turns setup n s) steps v }
     ensures lines { (setup : DutySetup) (s : Standing) (steps : List TurnStep) (next : Standing) → Follows Fits (on_time_turn setup s) steps (Some (Ok next))
         → AllTold setup s.slot steps }
+{}
+
+/// What a turn of the loop merges by its own calls, whatever replies come: only where not all is kept, and only the file
+/// that forgets what is old, at the epoch of the turn's slot, of a file that the desk exported by the step just before. So
+/// the loop brings nothing in that the desk did not have. What the lanes call is said by their own plans, which merge
+/// nothing.
+pub fn merge_law()
+    ensures { (setup : DutySetup) (s : Standing) (steps : List TurnStep) (v : Option Next) → Follows Fits (turn_plan setup s) steps v
+        → MergesOnly setup.keep_epochs (epoch_of s.slot) None steps }
 {}

@@ -1,7 +1,6 @@
 -- Lines of duties up to a place.
 use Rattle.std.proofs.Common.{◌≡◌, ℕ, zero, suc, ◌+◌, ◌<◌, ◌≤◌, List, [], ◌∷◌, ◌++◌, length, drop, get_or, Option, Some, None, add-one, append_assoc, refl, sym, ◌∙◌, ap, subst, arith, Bor}
 use Rattle.std.specs.Option.{IfSome, MatchOption, option_copied}
-use Rattle.std.specs.List.{HoldsAt}
 use Rattle.std.proofs.lemmas.List.{append-nil, drop_all}
 use Rattle.duty_schedule.specs.declared.rows.Duty.{Duty}
 use Rattle.duty_plans.specs.declared.result.DutyResult.{DutyResult}

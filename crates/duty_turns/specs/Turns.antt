@@ -1,12 +1,10 @@
 -- The turns of the loop. Each plan goes on by the reply to its call; where memory runs out it stops. What it gives is what stands
 -- then, or that the output failed.
-use Rattle.std.specs.Prelude.{ℕ, zero, suc, ◌+◌, ◌==◌, ◌||◌, ◌&&◌, not, nat_lt, nat_eq, if◌then◌else◌, Bool, true, false, List, [], ◌∷◌, ◌++◌, filter, flat_map, map, length, take, drop, Option, Some, None, Result, Ok, Err}
+use Rattle.std.specs.Prelude.{ℕ, zero, suc, ◌+◌, ◌-◌, ◌/◌, ◌%◌, ◌==◌, ◌||◌, ◌&&◌, not, nat_lt, nat_le, if◌then◌else◌, Bool, true, false, List, [], ◌∷◌, ◌++◌, filter, flat_map, map, length, take, drop, Option, Some, None, Result, Ok, Err}
 use Rattle.std.specs.List.{list_any}
 use Rattle.std.specs.Cmp.Lexicographic.{pointwise}
 use Rattle.std.specs.Str.{bytes_eq}
 use Rattle.edge_kit.specs.declared.bytes.PubKey.{PubKey}
-use Rattle.sign_roots.specs.declared.domains.Domains.{Domains}
-use Rattle.doppel_watch.specs.declared.watch.WatchState.{WatchState}
 use Rattle.doppel_watch.specs.declared.watch.WatchState.TheVariants as watch
 use Rattle.desk_machine.specs.States.{is_active, state_in}
 use Rattle.desk_machine.specs.declared.call.KeyStanding.{KeyStanding}
@@ -30,11 +28,15 @@ use Rattle.duty_plans.specs.declared.result.DutyResult.{DutyResult}
 use Rattle.duty_plans.specs.declared.setup.DutySetup.{DutySetup}
 use Rattle.duty_plans.specs.declared.work.SlotWork.{SlotWork}
 use Rattle.duty_plans.specs.Plans.{answer_reply, desk_reply, slot_work}
-use Rattle.duty_plans.specs.Steps.{DutyReply, Calls, Asks}
+use Rattle.duty_plans.specs.Steps.{Calls, Asks}
 use Rattle.duty_turns.specs.declared.held.DutyEnd.{DutyEnd}
 use Rattle.duty_turns.specs.declared.held.DutyEnd.TheVariants as end
+use Rattle.slash_defs.specs.declared.book.Book.{Book}
+use Rattle.slash_defs.specs.declared.book.File.{File}
 use Rattle.record_join.specs.Keys.{kept_of}
 use Rattle.duty_turns.specs.Lines.{duty_lines, none_line}
+use Rattle.duty_pruning.specs.Pruning.{pruning_file}
+use Rattle.duty_turns.specs.Lanes.{dealt}
 use Rattle.duty_turns.specs.Standing.{Standing, indices_of, with_attesters, with_fork, with_indices, with_proposers}
 use Rattle.duty_turns.specs.Times.{epoch_of, is_first_slot, next_slot, slot_of, slot_start, votes_start}
 use Rattle.duty_turns.specs.TurnSteps.{TurnPlan, TurnReply, Waits, Refreshes, RefreshesLanes, Own, LooksUp, Works, Writes, Woke, Refreshed, LanesRefreshed, Owned, Due, Worked, Wrote}
@@ -168,7 +170,7 @@ missed s = []
 abbrev pub misses : ℕ → PubKey × KeyStanding → Bool
 misses epoch l = list_any (λ e. e == epoch) (missed l.1)
 
--- the numbers from one on, so many
+-- the numbers from one on, that many
 abbrev pub counted : ℕ → ℕ → List ℕ
 counted from zero = []
 counted from (suc n) = from ∷ counted (from + 1) n
@@ -240,13 +242,41 @@ abbrev pub failed_plan : Standing → DeskReply → NextPlan
 failed_plan s (reply.HasFailed true) = Done (Err end.Disk)
 failed_plan s r = Done (Ok s)
 
-abbrev pub closed_plan : Standing → TurnReply → NextPlan
-closed_plan s (Wrote true piece) = calls call.HasFailed (failed_plan s)
-closed_plan s r = Done (Err end.Write)
+-- whatever the desk replied, the turn goes on; but memory that is wanted stops it
+abbrev pub unless_short : {X : Type 0} → DeskReply → TurnPlan X → TurnPlan X
+unless_short reply.OutOfMemory next = Stop
+unless_short r next = next
 
--- the lines are written, and the desk is asked whether its disk failed
-abbrev pub close_plan : ℕ → List Duty → List DutyResult → Standing → NextPlan
-close_plan slot ds results s = Step (Writes (duty_lines slot ds results)) (closed_plan s)
+-- a file of no key is not merged
+abbrev pub merges : {X : Type 0} → File → List (PubKey × Book) → TurnPlan X → TurnPlan X
+merges file [] next = next
+merges file (b ∷ books) next = calls (call.Merge file) (λ r. unless_short r next)
+
+abbrev pub exported : {X : Type 0} → ℕ → ℕ → DeskReply → TurnPlan X → TurnPlan X
+exported keep epoch (reply.Exported file) next = merges (pruning_file keep epoch file) (pruning_file keep epoch file).books next
+exported keep epoch r next = unless_short r next
+
+abbrev pub exports : {X : Type 0} → ℕ → ℕ → List PubKey → TurnPlan X → TurnPlan X
+exports keep epoch [] next = next
+exports keep epoch (key ∷ keys) next = calls (call.Export (key ∷ keys)) (λ r. exported keep epoch r next)
+
+-- of the keys in their order those whose turn it is in a slot: each has one slot of an epoch
+abbrev pub keys_of_turn : ℕ → List PubKey → List PubKey
+keys_of_turn slot keys = dealt 32 (slot % 32) 0 keys
+
+-- what is old of the active keys whose turn it is in this slot is forgotten, but for what stands for it
+abbrev pub prunes : {X : Type 0} → Option ℕ → ℕ → Option (List PubKey) → TurnPlan X → TurnPlan X
+prunes None slot active next = next
+prunes (Some keep) slot None next = next
+prunes (Some keep) slot (Some active) next = exports keep (epoch_of slot) (keys_of_turn slot active) next
+
+abbrev pub closed_plan : DutySetup → ℕ → Standing → TurnReply → NextPlan
+closed_plan setup slot s (Wrote true piece) = prunes setup.keep_epochs slot s.active (calls call.HasFailed (failed_plan s))
+closed_plan setup slot s r = Done (Err end.Write)
+
+-- the lines are written, what is old is forgotten, and the desk is asked whether its disk failed
+abbrev pub close_plan : DutySetup → ℕ → List Duty → List DutyResult → Standing → NextPlan
+close_plan setup slot ds results s = Step (Writes (duty_lines slot ds results)) (closed_plan setup slot s)
 
 abbrev pub is_block : Duty → Bool
 is_block (duty.Block row) = true
@@ -270,8 +300,8 @@ work_of setup s = slot_work setup.genesis (record { fork = s.fork; genesis = set
 abbrev pub votes_plan : DutySetup → Standing → List Duty → List DutyResult → ℕ → NextPlan
 votes_plan setup s ds proposed reached =
     if nat_lt s.slot (slot_of setup.genesis_time reached)
-    then close_plan s.slot (blocks_in ds) proposed (at_slot (slot_of setup.genesis_time reached) s)
-    else works (work_of setup s) (length (blocks_in ds)) (votes_in ds) (λ cast. close_plan s.slot (blocks_in ds ++ votes_in ds) (proposed ++ cast) (at_slot (next_slot s.slot) s))
+    then close_plan setup s.slot (blocks_in ds) proposed (at_slot (slot_of setup.genesis_time reached) s)
+    else works (work_of setup s) (length (blocks_in ds)) (votes_in ds) (λ cast. close_plan setup s.slot (blocks_in ds ++ votes_in ds) (proposed ++ cast) (at_slot (next_slot s.slot) s))
 
 -- what is due is done: blocks at once, votes a third into the slot
 abbrev pub due_plan : DutySetup → Standing → List Duty → NextPlan
@@ -295,17 +325,27 @@ abbrev pub listed_plan : DutySetup → Standing → DeskReply → NextPlan
 listed_plan setup s (reply.Keys listed) = bind (asked_plan setup listed (active_of listed) s) (ready_plan setup (active_of listed))
 listed_plan setup s r = Stop
 
--- a journal of more bytes is compacted at an epoch's first slot
+-- ---- when a journal of that many bytes is compacted, of which a compaction, which writes all of them again, leaves that many at most
+
+abbrev pub least_size : ℕ
+least_size = 67108864
+
 abbrev pub size_limit : ℕ
 size_limit = 1073741824
 
--- whatever became of the compaction, the turn goes on; but memory that is wanted stops it
-abbrev pub compacted : {X : Type 0} → DeskReply → TurnPlan X → TurnPlan X
-compacted reply.OutOfMemory next = Stop
-compacted r next = next
+-- it is not small, and half of it is freed at least
+abbrev pub frees_half : ℕ → ℕ → Bool
+frees_half size weight = nat_le least_size size && nat_le weight (size / 2)
+
+-- it is large, and a quarter of it is freed at least
+abbrev pub frees_quarter : ℕ → ℕ → Bool
+frees_quarter size weight = nat_lt size_limit size && nat_le weight (size - size / 4)
+
+abbrev pub is_worth_compacting : ℕ → ℕ → Bool
+is_worth_compacting size weight = frees_half size weight || frees_quarter size weight
 
 abbrev pub sized : {X : Type 0} → DeskReply → TurnPlan X → TurnPlan X
-sized (reply.Size size weight) next = if nat_lt size_limit size then calls call.Compact (λ r. compacted r next) else next
+sized (reply.Size size weight) next = if is_worth_compacting size weight then calls call.Compact (λ r. unless_short r next) else next
 sized r next = Stop
 
 abbrev pub shortens : {X : Type 0} → Standing → TurnPlan X → TurnPlan X
@@ -317,7 +357,7 @@ shortens s next = if is_first_slot s.slot then calls call.Size (λ r. sized r ne
 abbrev pub woken_plan : DutySetup → Standing → ℕ → NextPlan
 woken_plan setup s reached =
     if nat_lt s.slot (slot_of setup.genesis_time reached)
-    then close_plan s.slot [] [] (at_slot (slot_of setup.genesis_time reached) s)
+    then close_plan setup s.slot [] [] (at_slot (slot_of setup.genesis_time reached) s)
     else refreshes (refreshes_lanes (shortens s (calls call.Keys (listed_plan setup s))))
 
 abbrev pub turn_plan : DutySetup → Standing → NextPlan
@@ -329,7 +369,7 @@ abbrev pub next_turn : (Standing → TurnPlan (Result (Unit {0}) DutyEnd)) → N
 next_turn turns (Ok s) = turns s
 next_turn turns (Err ended) = Done (Err ended)
 
--- so many turns
+-- that many turns
 abbrev pub turns_plan : DutySetup → ℕ → Standing → TurnPlan (Result (Unit {0}) DutyEnd)
 turns_plan setup zero s = Done (Ok tt)
 turns_plan setup (suc n) s = bind (turn_plan setup s) (next_turn (turns_plan setup n))

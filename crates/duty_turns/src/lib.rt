@@ -3,8 +3,10 @@
 
 mod held;
 mod lines;
+mod sizes;
 mod times;
 
 pub use held::{DutyEnd, Held};
 pub use lines::{duty_lines, none_line};
+pub use sizes::is_worth_compacting;
 pub use times::{epoch_of, is_first_slot, next_slot, slot_of, slot_start, votes_start};

@@ -2,3 +2,4 @@ pub mod HouseLemmas
 pub mod TurnLemmas
 pub mod RunLemmas
 pub mod PlacedLemmas
+pub mod PruneLemmas

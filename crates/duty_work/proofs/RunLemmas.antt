@@ -14,8 +14,8 @@ use Rattle.client_calls.proofs.SeatLemmas.{Leads}
 use Rattle.node_fallback.specs.Refreshing.{AreAskedFirst, AreFlagged, WithReplies}
 use Rattle.node_fallback.specs.Seen.{Seen}
 use Rattle.call_plans.specs.Plans.{Done, bind}
-use Rattle.call_plans.specs.Paths.{Carries}
-use Rattle.call_plans.proofs.PathLemmas.{carries_cut, carries_end, carries_on, carries_short}
+use Rattle.call_plans.specs.Paths.{Carries, Comes}
+use Rattle.call_plans.proofs.PathLemmas.{carries_cut, carries_end, carries_on, carries_short, comes_run}
 use Rattle.duty_schedule.specs.Due.{IsDue}
 use Rattle.duty_schedule.specs.declared.rows.Duty.{Duty}
 use Rattle.duty_plans.specs.Hands.{Free, hand_given}
@@ -27,7 +27,7 @@ use Rattle.duty_plans.specs.declared.work.SlotWork.{SlotWork}
 use Rattle.duty_turns.specs.Lines.{duty_lines}
 use Rattle.duty_turns.specs.Standing.{Standing}
 use Rattle.duty_turns.specs.Times.{epoch_of, next_slot, slot_of, slot_start, votes_start}
-use Rattle.duty_turns.specs.Turns.{NextPlan, PartPlan, active_of, asked_plan, at_slot, blocks_in, calls, close_plan, closed_plan, due_plan, failed_plan, listed_plan, ready_plan, refreshes, refreshes_lanes, shortens, turn_plan, votes_in, votes_plan, waits, with_active, woken_plan, work_of, works}
+use Rattle.duty_turns.specs.Turns.{NextPlan, PartPlan, active_of, asked_plan, at_slot, blocks_in, calls, close_plan, closed_plan, due_plan, failed_plan, listed_plan, prunes, ready_plan, refreshes, refreshes_lanes, shortens, turn_plan, votes_in, votes_plan, waits, with_active, woken_plan, work_of, works}
 use Rattle.duty_turns.specs.TurnSteps.{Does, Fits, House, SinkSeen}
 use Rattle.duty_turns.specs.declared.held.DutyEnd.{DutyEnd}
 use Rattle.duty_turns.specs.declared.held.DutyEnd.TheVariants as end
@@ -85,38 +85,54 @@ module _ {K : Type 0} (leads : Leads K) (start : Option ℕ) where
       subst (λ (x : Result (Unit {0}) DutyEnd). Carries Fits (Does leads start) (calls call.HasFailed (failed_plan s)) (house d ls nodes out) (house e ls nodes out) (next_value s x)) (sym is)
       (turn_calls leads start d e ls nodes out (house e ls nodes out) call.HasFailed r (failed_plan s) (next_value s (end_by r)) refl (failed_hand r (kind_failed r kind)) led kind for (failed_by s r (house e ls nodes out) (kind_failed r kind)))
 
-  pub closed : (d e : K) (ls : List (Seat K)) (nodes : List Seen) (o p : SinkSeen) (s : Standing) (slot : ℕ) (ds : List Duty) (rs : List DutyResult) (text bytes : List ℕ) (wrote : Result (Unit {0}) Stop) (result : Result (Unit {0}) DutyEnd)
-      → text ≡ duty_lines slot ds rs → bytes ≡ text → wrote ≡ Ok tt → WritesText o p bytes wrote → Carries Fits (Does leads start) (calls call.HasFailed (failed_plan s)) (house d ls nodes p) (house e ls nodes p) (next_value s result)
-      → Carries Fits (Does leads start) (close_plan slot ds rs s) (house d ls nodes o) (house e ls nodes p) (next_value s result)
-  closed d e ls nodes o p s slot ds rs text bytes wrote result of same ok writes run =
+  pub closed : (setup : DutySetup) (d e : K) (ls : List (Seat K)) (nodes : List Seen) (o p : SinkSeen) (s : Standing) (slot : ℕ) (ds : List Duty) (rs : List DutyResult) (text bytes : List ℕ) (wrote : Result (Unit {0}) Stop) (result : Result (Unit {0}) DutyEnd)
+      → text ≡ duty_lines slot ds rs → bytes ≡ text → wrote ≡ Ok tt → WritesText o p bytes wrote
+      → Carries Fits (Does leads start) (prunes setup.keep_epochs slot s.active (calls call.HasFailed (failed_plan s))) (house d ls nodes p) (house e ls nodes p) (next_value s result)
+      → Carries Fits (Does leads start) (close_plan setup slot ds rs s) (house d ls nodes o) (house e ls nodes p) (next_value s result)
+  closed setup d e ls nodes o p s slot ds rs text bytes wrote result of same ok writes run =
       let all : bytes ≡ duty_lines slot ds rs = same ∙ of in
       let taken = subst (λ (w : Result (Unit {0}) Stop). WritesText o p bytes w) ok writes in
-      turn_writes leads start d ls nodes o p (house e ls nodes p) (duty_lines slot ds rs) (closed_plan s) (next_value s result) (subst (λ (l : List ℕ). WritesText o p l (Ok tt)) all taken) run
+      turn_writes leads start d ls nodes o p (house e ls nodes p) (duty_lines slot ds rs) (closed_plan setup slot s) (next_value s result) (subst (λ (l : List ℕ). WritesText o p l (Ok tt)) all taken) run
 
-  pub close_fails : (d : K) (ls : List (Seat K)) (nodes : List Seen) (o p : SinkSeen) (s : Standing) (slot : ℕ) (ds : List Duty) (rs : List DutyResult) (text bytes : List ℕ) (wrote : Result (Unit {0}) Stop) (why : Stop)
+  pub close_fails : (setup : DutySetup) (d : K) (ls : List (Seat K)) (nodes : List Seen) (o p : SinkSeen) (s : Standing) (slot : ℕ) (ds : List Duty) (rs : List DutyResult) (text bytes : List ℕ) (wrote : Result (Unit {0}) Stop) (why : Stop)
       → text ≡ duty_lines slot ds rs → bytes ≡ text → wrote ≡ Err why → WritesText o p bytes wrote
-      → Carries Fits (Does leads start) (close_plan slot ds rs s) (house d ls nodes o) (house d ls nodes p) (Some (Err end.Write))
-  close_fails d ls nodes o p s slot ds rs text bytes wrote stop.Write of same err writes =
+      → Carries Fits (Does leads start) (close_plan setup slot ds rs s) (house d ls nodes o) (house d ls nodes p) (Some (Err end.Write))
+  close_fails setup d ls nodes o p s slot ds rs text bytes wrote stop.Write of same err writes =
       let all : bytes ≡ duty_lines slot ds rs = same ∙ of in
       let failed = subst (λ (w : Result (Unit {0}) Stop). WritesText o p bytes w) err writes in
       let cut = subst (λ (l : List ℕ). WritesText o p l (Err stop.Write)) all failed in
-      turn_write_fails leads start d ls nodes o p (house d ls nodes p) (duty_lines slot ds rs) cut.0 (closed_plan s) (Some (Err end.Write)) cut.1 cut.2 (carries_end Fits (Does leads start) (Done (Err end.Write)) (house d ls nodes p) (Some (Err end.Write)) refl)
-  close_fails d ls nodes o p s slot ds rs text bytes wrote stop.OutOfMemory of same err writes =
+      turn_write_fails leads start d ls nodes o p (house d ls nodes p) (duty_lines slot ds rs) cut.0 (closed_plan setup slot s) (Some (Err end.Write)) cut.1 cut.2 (carries_end Fits (Does leads start) (Done (Err end.Write)) (house d ls nodes p) (Some (Err end.Write)) refl)
+  close_fails setup d ls nodes o p s slot ds rs text bytes wrote stop.OutOfMemory of same err writes =
       absurd (subst (λ (w : Result (Unit {0}) Stop). WritesText o p bytes w) err writes)
 
+  pub pruned_goes : (setup : DutySetup) (s : Standing) (slot : ℕ) (active : Option (List PubKey)) (a b c : House K) (result : Result (Unit {0}) DutyEnd) → active ≡ s.active
+      → Comes Fits (Does leads start) (prunes setup.keep_epochs slot active (calls call.HasFailed (failed_plan s))) (calls call.HasFailed (failed_plan s)) a b
+      → Carries Fits (Does leads start) (calls call.HasFailed (failed_plan s)) b c (next_value s result)
+      → Carries Fits (Does leads start) (prunes setup.keep_epochs slot s.active (calls call.HasFailed (failed_plan s))) a c (next_value s result)
+  pruned_goes setup s slot active a b c result of called run =
+      let asks : NextPlan = calls call.HasFailed (failed_plan s) in
+      subst (λ (l : Option (List PubKey)). Carries Fits (Does leads start) (prunes setup.keep_epochs slot l asks) a c (next_value s result)) of
+      (comes_run Fits (Does leads start) a b c (prunes setup.keep_epochs slot active asks) asks (next_value s result) called run)
+
+  pub pruned_short : (setup : DutySetup) (s : Standing) (slot : ℕ) (active : Option (List PubKey)) (a b : House K) → active ≡ s.active
+      → Carries Fits (Does leads start) (prunes setup.keep_epochs slot active (calls call.HasFailed (failed_plan s))) a b None
+      → Carries Fits (Does leads start) (prunes setup.keep_epochs slot s.active (calls call.HasFailed (failed_plan s))) a b None
+  pruned_short setup s slot active a b of called =
+      subst (λ (l : Option (List PubKey)). Carries Fits (Does leads start) (prunes setup.keep_epochs slot l (calls call.HasFailed (failed_plan s))) a b None) of called
+
   -- the lines of these duties are those that were meant
-  pub closed_as : (Holds : Standing → Type 0) (plan : NextPlan) (s t : Standing) (a b : House K) (slot : ℕ) (ds es : List Duty) (rs qs : List DutyResult) (result : Result (Unit {0}) DutyEnd)
-      → plan ≡ close_plan s.slot es qs t → slot ≡ s.slot → ds ≡ es → rs ≡ qs → Holds t → Carries Fits (Does leads start) (close_plan slot ds rs t) a b (next_value t result) → Turns leads start Holds plan a b result
-  closed_as Holds plan s t a b slot ds es rs qs result is at of by h run =
-      let at_slot_run = subst (λ (n : ℕ). Carries Fits (Does leads start) (close_plan n ds rs t) a b (next_value t result)) at run in
-      let of_run = subst (λ (l : List Duty). Carries Fits (Does leads start) (close_plan s.slot l rs t) a b (next_value t result)) of at_slot_run in
-      let by_run = subst (λ (l : List DutyResult). Carries Fits (Does leads start) (close_plan s.slot es l t) a b (next_value t result)) by of_run in
+  pub closed_as : (Holds : Standing → Type 0) (setup : DutySetup) (plan : NextPlan) (s t : Standing) (a b : House K) (slot : ℕ) (ds es : List Duty) (rs qs : List DutyResult) (result : Result (Unit {0}) DutyEnd)
+      → plan ≡ close_plan setup s.slot es qs t → slot ≡ s.slot → ds ≡ es → rs ≡ qs → Holds t → Carries Fits (Does leads start) (close_plan setup slot ds rs t) a b (next_value t result) → Turns leads start Holds plan a b result
+  closed_as Holds setup plan s t a b slot ds es rs qs result is at of by h run =
+      let at_slot_run = subst (λ (n : ℕ). Carries Fits (Does leads start) (close_plan setup n ds rs t) a b (next_value t result)) at run in
+      let of_run = subst (λ (l : List Duty). Carries Fits (Does leads start) (close_plan setup s.slot l rs t) a b (next_value t result)) of at_slot_run in
+      let by_run = subst (λ (l : List DutyResult). Carries Fits (Does leads start) (close_plan setup s.slot es l t) a b (next_value t result)) by of_run in
       record { after = t; held = kept result h; runs = subst (λ (q : NextPlan). Carries Fits (Does leads start) q a b (next_value t result)) (sym is) by_run }
 
-  pub closing : (s : Standing) (a b : House K) (slot : ℕ) (ds es : List Duty) (rs qs : List DutyResult) (v : Option (Result Standing DutyEnd)) → ds ≡ es → rs ≡ qs
-      → Carries Fits (Does leads start) (close_plan slot ds rs s) a b v → Carries Fits (Does leads start) (close_plan slot es qs s) a b v
-  closing s a b slot ds es rs qs v of by run =
-      subst (λ (l : List DutyResult). Carries Fits (Does leads start) (close_plan slot es l s) a b v) by (subst (λ (l : List Duty). Carries Fits (Does leads start) (close_plan slot l rs s) a b v) of run)
+  pub closing : (setup : DutySetup) (s : Standing) (a b : House K) (slot : ℕ) (ds es : List Duty) (rs qs : List DutyResult) (v : Option (Result Standing DutyEnd)) → ds ≡ es → rs ≡ qs
+      → Carries Fits (Does leads start) (close_plan setup slot ds rs s) a b v → Carries Fits (Does leads start) (close_plan setup slot es qs s) a b v
+  closing setup s a b slot ds es rs qs v of by run =
+      subst (λ (l : List DutyResult). Carries Fits (Does leads start) (close_plan setup slot es l s) a b v) by (subst (λ (l : List Duty). Carries Fits (Does leads start) (close_plan setup slot l rs s) a b v) of run)
 
   -- ---- part behind part
 
@@ -246,7 +262,7 @@ module _ {K : Type 0} (leads : Leads K) (start : Option ℕ) where
 
   module _ (Holds : Standing → Type 0) (setup : DutySetup) (s : Standing) (d : K) (ls ks : List (Seat K)) (ns : List Seen) (o : SinkSeen) (ds votes : List Duty) (rs : List DutyResult) (reached later slot place : ℕ)
       (is : later ≡ slot_of setup.genesis_time reached) (at : slot ≡ s.slot) (due : later ≤ slot) (of : votes ≡ votes_in ds) (behind : place ≡ length (blocks_in ds)) where
-    now : votes_plan setup s ds rs reached ≡ works (work_of setup s) (length (blocks_in ds)) (votes_in ds) (λ cast. close_plan s.slot (blocks_in ds ++ votes_in ds) (rs ++ cast) (at_slot (next_slot s.slot) s))
+    now : votes_plan setup s ds rs reached ≡ works (work_of setup s) (length (blocks_in ds)) (votes_in ds) (λ cast. close_plan setup s.slot (blocks_in ds ++ votes_in ds) (rs ++ cast) (at_slot (next_slot s.slot) s))
     now = votes_now setup s ds rs reached later is (subst (λ n. later ≤ n) at due)
 
     dealt_so : (v : Option (List DutyResult)) → WorksDone leads (work_of setup s) place votes ls ks v → WorksDone leads (work_of setup s) (length (blocks_in ds)) (votes_in ds) ls ks v
@@ -256,13 +272,13 @@ module _ {K : Type 0} (leads : Leads K) (start : Option ℕ) where
 
     pub votes_short : WorksDone leads (work_of setup s) place votes ls ks None → Turns leads start Holds (votes_plan setup s ds rs reached) (house d ls ns o) (house d ks ns o) (Err end.OutOfMemory)
     votes_short work =
-        let run = turn_works_cut leads start d ls ks ns o (work_of setup s) (length (blocks_in ds)) (votes_in ds) (λ cast. close_plan s.slot (blocks_in ds ++ votes_in ds) (rs ++ cast) (at_slot (next_slot s.slot) s)) (dealt_so None work) in
+        let run = turn_works_cut leads start d ls ks ns o (work_of setup s) (length (blocks_in ds)) (votes_in ds) (λ cast. close_plan setup s.slot (blocks_in ds ++ votes_in ds) (rs ++ cast) (at_slot (next_slot s.slot) s)) (dealt_so None work) in
         record { after = s; held = tt; runs = subst (λ (q : NextPlan). Carries Fits (Does leads start) q (house d ls ns o) (house d ks ns o) None) (sym now) run }
 
     pub votes_done : (b : House K) (cast : List DutyResult) (result : Result (Unit {0}) DutyEnd) → WorksDone leads (work_of setup s) place votes ls ks (Some cast)
-        → Turns leads start Holds (close_plan s.slot (blocks_in ds ++ votes_in ds) (rs ++ cast) (at_slot (next_slot s.slot) s)) (house d ks ns o) b result → Turns leads start Holds (votes_plan setup s ds rs reached) (house d ls ns o) b result
+        → Turns leads start Holds (close_plan setup s.slot (blocks_in ds ++ votes_in ds) (rs ++ cast) (at_slot (next_slot s.slot) s)) (house d ks ns o) b result → Turns leads start Holds (votes_plan setup s ds rs reached) (house d ls ns o) b result
     votes_done b cast result work rest =
-        let run = turn_works leads start d ls ks ns o b (work_of setup s) (length (blocks_in ds)) (votes_in ds) cast (λ x. close_plan s.slot (blocks_in ds ++ votes_in ds) (rs ++ x) (at_slot (next_slot s.slot) s)) (next_value rest.after result) (dealt_so (Some cast) work) rest.runs in
+        let run = turn_works leads start d ls ks ns o b (work_of setup s) (length (blocks_in ds)) (votes_in ds) cast (λ x. close_plan setup s.slot (blocks_in ds ++ votes_in ds) (rs ++ x) (at_slot (next_slot s.slot) s)) (next_value rest.after result) (dealt_so (Some cast) work) rest.runs in
         record { after = rest.after; held = rest.held; runs = subst (λ (q : NextPlan). Carries Fits (Does leads start) q (house d ls ns o) b (next_value rest.after result)) (sym now) run }
 
   pub works_done : (setup : DutySetup) (held : Held) (s : Standing) (ls ks : List (Seat K)) (domains : Domains) (moment place : ℕ) (ds : List Duty) (v : Option (List DutyResult)) → HoldsPlaced held s → domains ≡ record { fork = held.fork; genesis = setup.genesis } → moment ≡ epoch_of held.slot

@@ -18,7 +18,7 @@ use Rattle.duty_turns.specs.declared.held.DutyEnd.{DutyEnd}
 use Rattle.duty_turns.specs.declared.held.DutyEnd.TheVariants as end
 use Rattle.duty_work.specs.Houses.{RunsFrom, Turns, end_value, next_value}
 
-pub woken_late : (setup : DutySetup) (s : Standing) (reached later : ℕ) → later ≡ slot_of setup.genesis_time reached → s.slot < later → woken_plan setup s reached ≡ close_plan s.slot [] [] (at_slot later s)
+pub woken_late : (setup : DutySetup) (s : Standing) (reached later : ℕ) → later ≡ slot_of setup.genesis_time reached → s.slot < later → woken_plan setup s reached ≡ close_plan setup s.slot [] [] (at_slot later s)
 woken_late setup s reached later e h =
     let late : nat_lt s.slot (slot_of setup.genesis_time reached) ≡ true = lt-ltb s.slot (slot_of setup.genesis_time reached) (subst (λ n. s.slot < n) e h) in
     rw (late, e) refl
@@ -29,13 +29,13 @@ woken_now setup s reached later e h =
     rw now refl
 
 pub votes_late : (setup : DutySetup) (s : Standing) (ds : List Duty) (rs : List DutyResult) (reached later : ℕ) → later ≡ slot_of setup.genesis_time reached → s.slot < later
-    → votes_plan setup s ds rs reached ≡ close_plan s.slot (blocks_in ds) rs (at_slot later s)
+    → votes_plan setup s ds rs reached ≡ close_plan setup s.slot (blocks_in ds) rs (at_slot later s)
 votes_late setup s ds rs reached later e h =
     let late : nat_lt s.slot (slot_of setup.genesis_time reached) ≡ true = lt-ltb s.slot (slot_of setup.genesis_time reached) (subst (λ n. s.slot < n) e h) in
     rw (late, e) refl
 
 pub votes_now : (setup : DutySetup) (s : Standing) (ds : List Duty) (rs : List DutyResult) (reached later : ℕ) → later ≡ slot_of setup.genesis_time reached → later ≤ s.slot
-    → votes_plan setup s ds rs reached ≡ works (work_of setup s) (length (blocks_in ds)) (votes_in ds) (λ cast. close_plan s.slot (blocks_in ds ++ votes_in ds) (rs ++ cast) (at_slot (next_slot s.slot) s))
+    → votes_plan setup s ds rs reached ≡ works (work_of setup s) (length (blocks_in ds)) (votes_in ds) (λ cast. close_plan setup s.slot (blocks_in ds ++ votes_in ds) (rs ++ cast) (at_slot (next_slot s.slot) s))
 votes_now setup s ds rs reached later e h =
     let now : nat_lt s.slot (slot_of setup.genesis_time reached) ≡ false = le-ltb s.slot (slot_of setup.genesis_time reached) (subst (λ n. n ≤ s.slot) e h) in
     rw now refl

@@ -1,12 +1,13 @@
 -- What the parts of a turn make of the loop's own desk and nodes, the lanes and the output.
 use Rattle.std.specs.Prelude.{ℕ, true, List, Option, Some, None, Result, Ok, Err, OnOk}
+use Rattle.std.specs.declared.alloc.AllocError.{AllocError}
 use Rattle.desk_machine.specs.declared.call.DeskCall.{DeskCall}
 use Rattle.desk_machine.specs.declared.call.DeskReply.{DeskReply}
 use Rattle.desk_machine.specs.declared.call.DeskReply.TheVariants as reply
 use Rattle.client_calls.specs.Seats.{SignerSeen}
 use Rattle.node_fallback.specs.Seen.{Seen}
 use Rattle.edge_clock.specs.Clocks.{IsNow}
-use Rattle.call_plans.specs.Paths.{Carries}
+use Rattle.call_plans.specs.Paths.{Carries, Comes}
 use Rattle.duty_plans.specs.declared.setup.DutySetup.{DutySetup}
 use Rattle.duty_plans.specs.Hands.{Free}
 use Rattle.duty_plans.specs.Seats.{Seat, at_seat}
@@ -53,6 +54,32 @@ IsFailed r = ⊥
 abbrev pub end_by : DeskReply → Result (Unit {0}) DutyEnd
 end_by (reply.HasFailed true) = Err end.Disk
 end_by r = Ok tt
+
+-- what of a turn is called of the desk was carried out, before what follows, or memory ran out in it
+abbrev pub CalledOn : {K : Type 0} → (K → List (DeskCall × DeskReply) → K → Type 0) → Option ℕ → NextPlan → NextPlan → House K → House K → Result (Unit {0}) AllocError → Type 0
+CalledOn leads start plan next a b (Ok done) = Comes Fits (Does leads start) plan next a b
+CalledOn leads start plan next a b (Err e) = Carries Fits (Does leads start) plan a b None
+
+-- whether memory ran out at a call
+abbrev pub short_by : DeskReply → Result (Unit {0}) AllocError
+short_by reply.OutOfMemory = Err (record {})
+short_by r = Ok tt
+
+-- the replies of a desk that was to export keys
+abbrev pub IsExported : DeskReply → Type 0
+IsExported (reply.Exported file) = Unit {0}
+IsExported reply.OutOfMemory = Unit {0}
+IsExported r = ⊥
+
+-- the replies of a desk that was to merge a file
+abbrev pub IsMerged : DeskReply → Type 0
+IsMerged reply.Disk = Unit {0}
+IsMerged (reply.GenesisDiffers kept given) = Unit {0}
+IsMerged (reply.TooManyKeys have new) = Unit {0}
+IsMerged reply.OutOfMemory = Unit {0}
+IsMerged (reply.Full size wanted) = Unit {0}
+IsMerged (reply.Merged keys) = Unit {0}
+IsMerged r = ⊥
 
 -- a turn, or what is left of it, was carried out
 pub record Turns {K : Type 0} (leads : K → List (DeskCall × DeskReply) → K → Type 0) (start : Option ℕ) (Holds : Standing → Type 0) (plan : NextPlan) (a b : House K) (result : Result (Unit {0}) DutyEnd) : Type 0 where

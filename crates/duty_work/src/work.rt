@@ -13,6 +13,7 @@ ghost use Rattle.duty_asks.specs.Placed.{HoldsPlaced};
 ghost use Rattle.desk_machine.specs.declared.call.DeskCall.TheVariants as call;
 ghost use Rattle.duty_work.specs.Houses.{IsFailed, Turns, end_by, house, next_value};
 
+use crate::prune::prune_old;
 use desk_machine::{DeskCall, DeskCalls, DeskReply};
 use duty_asks::write_text;
 use duty_plans::{DutyResult, DutySetup};
@@ -139,7 +140,7 @@ fn cast_votes<
     let later = slot_of(setup.genesis_time, reached);
     if slot < later {
         held.slot = later;
-        return close(alloc, slot, blocks, proposed, desk, out);
+        return close(alloc, setup, slot, blocks, proposed, held, desk, out);
     }
     let Ok(votes) = votes_in(alloc, due) else {
         return Err(DutyEnd::OutOfMemory);
@@ -150,23 +151,27 @@ fn cast_votes<
     };
     let cast = cast.as_slice();
     held.slot = next_slot(slot);
-    close_both(alloc, slot, blocks, votes, proposed, cast, desk, out)
+    close_both(
+        alloc, setup, slot, blocks, votes, proposed, cast, held, desk, out,
+    )
 }
 
 /// Closes a slot in which blocks were proposed and votes were cast, with these results.
 fn close_both<K: DeskCalls, O: Sink>(
     alloc: Global,
+    setup: &DutySetup,
     slot: u64,
     blocks: &[Duty],
     votes: &[Duty],
     proposed: &[DutyResult],
     cast: &[DutyResult],
+    held: &Held,
     desk: &mut K,
     out: &mut O,
 ) -> Result<(), DutyEnd>
     requires ready { K.ready desk.old }
     ensures ready { K.ready desk.new }
-    ensures runs { (start : Option ℕ) (lanes : List (Seat K)) (nodes : List Seen) (s : Standing) → Carries Fits (Does K.leads start) (close_plan slot (blocks.now ++ votes.now) (proposed.now ++ cast.now) s)
+    ensures runs { (start : Option ℕ) (lanes : List (Seat K)) (nodes : List Seen) (s : Standing) → held.now.active ≡ s.active → Carries Fits (Does K.leads start) (close_plan setup.now slot (blocks.now ++ votes.now) (proposed.now ++ cast.now) s)
         (house desk.old lanes nodes (sink_seen O.held O.faults out.old)) (house desk.new lanes nodes (sink_seen O.held O.faults out.new)) (next_value s result) }
 {
     let Ok(duties) = joined(alloc, blocks, votes) else {
@@ -177,21 +182,24 @@ fn close_both<K: DeskCalls, O: Sink>(
         return Err(DutyEnd::OutOfMemory);
     };
     let results = results.as_slice();
-    close(alloc, slot, duties, results, desk, out)
+    close(alloc, setup, slot, duties, results, held, desk, out)
 }
 
-/// Writes a line for each of these duties of a slot that has a result, and asks the desk whether its disk failed.
+/// Writes a line for each of these duties of a slot that has a result, has what is old of the active keys forgotten whose
+/// turn it is, and asks the desk whether its disk failed.
 pub fn close<K: DeskCalls, O: Sink>(
     alloc: Global,
+    setup: &DutySetup,
     slot: u64,
     duties: &[Duty],
     results: &[DutyResult],
+    held: &Held,
     desk: &mut K,
     out: &mut O,
 ) -> Result<(), DutyEnd>
     requires ready { K.ready desk.old }
     ensures ready { K.ready desk.new }
-    ensures runs { (start : Option ℕ) (lanes : List (Seat K)) (nodes : List Seen) (s : Standing) → Carries Fits (Does K.leads start) (close_plan slot duties.now results.now s)
+    ensures runs { (start : Option ℕ) (lanes : List (Seat K)) (nodes : List Seen) (s : Standing) → held.now.active ≡ s.active → Carries Fits (Does K.leads start) (close_plan setup.now slot duties.now results.now s)
         (house desk.old lanes nodes (sink_seen O.held O.faults out.old)) (house desk.new lanes nodes (sink_seen O.held O.faults out.new)) (next_value s result) }
 {
     let Ok(lines) = duty_lines(alloc, slot, duties, results) else {
@@ -201,6 +209,9 @@ pub fn close<K: DeskCalls, O: Sink>(
         Ok(()) => {}
         Err(_) => return Err(DutyEnd::Write),
     }
+    let Ok(()) = prune_old(alloc, setup.keep_epochs, slot, held, desk) else {
+        return Err(DutyEnd::OutOfMemory);
+    };
     ask_failed(desk)
 }
 

@@ -62,7 +62,7 @@ pub fn run_lanes<T: Threads + Sync, K: DeskCalls + Send, S: Signer + Send, N: No
     gathered(alloc, place, duties, lanes)
 }
 
-/// Does the duties that go to one of so many lanes, and leaves their results in it.
+/// Does the duties that go to one of that many lanes, and leaves their results in it.
 fn do_lane<K: DeskCalls, S: Signer, N: Node + Drop>(
     alloc: Global,
     setup: &DutySetup,

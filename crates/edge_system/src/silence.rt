@@ -104,7 +104,7 @@ impl Peers {
     }
 }
 
-// For how many milliseconds a peer is set aside that was set aside for so many the last time.
+// For how many milliseconds a peer is set aside that was set aside for that many the last time.
 fn pause_after(last: u64) -> u64 {
     last.saturating_mul(2).max(FIRST_PAUSE).min(LONGEST_PAUSE)
 }

@@ -95,7 +95,7 @@ impl<N: Net + Eprint + Clock + Drop> TcpLink<N> {
         self.faults
     }
 
-    // A connection to an address, within its share of what is left of the span, where so many are left to be tried.
+    // A connection to an address, within its share of what is left of the span, where that many are left to be tried.
     fn open_at(&self, address: SocketAddr, span: &Span, count: usize) -> io::Result<N::Stream> {
         let left = span.left(&self.handle)?;
         let count = u32::try_from(count).unwrap_or(u32::MAX);

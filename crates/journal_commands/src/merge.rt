@@ -156,7 +156,7 @@ fn merge_file<D: Disk, O: Sink>(
     }
 }
 
-/// Writes that a file of so many keys is merged.
+/// Writes that a file of that many keys is merged.
 fn close_merged<O: Sink>(alloc: Global, out: &mut O, count: u64) -> Status
     ensures { EndsBy Status.Done (merged_text count) (output_of O.held O.faults out.old) (output_of O.held O.faults out.new) result
         ⊎ Unwritten (output_of O.held O.faults out.old) (output_of O.held O.faults out.new) result }

@@ -1,5 +1,5 @@
 -- The services that are asked for, and where connections are taken.
-use Rattle.std.specs.Prelude.{List, [], Option, None, Some}
+use Rattle.std.specs.Prelude.{ℕ, List, [], Option, None, Some}
 use Rattle.service_url.specs.Services.{Service}
 use Rattle.command_line.specs.Plans.{Asked, session, serve}
 use Rattle.command_line.specs.declared.listen_address.ListenAddress.{ListenAddress}
@@ -14,6 +14,11 @@ signer_of asked = None
 abbrev pub nodes_of : Asked → List Service
 nodes_of (serve options) = options.nodes
 nodes_of asked = []
+
+-- how many seconds a question to a beacon node may take, if they say
+abbrev pub timeout_of : Asked → Option ℕ
+timeout_of (serve options) = Some options.timeout
+timeout_of asked = None
 
 -- where connections are taken, if anywhere
 abbrev pub listen_of : Asked → Option ListenAddress

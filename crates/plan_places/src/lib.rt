@@ -5,9 +5,9 @@
 ghost use Rattle.std.specs.Prelude.{◌≡◌, [], IfOk, None, Ok, Some, map, option_map, string_bytes, ◌++◌};
 ghost use Rattle.command_line.specs.Plans.{asked_of, taken_as};
 ghost use Rattle.plan_places.specs.Files.{files_at, files_of};
-ghost use Rattle.plan_places.specs.Services.{listen_of, nodes_of, signer_of};
+ghost use Rattle.plan_places.specs.Services.{listen_of, nodes_of, signer_of, timeout_of};
 
-use command_line::{ListenAddress, Plan, ServeOptions, plan};
+use command_line::{ListenAddress, NodeTimeout, Plan, ServeOptions, plan};
 use service_url::ServiceUrl;
 use std::alloc::{AllocError, Global};
 
@@ -27,6 +27,8 @@ pub struct Services {
     pub signer: Option<ServiceUrl>,
     /// The addresses of the beacon nodes, in their order.
     pub nodes: Vec<ServiceUrl>,
+    /// How long a question to a beacon node may take, if they say.
+    pub timeout: Option<NodeTimeout>,
     /// Where connections are taken, if anywhere.
     pub listen: Option<ListenAddress>,
 }
@@ -40,6 +42,7 @@ pub fn named(alloc: Global, words: &[String]) -> Result<Places, AllocError>
     ensures files { IfOk result (λ x. option_map (λ f. (string_bytes f.0, string_bytes f.1)) x.files ≡ files_of (asked_of (map string_bytes words.now))) }
     ensures signer { IfOk result (λ x. x.services.signer ≡ signer_of (asked_of (map string_bytes words.now))) }
     ensures nodes { IfOk result (λ x. x.services.nodes.items ≡ nodes_of (asked_of (map string_bytes words.now))) }
+    ensures timeout { IfOk result (λ x. x.services.timeout ≡ timeout_of (asked_of (map string_bytes words.now))) }
     ensures listen { IfOk result (λ x. x.services.listen ≡ listen_of (asked_of (map string_bytes words.now))) }
 {
     match plan(alloc, words)? {
@@ -56,6 +59,7 @@ fn named_by(alloc: Global, plan: Plan) -> Result<Places, AllocError>
     ensures files { IfOk result (λ x. option_map (λ f. (string_bytes f.0, string_bytes f.1)) x.files ≡ files_of (taken_as (Ok plan))) }
     ensures signer { IfOk result (λ x. x.services.signer ≡ signer_of (taken_as (Ok plan))) }
     ensures nodes { IfOk result (λ x. x.services.nodes.items ≡ nodes_of (taken_as (Ok plan))) }
+    ensures timeout { IfOk result (λ x. x.services.timeout ≡ timeout_of (taken_as (Ok plan))) }
     ensures listen { IfOk result (λ x. x.services.listen ≡ listen_of (taken_as (Ok plan))) }
 {
     let files = plan_files(alloc, &plan)?;
@@ -67,11 +71,13 @@ fn named_by(alloc: Global, plan: Plan) -> Result<Places, AllocError>
 fn no_services(alloc: Global) -> Services
     ensures signer { result.signer ≡ None }
     ensures nodes { result.nodes.items ≡ [] }
+    ensures timeout { result.timeout ≡ None }
     ensures listen { result.listen ≡ None }
 {
     Services {
         signer: None,
         nodes: Vec::new(alloc),
+        timeout: None,
         listen: None,
     }
 }
@@ -80,6 +86,7 @@ fn no_services(alloc: Global) -> Services
 fn services_in(alloc: Global, plan: Plan) -> Services
     ensures signer { result.signer ≡ signer_of (taken_as (Ok plan)) }
     ensures nodes { result.nodes.items ≡ nodes_of (taken_as (Ok plan)) }
+    ensures timeout { result.timeout ≡ timeout_of (taken_as (Ok plan)) }
     ensures listen { result.listen ≡ listen_of (taken_as (Ok plan)) }
 {
     match plan {
@@ -87,6 +94,7 @@ fn services_in(alloc: Global, plan: Plan) -> Services
         Plan::Session { signer, .. } => Services {
             signer,
             nodes: Vec::new(alloc),
+            timeout: None,
             listen: None,
         },
         _ => no_services(alloc),
@@ -97,6 +105,7 @@ fn services_in(alloc: Global, plan: Plan) -> Services
 fn services_of(options: ServeOptions) -> Services
     ensures signer { result.signer ≡ Some options.signer }
     ensures nodes { result.nodes.items ≡ options.nodes }
+    ensures timeout { result.timeout ≡ Some options.timeout }
     ensures listen { result.listen ≡ Some options.listen }
 {
     let ServeOptions {
@@ -109,11 +118,14 @@ fn services_of(options: ServeOptions) -> Services
         slots: _slots,
         connections: _connections,
         lanes: _lanes,
+        keep_epochs: _keep_epochs,
+        timeout,
         nodes,
     } = options;
     Services {
         signer: Some(signer),
         nodes: nodes.into_vec(),
+        timeout: Some(timeout),
         listen: Some(listen),
     }
 }

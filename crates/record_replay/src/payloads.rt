@@ -66,7 +66,7 @@ pub fn replay(alloc: Global, reader: Reader) -> Result<Replayed, ReplayFault>
     })
 }
 
-/// What the items of the payloads that are left say of each key; then none are left. A payload that cannot be read adds nothing.
+/// What the items of the payloads that are left say of each key; then none are left.
 fn gather(alloc: Global, reader: &mut Reader) -> Result<Histories, AllocError>
     ensures { IfOk result (λ g. IsGathered (items_in reader.old) g.keys.entries g.states.entries) }
 {

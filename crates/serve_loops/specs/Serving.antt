@@ -21,6 +21,7 @@ use Rattle.keymanager_api.specs.Visits.{ServesAll}
 use Rattle.keymanager_api.specs.declared.connections.Connections.{Connections}
 use Rattle.keymanager_api.specs.declared.connections.ConnectionsEnd.{ConnectionsEnd}
 use Rattle.keymanager_api.specs.declared.connections.ConnectionsEnd.TheVariants as connections_end
+use Rattle.command_line.specs.Serving.{last_of}
 use Rattle.command_line.specs.declared.serve_options.ServeOptions.{ServeOptions}
 use Rattle.journal_commands.specs.Views.{Output, ClosedBy}
 use Rattle.serve_loops.specs.Views.{Calls, Grew}
@@ -35,7 +36,7 @@ pub record Wanted : Type 0 where
 
 -- the duties of a client
 abbrev pub setup_of : ServeOptions → Start → DutySetup
-setup_of options start = record { genesis = options.genesis; genesis_time = start.genesis_time; fork = start.fork; watch = options.watch; slots = options.slots }
+setup_of options start = record { genesis = options.genesis; genesis_time = start.genesis_time; fork = start.fork; watch = options.watch; slots = options.slots; keep_epochs = last_of options.keep_epochs }
 
 -- how the output ends where the duties came to their number of turns, by how the connections ended
 abbrev pub ClosesConnections : Result (Unit {0}) ConnectionsEnd → Output → Output → Status → Type 0

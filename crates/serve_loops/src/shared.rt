@@ -39,7 +39,7 @@ struct Room<D: Disk, S, N> {
     ends: Vec<LaneEnd<S, N>>,
 }
 
-/// Room for so many lanes. The error is want of memory.
+/// Room for that many lanes. The error is want of memory.
 fn room_for<D: Disk, S: Drop, N: Drop>(
     alloc: Global,
     count: usize,
@@ -72,6 +72,7 @@ fn work_of<'a, C>(
             fork: start.fork,
             watch: options.watch,
             slots: options.slots,
+            keep_epochs: options.keep_epochs.last(),
         },
         wanted: Connections {
             token: options.token.as_str(),

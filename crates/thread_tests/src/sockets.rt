@@ -139,7 +139,7 @@ fn a_listener_is_a_door(rt: HostRuntime) -> Result<(), Fail> {
     Ok(())
 }
 
-/// A link to a listener at a free port of this machine, whose exchanges may last so many milliseconds.
+/// A link to a listener at a free port of this machine, whose exchanges may last that many milliseconds.
 fn link_to<N: Net + Eprint + Clock + Drop>(
     rt: N,
     alloc: Global,

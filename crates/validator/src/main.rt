@@ -5,7 +5,7 @@ ghost use Rattle.std.specs.Prelude.{◌≡◌, [], IfOk};
 ghost use Rattle.edge_kit.specs.OnMemDisks.{disk_bytes};
 
 use beacon_node::BeaconNode;
-use command_line::ListenAddress;
+use command_line::{ListenAddress, NodeTimeout};
 use edge_clock::SystemClock;
 use edge_kit::{Disk, Disks, Door, MemDisk};
 use edge_system::{
@@ -29,10 +29,7 @@ use std::{env, io};
 use validator_cli::{Status, run_validator};
 use web3_signer::Web3Signer;
 
-/// How many seconds an exchange with a beacon node may last.
-const NODE_SECONDS: u64 = 2;
-
-/// How many seconds one may last in which a block is made or handed in.
+/// How many seconds an exchange with a beacon node may last at least in which a block is made or handed in.
 const BLOCK_SECONDS: u64 = 4;
 
 /// How many seconds an exchange with the signing service may last.
@@ -40,6 +37,13 @@ const SIGNER_SECONDS: u64 = 3;
 
 /// How many seconds one may last in which it takes a keystore in or gives one up.
 const KEYSTORE_SECONDS: u64 = 10;
+
+/// Where the beacon nodes are, and how long a question to one may take.
+#[derive(Drop)]
+struct NodePlaces {
+    services: Vec<ServiceUrl>,
+    timeout: NodeTimeout,
+}
 
 /// The words of the command line. Where one is no UTF-8 there are none, which is no command.
 fn words<R: Env + AllocGlobal>(rt: &R) -> Result<Vec<String>, AllocError> {
@@ -65,7 +69,7 @@ fn memory_disks(alloc: Global) -> Result<Disks<MemDisk>, AllocError>
     })
 }
 
-/// A link to a service, which is not yet connected, and whose exchanges may last so many seconds.
+/// A link to a service, which is not yet connected, and whose exchanges may last that many seconds.
 fn link_to<'a, R: Net + Eprint + Clock>(
     rt: &'a R,
     alloc: Global,
@@ -84,11 +88,15 @@ fn node_link<'a, R: Net + Eprint + Clock>(
     rt: &'a R,
     alloc: Global,
     service: &ServiceUrl,
+    seconds: u64,
     peers: &Arc<Peers, Global>,
     index: usize,
 ) -> Result<TcpLink<&'a R>, AllocError> {
-    let mut link = link_to(rt, alloc, service, NODE_SECONDS)?;
-    link.set_long_limit(LongRequests::Blocks, Duration::from_secs(BLOCK_SECONDS));
+    let mut link = link_to(rt, alloc, service, seconds)?;
+    link.set_long_limit(
+        LongRequests::Blocks,
+        Duration::from_secs(seconds.max(BLOCK_SECONDS)),
+    );
     link.set_aside_among(Arc::try_clone(peers)?, index);
     Ok(link)
 }
@@ -107,16 +115,17 @@ fn link_to_signer<'a, R: Net + Eprint + Clock>(
     Ok(link)
 }
 
-/// The beacon nodes at these addresses, in their order.
+/// The beacon nodes at these places, in their order.
 fn nodes_at<'a, R: Net + Eprint + Clock>(
     rt: &'a R,
     alloc: Global,
-    services: Vec<ServiceUrl>,
+    places: NodePlaces,
 ) -> Result<Vec<BeaconNode<TcpLink<&'a R>>>, AllocError> {
+    let NodePlaces { services, timeout } = places;
     let peers = Arc::new(alloc, Peers::new(alloc, services.len())?)?;
     let mut nodes = Vec::new(alloc);
     'services: for (index, service) in services.into_iter().enumerate() {
-        let link = node_link(rt, alloc, &service, &peers, index)?;
+        let link = node_link(rt, alloc, &service, timeout.seconds(), &peers, index)?;
         nodes.push(BeaconNode::new(link, service))?;
     }
     Ok(nodes)
@@ -149,9 +158,14 @@ where
 {
     let Services {
         signer,
-        nodes,
+        nodes: services,
+        timeout,
         listen,
     } = services;
+    let nodes = NodePlaces {
+        services,
+        timeout: timeout.unwrap_or(NodeTimeout::two()),
+    };
     let Some(service) = signer else {
         let signer = MemSigner::new(alloc, Vec::new(alloc), Vec::new(alloc));
         return run_asking(rt, alloc, words, disks, signer, nodes, listen);
@@ -163,7 +177,7 @@ where
     run_asking(rt, alloc, words, disks, signer, nodes, listen)
 }
 
-/// A run of the words over these disks, with this signer, beacon nodes at these addresses, and a door at that.
+/// A run of the words over these disks, with this signer, beacon nodes at these places, and a door at that address.
 fn run_asking<
     R: Threads + Wait + Sync + Input + Print + Eprint + Net + Clock,
     D: Disk + Drop + Send,
@@ -174,7 +188,7 @@ fn run_asking<
     words: &[String],
     disks: Disks<D>,
     signer: S,
-    nodes: Vec<ServiceUrl>,
+    nodes: NodePlaces,
     listen: Option<ListenAddress>,
 ) -> Status
 where

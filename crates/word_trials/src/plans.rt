@@ -120,10 +120,20 @@ fn push_options(alloc: Global, out: &mut String, options: &ServeOptions) -> Resu
     )?;
     push_service(out, &options.signer)?;
     push_door(out, options)?;
+    push_work(out, options)?;
     for node in options.nodes.as_slice() {
         push_service(out, node)?;
     }
     Ok(())
+}
+
+/// Appends of how many epochs a server keeps everything, and how many seconds a question to a node may take.
+fn push_work(out: &mut String, options: &ServeOptions) -> Result<(), AllocError> {
+    match options.keep_epochs.last() {
+        Some(count) => write!(out, " {count}")?,
+        None => out.push_str(" all")?,
+    }
+    write!(out, " {}", options.timeout.seconds())
 }
 
 /// Appends where a server answers, its token, whether it watches, when it ends, and how many lanes it has.

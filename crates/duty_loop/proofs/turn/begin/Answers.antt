@@ -7,9 +7,9 @@ use Rattle.duty_loop.proofs.turn.begin.Goals as goal
 pub returns-then-slot-later-clause-runs : goal.returns-then-slot-later-clause-runs
 returns-then-slot-later-clause-runs g c = λ s h.
     let later = c.slot_of-later.result in
-    closed_as g.K.DeskCalls.leads (g.C.Clock.start c.args.clock.now) _ (woken_plan c.args.setup.now s c.args.reached) s (at_slot later s) _ _ c.args.held.now.slot [] [] [] [] c.close.result
+    closed_as g.K.DeskCalls.leads (g.C.Clock.start c.args.clock.now) _ c.args.setup.now (woken_plan c.args.setup.now s c.args.reached) s (at_slot later s) _ _ c.args.held.now.slot [] [] [] [] c.close.result
     (woken_late c.args.setup.now s c.args.reached later c.slot_of-later.ensures (subst (λ n. n < later) h.is.slot c.if-slot-later.true)) h.is.slot refl refl (holds_at c.args.held.now _ s later h refl refl refl refl refl)
-    (c.close.ensures.runs (g.C.Clock.start c.args.clock.now) _ _ (at_slot later s))
+    (c.close.ensures.runs (g.C.Clock.start c.args.clock.now) _ _ (at_slot later s) h.is.active)
 
 pub returns-in_default-clause-runs : goal.returns-in_default-clause-runs
 returns-in_default-clause-runs g c = λ s h.

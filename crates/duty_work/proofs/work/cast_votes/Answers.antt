@@ -15,9 +15,9 @@ do_duties-requires-clause-places g c = λ lifetimes outlives. subst (λ (l : Lis
 pub returns-then-slot-later-clause-runs : goal.returns-then-slot-later-clause-runs
 returns-then-slot-later-clause-runs g c = λ start nodes s h.
     let later = c.slot_of-later.result in
-    closed_as g.K.DeskCalls.leads start _ (votes_plan c.args.setup.now s c.args.due.now c.args.proposed.now c.args.reached) s (at_slot later s) _ _ c.args.held.now.slot c.args.blocks.now (blocks_in c.args.due.now) c.args.proposed.now c.args.proposed.now c.close.result
+    closed_as g.K.DeskCalls.leads start _ c.args.setup.now (votes_plan c.args.setup.now s c.args.due.now c.args.proposed.now c.args.reached) s (at_slot later s) _ _ c.args.held.now.slot c.args.blocks.now (blocks_in c.args.due.now) c.args.proposed.now c.args.proposed.now c.close.result
     (votes_late c.args.setup.now s c.args.due.now c.args.proposed.now c.args.reached later c.slot_of-later.ensures (subst (λ n. n < later) h.is.slot c.if-slot-later.true)) h.is.slot c.requires.blocks refl (holds_at c.args.held.now _ s later h refl refl refl refl refl)
-    (c.close.ensures.runs start _ _ (at_slot later s))
+    (c.close.ensures.runs start _ _ (at_slot later s) h.is.active)
 
 pub returns-in_default-clause-runs : goal.returns-in_default-clause-runs
 returns-in_default-clause-runs g c = λ start nodes s h. short g.K.DeskCalls.leads start _ _ s _
@@ -33,7 +33,7 @@ returns-clause-runs g c = λ start nodes s h.
     votes_done g.K.DeskCalls.leads start _ c.args.setup.now s _ _ _ nodes _ c.args.due.now c.as_slice-votes.result.now c.args.proposed.now c.args.reached c.slot_of-later.result c.args.held.now.slot (length c.args.blocks.now) c.slot_of-later.ensures h.is.slot c.if-slot-later.false (c.as_slice-votes.ensures.value ∙ c.in-Ok.ensures)
     (ap (λ (l : List Duty). length l) c.requires.blocks)
     _ c.as_slice-cast.result.now c.close_both.result (rw c.as_slice-cast.ensures.value (c.in-Ok-do_duties.ensures.works s h))
-    (closed_as g.K.DeskCalls.leads start _ (close_plan s.slot (blocks_in c.args.due.now ++ votes_in c.args.due.now) (c.args.proposed.now ++ c.as_slice-cast.result.now) (at_slot (next_slot s.slot) s)) s (at_slot (next_slot s.slot) s) _ _ c.args.held.now.slot
+    (closed_as g.K.DeskCalls.leads start _ c.args.setup.now (close_plan c.args.setup.now s.slot (blocks_in c.args.due.now ++ votes_in c.args.due.now) (c.args.proposed.now ++ c.as_slice-cast.result.now) (at_slot (next_slot s.slot) s)) s (at_slot (next_slot s.slot) s) _ _ c.args.held.now.slot
     (c.args.blocks.now ++ c.as_slice-votes.result.now) (blocks_in c.args.due.now ++ votes_in c.args.due.now) (c.args.proposed.now ++ c.as_slice-cast.result.now) (c.args.proposed.now ++ c.as_slice-cast.result.now) c.close_both.result refl h.is.slot
     (ap (λ (l : List Duty). l ++ c.as_slice-votes.result.now) c.requires.blocks ∙ ap (λ (l : List Duty). blocks_in c.args.due.now ++ l) (c.as_slice-votes.ensures.value ∙ c.in-Ok.ensures)) refl
-    (holds_at c.args.held.now _ s (next_slot s.slot) h (c.next_slot-held.ensures ∙ ap (λ n. next_slot n) h.is.slot) refl refl refl refl) (c.close_both.ensures.runs start _ _ (at_slot (next_slot s.slot) s)))
+    (holds_at c.args.held.now _ s (next_slot s.slot) h (c.next_slot-held.ensures ∙ ap (λ n. next_slot n) h.is.slot) refl refl refl refl) (c.close_both.ensures.runs start _ _ (at_slot (next_slot s.slot) s) h.is.active))

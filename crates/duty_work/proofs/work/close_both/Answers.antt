@@ -5,10 +5,10 @@ use Rattle.duty_work.proofs.RunLemmas.{closing}
 use Rattle.duty_work.proofs.work.close_both.Goals as goal
 
 pub returns-in_default-clause-runs : goal.returns-in_default-clause-runs
-returns-in_default-clause-runs g c = λ start lanes nodes s. carries_cut Fits (Does g.K.DeskCalls.leads start) _ _
+returns-in_default-clause-runs g c = λ start lanes nodes s active. carries_cut Fits (Does g.K.DeskCalls.leads start) _ _
 
 pub returns-in_default-joined-clause-runs : goal.returns-in_default-joined-clause-runs
-returns-in_default-joined-clause-runs g c = λ start lanes nodes s. carries_cut Fits (Does g.K.DeskCalls.leads start) _ _
+returns-in_default-joined-clause-runs g c = λ start lanes nodes s active. carries_cut Fits (Does g.K.DeskCalls.leads start) _ _
 
 pub returns-clause-runs : goal.returns-clause-runs
-returns-clause-runs g c = λ start lanes nodes s. closing g.K.DeskCalls.leads start s _ _ c.args.slot c.as_slice-duties.result.now _ c.as_slice-results.result.now _ _ (c.as_slice-duties.ensures.value ∙ c.in-Ok.ensures) (c.as_slice-results.ensures.value ∙ c.in-Ok-joined.ensures) (c.close.ensures.runs start lanes nodes s)
+returns-clause-runs g c = λ start lanes nodes s active. closing g.K.DeskCalls.leads start c.args.setup.now s _ _ c.args.slot c.as_slice-duties.result.now _ c.as_slice-results.result.now _ _ (c.as_slice-duties.ensures.value ∙ c.in-Ok.ensures) (c.as_slice-results.ensures.value ∙ c.in-Ok-joined.ensures) (c.close.ensures.runs start lanes nodes s active)
