@@ -1,6 +1,6 @@
 #!/usr/bin/env bash
-# What a kept vote costs in memory: the built program's resident size while it signs votes of 100 keys (memory.py).
-# Usage: bench/memory.sh [VOTES]     (160,000; PROGRAM=PATH for another program)
+# What a kept vote or block costs in memory: the built program's resident size while it signs for 100 keys (memory.py).
+# Usage: bench/memory.sh [NUMBER] [votes|blocks]     (160,000 votes; PROGRAM=PATH for another program)
 set -eu
 cd "$(dirname "$0")/.."
 program=${PROGRAM:-crates/validator/out/validator}
