@@ -58,7 +58,7 @@ pub struct Peers {
 }
 
 impl Peers {
-    /// So many peers, none of which is set aside.
+    /// That many peers, none of which is set aside.
     ///
     /// # Errors
     ///

@@ -67,8 +67,9 @@ pub struct TcpDoor<N: Net + Eprint + Clock + Drop> {
     faults: u64,
 }
 
-/// A connection that was accepted, with a count of its failures. Each read may last 10 seconds, the request 30 seconds,
-/// the reply 30 seconds from its first byte on. It was begun by its peer, so `connect` begins no other, and fails.
+/// A connection that was accepted, with a count of its failures. A single read has a limit of time (`READ_SECONDS`), and so
+/// have the whole request and the whole reply (`LIMIT_SECONDS`), the reply's from its first byte on. It was begun by its
+/// peer, so `connect` begins no other, and fails.
 #[derive(Drop)]
 pub struct TcpConn<S: Read + Write + OpenStream + Drop, C: Clock + Drop> {
     stream: Option<Timed<S>>,

@@ -41,7 +41,7 @@ impl SourceBounds {
         }
     }
 
-    /// Reserves room for so many votes in all.
+    /// Reserves room for that many votes in all.
     pub fn reserve(&mut self, wanted: usize) -> Result<(), AllocError>
         ensures room { OnOk result (wanted ≤ self.new.capacity) }
         ensures greatest { self.new.greatest ≡ self.old.greatest }

@@ -3,7 +3,7 @@ ghost use Rattle.std.specs.Prelude.{◌≡◌, ◌+◌, ◌/◌, ◌≤◌, ◌<
 
 use std::alloc::AllocError;
 
-/// Makes room for so many more elements. Where room is lacking, the list grows to the length that is wanted and a
+/// Makes room for that many more elements. Where room is lacking, the list grows to the length that is wanted and a
 /// sixteenth of the length that it has. So little of it stays empty, and elements that are added one at a time
 /// are moved a fixed number of times each on average.
 ///
