@@ -8,6 +8,7 @@ use crate::address::Address;
 use crate::span::Span;
 use crate::tcp_stream::{Timed, recv_over, send_over};
 use crate::told::counted;
+use edge_clock::Halt;
 use edge_kit::{Door, Failed, Link, count_fault};
 use std::alloc::{AllocError, Global};
 use std::io::{Eprint, ErrorKind, Read, Write};
@@ -25,6 +26,16 @@ const READ_SECONDS: u64 = 10;
 
 /// For how many milliseconds the door waits after the system could not accept for now.
 const NAP_MILLISECONDS: u64 = 100;
+
+/// For how many milliseconds the door waits at most before it looks again whether a connection came, or its halt was
+/// raised.
+const LONGEST_LOOK: u64 = 50;
+
+/// For how many milliseconds a connection that is ended is heard out after its peer fell silent.
+const SILENT_MILLISECONDS: u64 = 500;
+
+/// For how many seconds a connection that is ended is heard out at most.
+const HEARD_OUT_SECONDS: u64 = 5;
 
 /// The system's number for a process that may open no more files.
 const NO_MORE_FILES: i32 = 24;
@@ -56,20 +67,23 @@ const FORBIDDEN: i32 = 1;
 /// A door at an address, or a host's name, and a port, with a count of its failures. It listens from the first
 /// `listen` or `accept` on. What the system says of a failure is reported on standard error. A connection that ends
 /// while it is accepted is passed over. Where the system cannot accept for now, as when the process may open no more
-/// files, that is reported once, and `accept` tries again until it can.
+/// files, that is reported once, and `accept` tries again until it can. Once its halt is raised `accept` waits no longer:
+/// no further connection comes.
 #[derive(Drop)]
-pub struct TcpDoor<N: Net + Eprint + Clock + Drop> {
+pub struct TcpDoor<'a, N: Net + Eprint + Clock + Drop> {
     alloc: Global,
     handle: N,
     host: String,
     port: u16,
+    halt: &'a Halt,
     listener: Option<N::Listener>,
     faults: u64,
 }
 
 /// A connection that was accepted, with a count of its failures. A single read has a limit of time (`READ_SECONDS`), and so
 /// have the whole request and the whole reply (`LIMIT_SECONDS`), the reply's from its first byte on. It was begun by its
-/// peer, so `connect` begins no other, and fails.
+/// peer, so `connect` begins no other, and fails. `hang_up` says to the peer that nothing further comes, and hears out what
+/// the peer still sends, for `HEARD_OUT_SECONDS` at most, so that the system does not take the reply back.
 #[derive(Drop)]
 pub struct TcpConn<S: Read + Write + OpenStream + Drop, C: Clock + Drop> {
     stream: Option<Timed<S>>,
@@ -77,9 +91,9 @@ pub struct TcpConn<S: Read + Write + OpenStream + Drop, C: Clock + Drop> {
     faults: u64,
 }
 
-impl<N: Net + Eprint + Clock + Drop> TcpDoor<N> {
-    /// A door that doesn't listen yet.
-    pub fn new(alloc: Global, handle: N, host: String, port: u16) -> Self
+impl<'a, N: Net + Eprint + Clock + Drop> TcpDoor<'a, N> {
+    /// A door that doesn't listen yet, and that accepts nothing once this halt is raised.
+    pub fn new(alloc: Global, handle: N, host: String, port: u16, halt: &'a Halt) -> Self
         ensures { result.faults ≡ 0 }
     {
         TcpDoor {
@@ -87,6 +101,7 @@ impl<N: Net + Eprint + Clock + Drop> TcpDoor<N> {
             handle,
             host,
             port,
+            halt,
             listener: None,
             faults: 0,
         }
@@ -123,12 +138,19 @@ impl<N: Net + Eprint + Clock + Drop> TcpDoor<N> {
     {
         match self.listener.take() {
             Some(listener) => Ok(listener),
-            None => TcpListener::bind(&self.handle, (self.host.as_str(), self.port)),
+            None => self.bind(),
         }
     }
 
-    // The next connection that the listener accepts, which listens from now on.
-    fn next(&mut self) -> io::Result<N::Stream>
+    // A listener at the address, whose `accept` does not wait.
+    fn bind(&self) -> io::Result<N::Listener> {
+        let listener = TcpListener::bind(&self.handle, (self.host.as_str(), self.port))?;
+        listener.set_nonblocking(true)?;
+        Ok(listener)
+    }
+
+    // The next connection that the listener accepts, which listens from now on; none once the halt is raised.
+    fn next(&mut self) -> io::Result<Option<N::Stream>>
         ensures { self.new.faults ≡ self.old.faults }
     {
         let listener = self.take()?;
@@ -137,12 +159,18 @@ impl<N: Net + Eprint + Clock + Drop> TcpDoor<N> {
         next
     }
 
-    // The next connection that a listener accepts. What passes is waited out, and reported once.
-    fn next_of(&self, listener: &N::Listener) -> io::Result<N::Stream> {
+    // The next connection that a listener accepts; none once the halt is raised. What passes is waited out, and reported
+    // once.
+    fn next_of(&self, listener: &N::Listener) -> io::Result<Option<N::Stream>> {
         let mut is_reported = false;
+        let mut look = 1;
         'accepting: for _ in 0..u64::MAX {
+            if self.halt.is_raised() {
+                return Ok(None);
+            }
             match listener.accept() {
-                Ok((stream, _)) => return Ok(stream),
+                Ok((stream, _)) => return Ok(Some(stream)),
+                Err(error) if error.kind() == ErrorKind::WouldBlock => look = self.look_later(look),
                 Err(error) if is_of_one(error.kind()) => {}
                 Err(error) if is_passing(&error) => {
                     self.wait_out(&error, is_reported);
@@ -151,7 +179,13 @@ impl<N: Net + Eprint + Clock + Drop> TcpDoor<N> {
                 Err(error) => return Err(error),
             }
         }
-        Err(io::Error::from(ErrorKind::Interrupted))
+        Ok(None)
+    }
+
+    // Waits for that many milliseconds, and gives for how many to wait the next time.
+    fn look_later(&self, milliseconds: u64) -> u64 {
+        thread::sleep(&self.handle, Duration::from_millis(milliseconds));
+        milliseconds.saturating_mul(2).min(LONGEST_LOOK)
     }
 
     // Waits a little, and reports what for where that was not reported yet.
@@ -207,7 +241,7 @@ fn is_passing(error: &io::Error) -> bool {
     }
 }
 
-impl<N: Net + Eprint + Clock + Copy + Drop> Door for TcpDoor<N> {
+impl<N: Net + Eprint + Clock + Copy + Drop> Door for TcpDoor<'_, N> {
     type Conn = TcpConn<N::Stream, N>;
 
     ghost coming = { λ _. None };
@@ -220,7 +254,9 @@ impl<N: Net + Eprint + Clock + Copy + Drop> Door for TcpDoor<N> {
 
     fn accept(&mut self) -> Result<Option<TcpConn<N::Stream, N>>, Failed> {
         let next = self.next();
-        let stream = self.counted(next)?;
+        let Some(stream) = self.counted(next)? else {
+            return Ok(None);
+        };
         Ok(Some(TcpConn {
             stream: self.timed(stream).ok(),
             clock: self.handle,
@@ -288,6 +324,11 @@ impl<S: Read + Write + OpenStream + Drop, C: Clock + Copy + Drop> Link for TcpCo
     }
 
     fn hang_up(&mut self) -> Result<(), Failed> {
+        if let Some(stream) = &mut self.stream {
+            let silent = Duration::from_millis(SILENT_MILLISECONDS);
+            let longest = Duration::from_secs(HEARD_OUT_SECONDS);
+            let _ = stream.hear_out(&self.clock, silent, longest);
+        }
         self.stream = None;
         Ok(())
     }

@@ -7,7 +7,7 @@ use crate::span::Span;
 use std::alloc::Global;
 use std::io;
 use std::io::{BufReader, ErrorKind, Read, Write};
-use std::net::OpenStream;
+use std::net::{OpenStream, Shutdown};
 use std::rt::Clock;
 use std::time::Duration;
 
@@ -120,6 +120,26 @@ impl<S: Read + Write + OpenStream + Drop> Timed<S> {
             Err(_) => self.is_heard = false,
         }
         read
+    }
+
+    // Says to the peer that nothing further comes, and reads what the peer still sends, up to its end, to a read that lasts
+    // so long, or to the end of a span of this length.
+    pub(crate) fn hear_out<C: Clock>(
+        &mut self,
+        clock: &C,
+        silent: Duration,
+        longest: Duration,
+    ) -> io::Result<()> {
+        self.inner.get_ref().shutdown(Shutdown::Write)?;
+        self.span = Span::begin(clock, longest)?;
+        self.longest_read = Some(silent);
+        let mut piece = [0; 4096];
+        'pieces: for _ in 0..u64::MAX {
+            if self.read_in_time(clock, &mut piece)? == 0 {
+                return Ok(());
+            }
+        }
+        Ok(())
     }
 }
 
