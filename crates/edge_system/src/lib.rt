@@ -5,6 +5,7 @@
 mod adapters;
 mod address;
 mod file_disk;
+mod heard;
 mod open_file;
 mod silence;
 mod span;

@@ -32,22 +32,23 @@ impl Silence {
         now < self.until.load(Ordering::SeqCst)
     }
 
-    // Sets the peer aside from this moment on, twice as long as the last time. One that is set aside already stays so
-    // for as long as before.
-    fn set_aside_at(&self, now: u64) {
+    // Sets the peer aside from this moment on, twice as long as the last time, and gives for how many milliseconds. One
+    // that is set aside already stays so for as long as before.
+    fn set_aside_at(&self, now: u64) -> Option<u64> {
         if self.waits_at(now) {
-            return;
+            return None;
         }
         let pause = pause_after(self.pause.load(Ordering::SeqCst));
         self.pause.store(pause, Ordering::SeqCst);
         self.until
             .store(now.saturating_add(pause), Ordering::SeqCst);
+        Some(pause)
     }
 
-    // Takes the peer back after it answered.
-    fn take_back(&self) {
-        self.until.store(0, Ordering::SeqCst);
+    // Takes the peer back after it answered, and gives whether it was set aside before.
+    fn take_back(&self) -> bool {
         self.pause.store(0, Ordering::SeqCst);
+        self.until.swap(0, Ordering::SeqCst) != 0
     }
 }
 
@@ -89,17 +90,18 @@ impl Peers {
         waits && has_other
     }
 
-    // Sets a peer aside after an exchange that passed its limit.
-    pub(crate) fn set_aside<C: Clock>(&self, clock: &C, index: usize) {
-        if let (Some(peer), Some(now)) = (self.all.get(index), shown_by(clock)) {
-            peer.set_aside_at(now);
-        }
+    // Sets a peer aside after an exchange that passed its limit, and gives for how many milliseconds, where it was not set
+    // aside already.
+    pub(crate) fn set_aside<C: Clock>(&self, clock: &C, index: usize) -> Option<u64> {
+        let peer = self.all.get(index)?;
+        peer.set_aside_at(shown_by(clock)?)
     }
 
-    // Takes a peer back after it answered.
-    pub(crate) fn take_back(&self, index: usize) {
-        if let Some(peer) = self.all.get(index) {
-            peer.take_back();
+    // Takes a peer back after it answered, and gives whether it was set aside before.
+    pub(crate) fn take_back(&self, index: usize) -> bool {
+        match self.all.get(index) {
+            Some(peer) => peer.take_back(),
+            None => false,
         }
     }
 }

@@ -5,6 +5,7 @@ ghost use Rattle.std.specs.Result.{result_ok};
 ghost use Rattle.edge_kit.specs.Causes.{HasCause};
 
 use crate::address::Address;
+use crate::heard::{Call, Heard};
 use crate::span::Span;
 use crate::tcp_stream::{Timed, recv_over, send_over};
 use crate::told::counted;
@@ -83,11 +84,14 @@ pub struct TcpDoor<'a, N: Net + Eprint + Clock + Drop> {
 /// A connection that was accepted, with a count of its failures. A single read has a limit of time (`READ_SECONDS`), and so
 /// have the whole request and the whole reply (`LIMIT_SECONDS`), the reply's from its first byte on. It was begun by its
 /// peer, so `connect` begins no other, and fails. `hang_up` says to the peer that nothing further comes, and hears out what
-/// the peer still sends, for `HEARD_OUT_SECONDS` at most, so that the system does not take the reply back.
+/// the peer still sends, for `HEARD_OUT_SECONDS` at most, so that the system does not take the reply back. It reports on
+/// standard error a request that changes something and one that is refused: the method, the target, the status and the first
+/// 200 bytes of the reply's body, which says what became of each key.
 #[derive(Drop)]
-pub struct TcpConn<S: Read + Write + OpenStream + Drop, C: Clock + Drop> {
+pub struct TcpConn<S: Read + Write + OpenStream + Drop, C: Eprint + Clock + Drop> {
     stream: Option<Timed<S>>,
     clock: C,
+    heard: Heard,
     faults: u64,
 }
 
@@ -260,6 +264,7 @@ impl<N: Net + Eprint + Clock + Copy + Drop> Door for TcpDoor<'_, N> {
         Ok(Some(TcpConn {
             stream: self.timed(stream).ok(),
             clock: self.handle,
+            heard: Heard::new(self.alloc),
             faults: 0,
         }))
     }
@@ -267,7 +272,7 @@ impl<N: Net + Eprint + Clock + Copy + Drop> Door for TcpDoor<'_, N> {
     fn finish(&mut self, _conn: TcpConn<N::Stream, N>) {}
 }
 
-impl<S: Read + Write + OpenStream + Drop, C: Clock + Drop> TcpConn<S, C> {
+impl<S: Read + Write + OpenStream + Drop, C: Eprint + Clock + Drop> TcpConn<S, C> {
     /// How many calls have failed.
     pub fn faults(&self) -> u64
         ensures { result ≡ self.now.faults }
@@ -287,6 +292,14 @@ impl<S: Read + Write + OpenStream + Drop, C: Clock + Drop> TcpConn<S, C> {
         send_over(&mut self.stream, &self.clock, piece)
     }
 
+    // Reports a request that changes something, or that was refused.
+    fn report(&self) {
+        if self.stream.is_some() && (self.heard.changes() || self.heard.is_refusal()) {
+            let call = Call(&self.heard);
+            let _ = eprintln!(&self.clock; "Keymanager API: {call}");
+        }
+    }
+
     // What the system answered, whose failure is counted.
     fn counted<T>(&mut self, done: io::Result<T>) -> Result<T, Failed>
         ensures same { result_ok result ≡ result_ok done }
@@ -299,7 +312,7 @@ impl<S: Read + Write + OpenStream + Drop, C: Clock + Drop> TcpConn<S, C> {
     }
 }
 
-impl<S: Read + Write + OpenStream + Drop, C: Clock + Copy + Drop> Link for TcpConn<S, C> {
+impl<S: Read + Write + OpenStream + Drop, C: Eprint + Clock + Copy + Drop> Link for TcpConn<S, C> {
     ghost left = { λ _. None };
 
     ghost coming = { λ _. None };
@@ -315,11 +328,17 @@ impl<S: Read + Write + OpenStream + Drop, C: Clock + Copy + Drop> Link for TcpCo
 
     fn send(&mut self, piece: &[u8]) -> Result<usize, Failed> {
         let sent = self.reply(piece);
+        if let Ok(count) = &sent {
+            self.heard.answer(piece.get(..*count).unwrap_or(piece));
+        }
         self.counted(sent)
     }
 
     fn recv(&mut self, buf: &mut [u8]) -> Result<usize, Failed> {
         let read = recv_over(&mut self.stream, &self.clock, buf);
+        if let Ok(count) = &read {
+            self.heard.ask(buf.get(..*count).unwrap_or(&[]));
+        }
         self.counted(read)
     }
 
@@ -329,19 +348,21 @@ impl<S: Read + Write + OpenStream + Drop, C: Clock + Copy + Drop> Link for TcpCo
             let longest = Duration::from_secs(HEARD_OUT_SECONDS);
             let _ = stream.hear_out(&self.clock, silent, longest);
         }
+        self.report();
         self.stream = None;
         Ok(())
     }
 
     /// A connection that is not there, since its peer began one alone: each `connect`, `send` and `recv` of it fails
     /// and is counted. Takes no memory.
-    fn twin(&self, _alloc: Global) -> Result<Self, AllocError>
+    fn twin(&self, alloc: Global) -> Result<Self, AllocError>
         ensures faults { IfOk result (λ t. t.faults ≡ 0) }
         ensures gone { IfOk result (λ t. t.stream ≡ None) }
     {
         Ok(TcpConn {
             stream: None,
             clock: self.clock,
+            heard: Heard::new(alloc),
             faults: 0,
         })
     }

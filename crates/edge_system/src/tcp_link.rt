@@ -4,6 +4,7 @@ ghost use Rattle.std.specs.Result.{result_ok};
 ghost use Rattle.edge_kit.specs.Causes.{HasCause};
 
 use crate::address::Address;
+use crate::heard::{Call, Heard};
 use crate::silence::Peers;
 use crate::span::Span;
 use crate::tcp_stream::{LongRequests, Timed, recv_over, send_over};
@@ -28,7 +29,8 @@ struct Place {
 /// connects at `connect`, and reads ahead, so that reading byte by byte is cheap. An exchange begins at `connect`. To
 /// connect, and all that is sent and received over the connection, lasts no longer than one limit: the call that is
 /// over it fails, and so does each later one of the exchange. How long the system looks a name up is not limited, and
-/// does not count. What the system says of a failure is reported on standard error.
+/// does not count. What the system says of a failure is reported on standard error, with the call; and so is an answer whose
+/// status is not one of success, with the first 200 bytes of its body, and that the peer is set aside or taken back.
 #[derive(Drop)]
 pub struct TcpLink<N: Net + Eprint + Clock + Drop> {
     alloc: Global,
@@ -39,6 +41,7 @@ pub struct TcpLink<N: Net + Eprint + Clock + Drop> {
     long: Option<(LongRequests, Duration)>,
     silence: Option<Place>,
     stream: Option<Timed<N::Stream>>,
+    heard: Heard,
     faults: u64,
 }
 
@@ -56,6 +59,7 @@ impl<N: Net + Eprint + Clock + Drop> TcpLink<N> {
             long: None,
             silence: None,
             stream: None,
+            heard: Heard::new(alloc),
             faults: 0,
         }
     }
@@ -131,17 +135,44 @@ impl<N: Net + Eprint + Clock + Drop> TcpLink<N> {
     fn note_silence(&self, error: &io::Error) {
         if let Some(place) = &self.silence {
             if error.kind() == ErrorKind::TimedOut {
-                place.peers.set_aside(&self.handle, place.index);
+                let pause = place.peers.set_aside(&self.handle, place.index);
+                self.tell_pause(pause);
             }
+        }
+    }
+
+    // Reports for how many milliseconds the peer is set aside, if it is since now.
+    fn tell_pause(&self, pause: Option<u64>) {
+        if let Some(pause) = pause {
+            let address = self.address();
+            let _ = eprintln!(&self.handle; "{address}: set aside for {pause} ms");
         }
     }
 
     // Takes the peer back where it was heard to the end of the exchange.
     fn note_answer(&self) {
         if let (Some(place), Some(stream)) = (&self.silence, &self.stream) {
-            if stream.is_heard() {
-                place.peers.take_back(place.index);
+            if stream.is_heard() && place.peers.take_back(place.index) {
+                let address = self.address();
+                let _ = eprintln!(&self.handle; "{address}: taken back");
             }
+        }
+    }
+
+    // Reports an answer whose status is not one of success.
+    fn note_refusal(&self) {
+        if self.heard.is_refusal() {
+            let address = self.address();
+            let call = Call(&self.heard);
+            let _ = eprintln!(&self.handle; "{address}: {call}");
+        }
+    }
+
+    // Where the peer is.
+    fn address(&self) -> Address<'_> {
+        Address {
+            host: &self.host,
+            port: self.port,
         }
     }
 
@@ -167,6 +198,11 @@ impl<N: Net + Eprint + Clock + Drop> TcpLink<N> {
             host: &self.host,
             port: self.port,
         };
+        if self.heard.is_begun() {
+            let call = self.heard.call();
+            let what = format_args!("{address}: {call}");
+            return counted(done, &self.handle, what, &mut self.faults);
+        }
         counted(done, &self.handle, address, &mut self.faults)
     }
 }
@@ -182,6 +218,7 @@ impl<N: Net + Eprint + Clock + Copy + Drop> Link for TcpLink<N> {
 
     fn connect(&mut self) -> Result<(), Failed> {
         self.stream = None;
+        self.heard.begin();
         if self.is_set_aside() {
             return Err(count_fault(&mut self.faults));
         }
@@ -193,16 +230,23 @@ impl<N: Net + Eprint + Clock + Copy + Drop> Link for TcpLink<N> {
     fn send(&mut self, piece: &[u8]) -> Result<usize, Failed> {
         self.allow_for(piece);
         let sent = send_over(&mut self.stream, &self.handle, piece);
+        if let Ok(count) = &sent {
+            self.heard.ask(piece.get(..*count).unwrap_or(piece));
+        }
         self.counted(sent)
     }
 
     fn recv(&mut self, buf: &mut [u8]) -> Result<usize, Failed> {
         let read = recv_over(&mut self.stream, &self.handle, buf);
+        if let Ok(count) = &read {
+            self.heard.answer(buf.get(..*count).unwrap_or(&[]));
+        }
         self.counted(read)
     }
 
     fn hang_up(&mut self) -> Result<(), Failed> {
         self.note_answer();
+        self.note_refusal();
         self.stream = None;
         Ok(())
     }
@@ -227,6 +271,7 @@ impl<N: Net + Eprint + Clock + Copy + Drop> Link for TcpLink<N> {
             long: self.long,
             silence: shared(&self.silence)?,
             stream: None,
+            heard: Heard::new(alloc),
             faults: 0,
         })
     }
