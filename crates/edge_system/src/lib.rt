@@ -4,6 +4,7 @@
 
 mod adapters;
 mod address;
+mod epoch_counts;
 mod file_disk;
 mod heard;
 mod open_file;
@@ -14,11 +15,14 @@ mod tcp_door;
 mod tcp_link;
 mod tcp_stream;
 mod told;
+mod told_clock;
 
 pub use adapters::{Reading, Writing};
+pub use epoch_counts::EpochCounts;
 pub use file_disk::FileDisk;
 pub use silence::Peers;
 pub use streams::{StandardStream, StandardStreams, Standing};
 pub use tcp_door::{TcpConn, TcpDoor};
 pub use tcp_link::TcpLink;
 pub use tcp_stream::LongRequests;
+pub use told_clock::ToldClock;

@@ -1,0 +1,128 @@
+//! The front of what was said in an exchange, for a report of it.
+use std::alloc::Global;
+use std::fmt;
+use std::fmt::{Display, Formatter};
+
+/// How many bytes of a request and of its answer are held at most.
+const FRONT_BYTES: usize = 512;
+
+/// How many bytes of a body a report has at most.
+const BODY_BYTES: usize = 200;
+
+/// The front of a request, and of its answer, by bytes as they went over a connection.
+#[derive(Drop)]
+pub(crate) struct Heard {
+    asked: Vec<u8>,
+    answered: Vec<u8>,
+}
+
+impl Heard {
+    // That of an exchange in which nothing was said yet. Takes no memory.
+    pub(crate) fn new(alloc: Global) -> Self {
+        Heard {
+            asked: Vec::new(alloc),
+            answered: Vec::new(alloc),
+        }
+    }
+
+    // From now on another exchange is heard.
+    pub(crate) fn begin(&mut self) {
+        self.asked.clear();
+        self.answered.clear();
+    }
+
+    // Holds the front of the request, of which this is one piece more. Where memory is wanted it holds less.
+    pub(crate) fn ask(&mut self, piece: &[u8]) {
+        hold(&mut self.asked, piece);
+    }
+
+    // Holds the front of the answer, of which this is one piece more.
+    pub(crate) fn answer(&mut self, piece: &[u8]) {
+        hold(&mut self.answered, piece);
+    }
+
+    // The method and the target of the request.
+    pub(crate) fn call(&self) -> Visible<'_> {
+        let line = before(self.asked.as_slice(), b"\r\n");
+        Visible(before(line, b" HTTP/"))
+    }
+
+    // Whether a request was begun.
+    pub(crate) fn is_begun(&self) -> bool {
+        !self.asked.is_empty()
+    }
+
+    // The three digits of the answer's status, if there are any.
+    pub(crate) fn status(&self) -> Option<&[u8]> {
+        self.answered.get(9..12)
+    }
+
+    // The front of the answer's body.
+    pub(crate) fn body(&self) -> Visible<'_> {
+        let body = after(self.answered.as_slice(), b"\r\n\r\n");
+        Visible(body.get(..BODY_BYTES).unwrap_or(body))
+    }
+
+    // Whether the answer says that what was asked was not done.
+    pub(crate) fn is_refusal(&self) -> bool {
+        matches!(self.status(), Some(status) if !status.starts_with(b"2"))
+    }
+
+    // Whether what was asked changes something.
+    pub(crate) fn changes(&self) -> bool {
+        self.asked.starts_with(b"POST ") || self.asked.starts_with(b"DELETE ")
+    }
+}
+
+/// What became of a call: the method and the target, the answer's status, and the front of its body.
+#[derive(Drop)]
+pub(crate) struct Call<'a>(pub(crate) &'a Heard);
+
+impl Display for Call<'_> {
+    fn fmt<W: fmt::Write>(&self, f: &mut Formatter<W>) -> fmt::Result {
+        let Call(heard) = self;
+        let status = Visible(heard.status().unwrap_or(&[]));
+        write!(f, "{}: {status} {}", heard.call(), heard.body())
+    }
+}
+
+/// Bytes as text: each that is no visible ASCII and no space is written as `.`.
+#[derive(Drop)]
+pub(crate) struct Visible<'a>(&'a [u8]);
+
+impl Display for Visible<'_> {
+    fn fmt<W: fmt::Write>(&self, f: &mut Formatter<W>) -> fmt::Result {
+        for byte in self.0 {
+            let shown = if *byte == b' ' || byte.is_ascii_graphic() {
+                char::from(*byte)
+            } else {
+                '.'
+            };
+            write!(f, "{shown}")?;
+        }
+        Ok(())
+    }
+}
+
+// Puts the front of a piece behind what is held, as far as there is room for it.
+fn hold(held: &mut Vec<u8>, piece: &[u8]) {
+    let room = FRONT_BYTES.saturating_sub(held.len());
+    let front = piece.get(..room).unwrap_or(piece);
+    let _ = held.extend_from_slice(front);
+}
+
+// The bytes before the first place at which this part is; all where it is at none.
+fn before<'a>(bytes: &'a [u8], part: &[u8]) -> &'a [u8] {
+    for at in 0..bytes.len() {
+        if bytes[at..].starts_with(part) {
+            return &bytes[..at];
+        }
+    }
+    bytes
+}
+
+// The bytes after the first place at which this part is; none where it is at none.
+fn after<'a>(bytes: &'a [u8], part: &[u8]) -> &'a [u8] {
+    let front = before(bytes, part).len();
+    bytes.get(front.saturating_add(part.len())..).unwrap_or(&[])
+}
