@@ -1,7 +1,8 @@
 /* The driven clock of `year.sh`: loaded in front of the C library into the program (LD_PRELOAD), and into nothing else.
  *
  * The file that YEAR_CLOCK names has eight bytes: how many nanoseconds the driven clock is ahead of the system's. A sleep of 2 milliseconds
- * or more takes no time, and moves the driven clock to where it would have ended. A shorter one sleeps, and moves nothing. While nobody
+ * or more takes no time, and moves the driven clock to where it would have ended. A shorter one sleeps, and moves nothing; so does one of
+ * whole milliseconds, 64 at most, by which the program looks whether a connection came. While nobody
  * sleeps the driven clock runs as the system's does. The file outlasts the program, so that the next run goes on from there, and others
  * may read it meanwhile. The monotonic clock stays the system's, and so do the limits of sockets and the waits for a lock, which are futexes. */
 #define _GNU_SOURCE
@@ -21,6 +22,7 @@
 
 #define SECOND 1000000000LL
 #define SHORTEST (2 * 1000000LL)
+#define LOOK (64 * 1000000LL)
 #define LONGEST (INT64_MAX / 4)
 
 static _Atomic int64_t *ahead;
@@ -74,6 +76,11 @@ static void be_ready(void) {
 
 static int64_t span_of(const struct timespec *time) {
     return time->tv_sec >= LONGEST / SECOND ? LONGEST : time->tv_sec * SECOND + time->tv_nsec;
+}
+
+/* It sleeps, and moves nothing. */
+static int is_short(int64_t span) {
+    return span < SHORTEST || (span <= LOOK && span % 1000000 == 0);
 }
 
 static struct timespec time_of(int64_t span) {
@@ -134,7 +141,7 @@ time_t time(time_t *kept) {
 
 int nanosleep(const struct timespec *asked, struct timespec *left) {
     be_ready();
-    if (!is_time(asked) || span_of(asked) < SHORTEST) {
+    if (!is_time(asked) || is_short(span_of(asked))) {
         int fault = system_sleep(CLOCK_REALTIME, 0, asked, left);
         if (fault != 0) {
             errno = fault;
@@ -162,7 +169,7 @@ int clock_nanosleep(clockid_t clock, int flags, const struct timespec *asked, st
             return 0;
         }
     }
-    if (span >= SHORTEST) {
+    if (!is_short(span)) {
         pass(span);
         return 0;
     }
