@@ -1,5 +1,6 @@
 #!/usr/bin/env bash
-# The built program as a validator client (stand_ins.py) among peers that hang, drip, break off or talk rubbish (trouble.py). A line for each
+# The built program as a validator client (stand_ins.py) among peers that hang, drip, break off or talk rubbish, over a full disk, an output
+# that nobody reads, and a clock that is set (trouble.py; step_clock.c, which needs gcc). A line for each
 # scene: 'pass NAME', or 'FAIL NAME: why'. Each scene with duties takes two minutes where ten slots are asked for.
 # Usage: bench/trouble.sh [SLOTS] [SCENE ..]     (10 slots and all scenes; PROGRAM=PATH for another program)
 set -eu
