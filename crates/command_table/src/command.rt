@@ -34,7 +34,8 @@ Options of serve:
       --listen <ADDR:PORT>
           Where the Keymanager API is served, as 127.0.0.1:5062 or localhost:5062 [required]
       --token <TEXT>
-          Requests of the Keymanager API must carry it: 1 to 256 characters from ! to ~ [required]
+          Requests of the Keymanager API must carry it: 1 to 256 characters from ! to ~ [required];
+          --token-file PATH in its place names a file that holds it, so that ps does not show it
       --watch
           A key that becomes active signs only once it was told not live in the two epochs after
       --slots <N>
@@ -104,7 +105,7 @@ const SERVE: [Row; 12] = [
     Row::Choice {
         id: "token",
         name: "TEXT",
-        about: "Requests of the Keymanager API must carry it: 1 to 256 characters{n}from ! to ~",
+        about: "Requests of the Keymanager API must carry it: 1 to 256 characters{n}from ! to ~; --token-file PATH in its place names a file{n}that holds it, so that ps does not show it",
         is_required: true,
     },
     Row::Watch,
