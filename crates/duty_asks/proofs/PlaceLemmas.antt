@@ -1,5 +1,5 @@
 -- Answers that were taken keep places.
-use Rattle.std.proofs.Common.{◌≡◌, ℕ, List, [], ◌∷◌, ◌++◌, Bool, true, false, refl, sym, subst}
+use Rattle.std.proofs.Common.{◌≡◌, ℕ, List, [], ◌∷◌, ◌++◌, Bool, true, false, Option, refl, sym, subst}
 use Rattle.std.specs.Prelude.{◌&&◌, nat_le, nat_lt, length, map}
 use Rattle.std.specs.List.{list_all}
 use Rattle.std.proofs.lemmas.Bool.{and_parts}
@@ -48,3 +48,10 @@ attesters_placed held epoch asked a root rows s e f h is =
     let g : are_attester_rows epoch rows ≡ true = subst (λ (x : Answer). fits (ask.Attester epoch asked) x ≡ true) e f in
     subst (λ (x : Answer). HoldsPlaced held (with_attesters epoch asked x s)) (sym e)
     (record { is = is; places = placed_more s.answers (taken_answer epoch asked root (kind.Attester rows)) h (fit_placed epoch rows g) })
+
+-- with this epoch, or none, in place of the one in which fork and indices were asked for last
+pub renewed_placed : (held : Held) (s : Standing) (old new : Option ℕ) → old ≡ new → HoldsPlaced held s → HoldsPlaced (record held { renewed = old }) (record s { renewed = new })
+renewed_placed held s old new e h = record {
+  is = record { slot = h.is.slot; fork = h.is.fork; indices = h.is.indices; schedule = h.is.schedule; active = h.is.active; renewed = e };
+  places = h.places;
+}

@@ -14,7 +14,7 @@ use Rattle.duty_plans.specs.Seats.{NodesDo}
 use Rattle.duty_plans.specs.Steps.{Asks}
 use Rattle.duty_turns.specs.Standing.{Standing}
 use Rattle.duty_turns.specs.Lines.{none_line}
-use Rattle.duty_turns.specs.Turns.{PartPlan, asks, writes}
+use Rattle.duty_turns.specs.Turns.{PartPlan, asks, to_renew, writes}
 use Rattle.duty_turns.specs.TurnSteps.{Fits, HasTaken, IsPiece, Own, Owned, SinkSeen, TurnStep, Writes, Wrote}
 use Rattle.duty_asks.specs.declared.ask.Asked.{Asked}
 use Rattle.duty_asks.specs.declared.ask.Asked.TheVariants as asked
@@ -69,6 +69,17 @@ pub record Took (take_in : Answer → Standing → Standing) (s : Standing) (Hol
   pub after : Standing
   pub held : OnOk result (Holds after)
   pub value : part_value take_in s came ≡ done_value after result
+
+-- the same where a question that had no answer is asked once more at the next turn
+abbrev pub renewing_value : (Answer → Standing → Standing) → Standing → Asked → Option (Option Standing)
+renewing_value take_in s (asked.Given a) = Some (Some (take_in a s))
+renewing_value take_in s asked.Nothing = Some (Some (to_renew s))
+renewing_value take_in s (asked.Stopped why) = stop_value why
+
+pub record TookToRenew (take_in : Answer → Standing → Standing) (s : Standing) (Holds : Standing → Type 0) (came : Asked) (result : Result (Unit {0}) Stop) : Type 0 where
+  pub after : Standing
+  pub held : OnOk result (Holds after)
+  pub value : renewing_value take_in s came ≡ done_value after result
 
 -- a part of a turn was carried out: this stands then
 pub record Parts (Holds : Standing → Type 0) (plan : PartPlan) (a b : Outside) (result : Result (Unit {0}) Stop) : Type 0 where

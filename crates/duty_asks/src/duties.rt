@@ -3,7 +3,7 @@ ghost use Rattle.std.specs.Prelude.{◌≡◌, [], IfOk};
 ghost use Rattle.duty_plans.specs.Seats.{nodes_seen};
 ghost use Rattle.duty_turns.specs.Standing.{IsHeld, Standing, with_attesters, with_fork, with_proposers};
 ghost use Rattle.duty_turns.specs.Times.{epoch_of};
-ghost use Rattle.duty_turns.specs.Turns.{ask_plan, attesters_plan, duties_plan, renew_plan, renewed_plan, renews, same_keys, then_on, voters_plan};
+ghost use Rattle.duty_turns.specs.Turns.{ask_plan, attesters_plan, duties_plan, renew_plan, renewed_plan, renewing_plan, renews, same_keys, then_on, voters_plan};
 ghost use Rattle.duty_turns.specs.TurnSteps.{sink_seen};
 ghost use Rattle.duty_asks.specs.Placed.{HoldsPlaced};
 ghost use Rattle.duty_asks.specs.Quiet.{Parts, outside};
@@ -12,7 +12,7 @@ ghost use Rattle.node_calls.specs.declared.ask.Ask.TheVariants as question;
 use crate::ask::{Stop, ask_or_tell};
 use crate::indices::{ask_indices, indices_of};
 use crate::take::{take_attesters, take_fork, take_proposers};
-use duty_turns::{Held, epoch_of, is_first_slot};
+use duty_turns::{Held, epoch_of};
 use edge_kit::{Items, PubKey, Sink};
 use node_calls::{Ask, Node};
 use node_fallback::Nodes;
@@ -38,12 +38,12 @@ pub fn ask_duties<N: Node + Drop, O: Sink>(
     ask_rows(alloc, active, held, nodes, out)
 }
 
-/// Whether the fork and the indices are asked for: at the first turn, at the first slot of an epoch, and where other
-/// keys are active than in the turn before. Takes no memory.
+/// Whether the fork and the indices are asked for: at the first turn of an epoch, where one of these questions had no
+/// answer the last time, and where other keys are active than in the turn before. Takes no memory.
 pub fn renews(active: &[PubKey], held: &Held) -> bool
     ensures { (s : Standing) → IsHeld held.now s → result ≡ renews active.now s }
 {
-    if is_first_slot(held.slot) {
+    if held.renewed != Some(epoch_of(held.slot)) {
         return true;
     }
     match &held.active {
@@ -80,6 +80,7 @@ fn ask_chain<N: Node + Drop, O: Sink>(
         (outside (nodes_seen N.told N.faults nodes.old) (sink_seen O.held O.faults out.old))
         (outside (nodes_seen N.told N.faults nodes.new) (sink_seen O.held O.faults out.new)) result }
 {
+    held.renewed = Some(epoch_of(held.slot));
     match ask_fork(alloc, held, nodes, out) {
         Ok(()) => {}
         Err(stop) => return Err(stop),
@@ -93,7 +94,7 @@ fn ask_fork<N: Node + Drop, O: Sink>(
     nodes: &mut Nodes<N>,
     out: &mut O,
 ) -> Result<(), Stop>
-    ensures { (s : Standing) → HoldsPlaced held.old s → Parts (HoldsPlaced held.new) (ask_plan question.Fork with_fork s)
+    ensures { (s : Standing) → HoldsPlaced held.old s → Parts (HoldsPlaced held.new) (renewing_plan question.Fork with_fork s)
         (outside (nodes_seen N.told N.faults nodes.old) (sink_seen O.held O.faults out.old))
         (outside (nodes_seen N.told N.faults nodes.new) (sink_seen O.held O.faults out.new)) result }
 {

@@ -2,7 +2,7 @@
 ghost use Rattle.std.specs.Prelude.{◌≡◌, ◌⊎◌, true, Err, OnOk, OnErr};
 ghost use Rattle.duty_turns.specs.Standing.{Standing, with_attesters, with_fork, with_indices, with_proposers, with_rows};
 ghost use Rattle.duty_asks.specs.Placed.{HoldsPlaced};
-ghost use Rattle.duty_asks.specs.Quiet.{CameFit, Took};
+ghost use Rattle.duty_asks.specs.Quiet.{CameFit, Took, TookToRenew};
 ghost use Rattle.node_calls.specs.Fitting.{fits};
 ghost use Rattle.node_calls.specs.declared.ask.Ask.TheVariants as question;
 
@@ -14,16 +14,19 @@ use node_calls::{Answer, ValidatorRow};
 use std::alloc::{AllocError, Global};
 use std::collections::BTreeMap;
 
-/// Takes the fork.
+/// Takes the fork. Where no node answered, it is asked for once more at the next turn.
 pub(crate) fn take_fork(held: &mut Held, asked: Asked) -> Result<(), Stop>
-    ensures { (s : Standing) → HoldsPlaced held.old s → Took with_fork s (HoldsPlaced held.new) asked result }
+    ensures { (s : Standing) → HoldsPlaced held.old s → TookToRenew with_fork s (HoldsPlaced held.new) asked result }
 {
     match asked {
         Asked::Given(answer) => {
             set_fork(held, answer);
             Ok(())
         }
-        Asked::Nothing => Ok(()),
+        Asked::Nothing => {
+            held.renewed = None;
+            Ok(())
+        }
         Asked::Stopped(stop) => Err(stop),
     }
 }
@@ -37,13 +40,17 @@ fn set_fork(held: &mut Held, answer: Answer)
     held.fork = fork;
 }
 
-/// Takes the indices of keys. Memory may run out meanwhile.
+/// Takes the indices of keys. Where no node answered, all are asked for once more at the next turn. Memory may run out
+/// meanwhile.
 pub(crate) fn take_indices(held: &mut Held, asked: Asked) -> Result<(), Stop>
-    ensures { (s : Standing) → HoldsPlaced held.old s → (result ≡ Err Stop.OutOfMemory) ⊎ Took with_indices s (HoldsPlaced held.new) asked result }
+    ensures { (s : Standing) → HoldsPlaced held.old s → (result ≡ Err Stop.OutOfMemory) ⊎ TookToRenew with_indices s (HoldsPlaced held.new) asked result }
 {
     match asked {
         Asked::Given(answer) => set_indices(held, answer),
-        Asked::Nothing => Ok(()),
+        Asked::Nothing => {
+            held.renewed = None;
+            Ok(())
+        }
         Asked::Stopped(stop) => Err(stop),
     }
 }

@@ -12,14 +12,15 @@ use Rattle.duty_schedule.specs.Standing.{Stands}
 use Rattle.duty_schedule.specs.declared.rows.DutyRows.TheVariants as kind
 use Rattle.duty_turns.specs.declared.held.Held.{Held}
 
--- the slot of the turn, the chain's fork, the index of each key by its last row, all duty answers that were taken, and the keys that
--- were active in the turn before
+-- the slot of the turn, the chain's fork, the index of each key by its last row, all duty answers that were taken, the keys that
+-- were active in the turn before, and the epoch in which fork and indices were asked for last, if each of these questions had an answer
 pub record Standing : Type 0 where
   pub slot : ℕ
   pub fork : Fork
   pub indices : List (PubKey × ℕ)
   pub answers : List TakenAnswer
   pub active : Option (List PubKey)
+  pub renewed : Option ℕ
 
 -- it is held
 pub record IsHeld (held : Held) (s : Standing) : Type 0 where
@@ -28,6 +29,7 @@ pub record IsHeld (held : Held) (s : Standing) : Type 0 where
   pub indices : held.indices.entries ≡ s.indices
   pub schedule : Stands held.schedule s.answers
   pub active : held.active ≡ s.active
+  pub renewed : held.renewed ≡ s.renewed
 
 -- ---- what an answer makes of it; one to another question comes never
 

@@ -1,5 +1,5 @@
 -- Slots and moments (consensus-specs, `SECONDS_PER_SLOT`, `SLOTS_PER_EPOCH`). Moments are seconds since 1970.
-use Rattle.std.specs.Prelude.{ℕ, ◌+◌, ◌-◌, ◌*◌, ◌/◌, ◌%◌, ◌^◌, ◌==◌, min, Bool}
+use Rattle.std.specs.Prelude.{ℕ, ◌+◌, ◌-◌, ◌*◌, ◌/◌, ◌%◌, ◌^◌, ◌==◌, ◌||◌, min, nat_lt, Bool}
 
 -- at most 18446744073709551615
 abbrev pub capped : ℕ → ℕ
@@ -25,3 +25,8 @@ epoch_of slot = slot / 32
 
 abbrev pub is_first_slot : ℕ → Bool
 is_first_slot slot = slot % 32 == 0
+
+-- a wait for a moment of this slot was over at another one than it was for: in a later slot, or before the moment, since the clock was set
+-- back
+abbrev pub is_missed : ℕ → ℕ → ℕ → ℕ → Bool
+is_missed genesis_time slot moment reached = nat_lt slot (slot_of genesis_time reached) || nat_lt reached moment

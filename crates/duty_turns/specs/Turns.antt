@@ -38,7 +38,7 @@ use Rattle.duty_turns.specs.Lines.{duty_lines, none_line}
 use Rattle.duty_pruning.specs.Pruning.{pruning_file}
 use Rattle.duty_turns.specs.Lanes.{dealt}
 use Rattle.duty_turns.specs.Standing.{Standing, indices_of, with_attesters, with_fork, with_indices, with_proposers}
-use Rattle.duty_turns.specs.Times.{epoch_of, is_first_slot, next_slot, slot_of, slot_start, votes_start}
+use Rattle.duty_turns.specs.Times.{epoch_of, is_first_slot, is_missed, next_slot, slot_of, slot_start, votes_start}
 use Rattle.duty_turns.specs.TurnSteps.{TurnPlan, TurnReply, Waits, Refreshes, RefreshesLanes, Own, LooksUp, Works, Writes, Woke, Refreshed, LanesRefreshed, Owned, Due, Worked, Wrote}
 
 -- what stands behind a part of a turn; None: the output failed
@@ -123,6 +123,19 @@ answered_plan take_in s (Err none.OutOfMemory) = Stop
 abbrev pub ask_plan : Ask → (Answer → Standing → Standing) → Standing → PartPlan
 ask_plan a take_in s = asks a (answered_plan take_in s)
 
+-- fork and indices are asked for once more at the next turn
+abbrev pub to_renew : Standing → Standing
+to_renew s = record s { renewed = None }
+
+-- the same of a question after the fork or after indices, which is asked once more at the next turn where no node answered
+abbrev pub renewing_answered : (Answer → Standing → Standing) → Standing → Result Answer NoAnswer → PartPlan
+renewing_answered take_in s (Ok a) = Done (Some (take_in a s))
+renewing_answered take_in s (Err (none.NoNode causes)) = writes (none_line s.slot) (Done (Some (to_renew s)))
+renewing_answered take_in s (Err none.OutOfMemory) = Stop
+
+abbrev pub renewing_plan : Ask → (Answer → Standing → Standing) → Standing → PartPlan
+renewing_plan a take_in s = asks a (renewing_answered take_in s)
+
 -- keys by 32, the rest in the last; the number is as many as there may be
 abbrev pub by_32 : ℕ → List PubKey → List (List PubKey)
 by_32 zero keys = []
@@ -131,19 +144,27 @@ by_32 (suc n) (k ∷ keys) = take 32 (k ∷ keys) ∷ by_32 n (drop 32 (k ∷ ke
 
 abbrev pub index_plan : List (List PubKey) → Standing → PartPlan
 index_plan [] s = Done (Some s)
-index_plan (keys ∷ more) s = then_on (ask_plan (ask.Validators keys) with_indices s) (index_plan more)
+index_plan (keys ∷ more) s = then_on (renewing_plan (ask.Validators keys) with_indices s) (index_plan more)
+
+-- they are asked for in this epoch
+abbrev pub renewed_now : Standing → Standing
+renewed_now s = record s { renewed = Some (epoch_of s.slot) }
 
 -- the fork, then the indices of the active keys
 abbrev pub renew_plan : List PubKey → Standing → PartPlan
-renew_plan active s = then_on (ask_plan ask.Fork with_fork s) (index_plan (by_32 (length active) active))
+renew_plan active s = then_on (renewing_plan ask.Fork with_fork (renewed_now s)) (index_plan (by_32 (length active) active))
 
 abbrev pub same_keys : List PubKey → Option (List PubKey) → Bool
 same_keys active None = false
 same_keys active (Some before) = pointwise (λ a b. bytes_eq a.0 b.0) active before
 
--- at the first turn, at the first slot of an epoch, and where other keys are active than before
+abbrev pub is_of_epoch : ℕ → Option ℕ → Bool
+is_of_epoch epoch None = false
+is_of_epoch epoch (Some renewed) = renewed == epoch
+
+-- at the first turn of an epoch, where a question of the last time had no answer, and where other keys are active than before
 abbrev pub renews : List PubKey → Standing → Bool
-renews active s = is_first_slot s.slot || not (same_keys active s.active)
+renews active s = not (is_of_epoch (epoch_of s.slot) s.renewed) || not (same_keys active s.active)
 
 abbrev pub renewed_plan : List PubKey → Standing → PartPlan
 renewed_plan active s = if renews active s then renew_plan active s else Done (Some s)
@@ -260,7 +281,7 @@ abbrev pub exports : {X : Type 0} → ℕ → ℕ → List PubKey → TurnPlan X
 exports keep epoch [] next = next
 exports keep epoch (key ∷ keys) next = calls (call.Export (key ∷ keys)) (λ r. exported keep epoch r next)
 
--- of the keys in their order those whose turn it is in a slot: each has one slot of an epoch
+-- of the keys in their order those whose turn it is in a slot: of the slots of an epoch one to each place
 abbrev pub keys_of_turn : ℕ → List PubKey → List PubKey
 keys_of_turn slot keys = dealt 32 (slot % 32) 0 keys
 
@@ -295,11 +316,11 @@ at_slot slot s = record s { slot = slot }
 abbrev pub work_of : DutySetup → Standing → SlotWork
 work_of setup s = slot_work setup.genesis (record { fork = s.fork; genesis = setup.genesis }) s.slot (epoch_of s.slot)
 
--- a third into the slot the votes are cast, whose places are behind those of the blocks; later than the slot they are dropped, and the
--- next turn is that later slot
+-- a third into the slot the votes are cast, whose places are behind those of the blocks; at another moment they are dropped, and the
+-- next turn is of the slot of that moment
 abbrev pub votes_plan : DutySetup → Standing → List Duty → List DutyResult → ℕ → NextPlan
 votes_plan setup s ds proposed reached =
-    if nat_lt s.slot (slot_of setup.genesis_time reached)
+    if is_missed setup.genesis_time s.slot (votes_start setup.genesis_time s.slot) reached
     then close_plan setup s.slot (blocks_in ds) proposed (at_slot (slot_of setup.genesis_time reached) s)
     else works (work_of setup s) (length (blocks_in ds)) (votes_in ds) (λ cast. close_plan setup s.slot (blocks_in ds ++ votes_in ds) (proposed ++ cast) (at_slot (next_slot s.slot) s))
 
@@ -328,7 +349,7 @@ listed_plan setup s r = Stop
 -- ---- when a journal of that many bytes is compacted, of which a compaction, which writes all of them again, leaves that many at most
 
 abbrev pub least_size : ℕ
-least_size = 67108864
+least_size = 16777216
 
 abbrev pub size_limit : ℕ
 size_limit = 1073741824
@@ -352,11 +373,11 @@ abbrev pub shortens : {X : Type 0} → Standing → TurnPlan X → TurnPlan X
 shortens s next = if is_first_slot s.slot then calls call.Size (λ r. sized r next) else next
 
 -- at its slot's start the nodes are refreshed, the loop's own and then those of the lanes, a journal that has grown is compacted where the
--- slot is an epoch's first, and the desk is asked for its keys; later than the slot its duties are dropped, and the next turn is that later
--- slot
+-- slot is an epoch's first, and the desk is asked for its keys; at another moment its duties are dropped, and the next turn is of the slot
+-- of that moment
 abbrev pub woken_plan : DutySetup → Standing → ℕ → NextPlan
 woken_plan setup s reached =
-    if nat_lt s.slot (slot_of setup.genesis_time reached)
+    if is_missed setup.genesis_time s.slot (slot_start setup.genesis_time s.slot) reached
     then close_plan setup s.slot [] [] (at_slot (slot_of setup.genesis_time reached) s)
     else refreshes (refreshes_lanes (shortens s (calls call.Keys (listed_plan setup s))))
 
@@ -376,4 +397,4 @@ turns_plan setup (suc n) s = bind (turn_plan setup s) (next_turn (turns_plan set
 
 -- what stands at the start: nothing was asked yet, and the first slot is that of the clock's moment
 abbrev pub first_standing : DutySetup → ℕ → Standing
-first_standing setup now = record { slot = slot_of setup.genesis_time now; fork = setup.fork; indices = []; answers = []; active = None }
+first_standing setup now = record { slot = slot_of setup.genesis_time now; fork = setup.fork; indices = []; answers = []; active = None; renewed = None }

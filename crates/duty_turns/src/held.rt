@@ -17,6 +17,8 @@ pub struct Held {
     pub schedule: Schedule,
     /// The keys that were active in the turn before, if there was one.
     pub active: Option<Items<PubKey>>,
+    /// The epoch in which fork and indices were asked for last, if each of these questions had an answer.
+    pub renewed: Option<u64>,
 }
 
 /// Why the duty loop ends before its number of turns.

@@ -2,7 +2,7 @@
 //! and so does a slot.
 ghost use Rattle.std.specs.Prelude.{◌≡◌, ◌≤◌};
 ghost use Rattle.desk_machine.specs.Machine.{moment_limit};
-ghost use Rattle.duty_turns.specs.Times.{epoch_of, is_first_slot, next_slot, slot_of, slot_start, votes_start};
+ghost use Rattle.duty_turns.specs.Times.{epoch_of, is_first_slot, is_missed, next_slot, slot_of, slot_start, votes_start};
 
 /// How many seconds a slot has (consensus-specs, `SECONDS_PER_SLOT`).
 const SECONDS_PER_SLOT: u64 = 12;
@@ -55,4 +55,12 @@ pub fn is_first_slot(slot: u64) -> bool
     ensures { result ≡ is_first_slot slot }
 {
     slot % SLOTS_PER_EPOCH == 0
+}
+
+/// Whether a wait for a moment of a slot was over at another than it was for: in a later slot, or before the moment, since
+/// the clock was set back. Takes no memory.
+pub fn is_missed(genesis_time: u64, slot: u64, moment: u64, reached: u64) -> bool
+    ensures { result ≡ is_missed genesis_time slot moment reached }
+{
+    slot < slot_of(genesis_time, reached) || reached < moment
 }

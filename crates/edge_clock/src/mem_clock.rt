@@ -1,6 +1,7 @@
 //! A clock in memory, which waits for nobody.
 ghost use Rattle.std.specs.Prelude.{◌≡◌};
-ghost use Rattle.edge_clock.specs.Clocks.{IsNow, IsWaited};
+ghost use Rattle.std.specs.Prelude.{false};
+ghost use Rattle.edge_clock.specs.Clocks.{IsHalted, IsNow, IsWaited};
 ghost use Rattle.edge_clock.specs.InMemory.{delay_of};
 
 use crate::clock::Clock;
@@ -51,6 +52,17 @@ impl Clock for MemClock {
     {
         let reached = self.start.max(moment);
         reached.saturating_add(delay_in(self.delays.as_slice(), moment))
+    }
+
+    /// Does nothing.
+    fn halt(&self) {}
+
+    /// Never.
+    fn is_halted(&self) -> bool
+        ensures halted { IsHalted (start_told self.now.start self.now.delays.items) result }
+        ensures never { result ≡ false }
+    {
+        false
     }
 }
 

@@ -2,27 +2,51 @@
 ghost use Rattle.std.specs.Prelude.{None};
 
 use crate::clock::Clock;
+use crate::halt::Halt;
 use std::sync::Wait;
+use std::sync::atomic::{AtomicU64, Ordering};
 use std::time::{Duration, SystemTime};
 use std::{rt, thread};
 
 /// How many seconds a wait sleeps at most before it reads the clock again, so that one that is set meanwhile is noticed.
 const NAP_SECONDS: u64 = 1;
 
+/// By how many seconds the clock may be set back without a wait ending before its moment.
+const LEEWAY_SECONDS: u64 = 60;
+
 /// The system's clock, read by this handle. Where it can't be read, or is set before 1970, it shows 0, and a wait is
-/// over at once at the moment that was waited for.
+/// over at once at the moment that was waited for. A wait ends before its moment only where the clock was set back by more
+/// than `LEEWAY_SECONDS` since it was read before. It is halted where this halt is raised.
 #[derive(Drop)]
-pub struct SystemClock<T: rt::Clock + Drop> {
+pub struct SystemClock<'a, T: rt::Clock + Drop> {
     handle: T,
+    halt: &'a Halt,
+    /// The latest second that it showed, since it was set back the last time.
+    latest: AtomicU64,
 }
 
-impl<T: rt::Clock + Drop> SystemClock<T> {
-    pub fn new(handle: T) -> Self {
-        SystemClock { handle }
+impl<'a, T: rt::Clock + Drop> SystemClock<'a, T> {
+    pub fn new(handle: T, halt: &'a Halt) -> Self {
+        SystemClock {
+            handle,
+            halt,
+            latest: AtomicU64::new(0),
+        }
+    }
+
+    // Whether a second that the clock shows now says that it was set back by more than is waited for. Then that is not said
+    // again of the same setting.
+    fn is_set_back(&self, shown: u64) -> bool {
+        let latest = self.latest.load(Ordering::SeqCst);
+        let is_back = shown.saturating_add(LEEWAY_SECONDS) < latest;
+        if is_back || latest < shown {
+            self.latest.store(shown, Ordering::SeqCst);
+        }
+        is_back
     }
 }
 
-impl<T: rt::Clock + Sync + Drop> Clock for SystemClock<T> {
+impl<T: rt::Clock + Sync + Drop> Clock for SystemClock<'_, T> {
     ghost start = { λ clock. None };
 
     fn now(&self) -> u64 {
@@ -32,19 +56,27 @@ impl<T: rt::Clock + Sync + Drop> Clock for SystemClock<T> {
         }
     }
 
-    /// Sleeps until the clock shows the moment or a later one.
+    /// Sleeps until the clock shows the moment or a later one, or is set back.
     fn wait_until<R: Wait>(&self, rt: &R, moment: u64) -> u64 {
         for _ in rt.forever() {
             let Some(shown) = shown_by(&self.handle) else {
                 return moment;
             };
-            if shown.as_secs() >= moment {
+            if self.is_set_back(shown.as_secs()) || shown.as_secs() >= moment {
                 return shown.as_secs();
             }
             let left = Duration::from_secs(moment).saturating_sub(shown);
             thread::sleep(&self.handle, left.min(Duration::from_secs(NAP_SECONDS)));
         }
         unreachable!()
+    }
+
+    fn halt(&self) {
+        self.halt.raise();
+    }
+
+    fn is_halted(&self) -> bool {
+        self.halt.is_raised()
     }
 }
 

@@ -45,6 +45,8 @@ fn outcome<R: Wait + Clock + Sync>(
         "link" | "signer" | "node" | "nodes" => { scenes::outcome(alloc, subject, arguments, &[]) }
         "clock" => clocks::mem_clock(rt, alloc, arguments),
         "system-clock" => clocks::system_clock(rt, alloc),
+        "halted-clock" => clocks::halted_clock(rt, alloc),
+        "halting-clock" => clocks::halting_clock(rt, alloc),
         _ => duties::outcome(alloc, subject, arguments),
     }
 }

@@ -8,4 +8,5 @@ returns c = λ s h f. attesters_placed _ c.args.epoch c.args.indices c.args.answ
   indices = h.is.indices;
   schedule = c.take_answer.ensures.stands s.answers h.is.schedule;
   active = h.is.active;
+  renewed = h.is.renewed;
 })
