@@ -1,5 +1,5 @@
 -- A request from its head and its body.
-use Rattle.std.proofs.Common.{◌≡◌, ℕ, Bool, true, false, cond, List, [], ◌∷◌, ◌++◌, map, find, Option, Some, None, Ok, Err, Vec, Global, refl, ap, subst, ◌∙◌}
+use Rattle.std.proofs.Common.{◌≡◌, ℕ, Bool, true, false, cond, List, [], ◌∷◌, ◌++◌, map, find, Option, Some, None, Result, Ok, Err, Vec, Global, refl, sym, ap, subst, ◌∙◌}
 use Rattle.std.specs.Option.{option_map}
 use Rattle.std.specs.Io.KnownBytes.{Consumes}
 use Rattle.edge_kit.proofs.TellingLemmas.{Consumes-trans}
@@ -8,14 +8,14 @@ use Rattle.http_wire.specs.declared.field.Field.{Field}
 use Rattle.http_wire.specs.declared.message.Request.{Request}
 use Rattle.http_wire.specs.declared.message.WireFault.{WireFault}
 use Rattle.http_wire.specs.declared.message.WireFault.TheVariants as fault
-use Rattle.http_wire.specs.Fronts.{Within, StopsWithin}
+use Rattle.http_wire.specs.Fronts.{Within}
 use Rattle.http_wire.specs.Heads.{SpellsRequestHead, IsRequestText, head_limit}
 use Rattle.http_wire.specs.Framings.{Pair, is_encoding, encoding_of, framing_of, body_limit}
 use Rattle.http_wire.specs.Parts.{parts, parts_of}
-use Rattle.http_wire.specs.Bodies.{IsNoBody, IsLongBody}
+use Rattle.http_wire.specs.Bodies.{IsBody, IsNoBody, IsLongBody}
 use Rattle.http_wire.specs.Steps.{Took}
-use Rattle.http_wire.specs.Plain.{IsRequestHead, RequestHeadStep, PlainStep}
-use Rattle.http_wire.specs.Messages.{HasRequestHead, SpellsRequest, BeginsRequest, IsNoRequest}
+use Rattle.http_wire.specs.Plain.{IsRequestHead, RequestHeadStep, PlainStep, HasHeadOf, RequestBodyStep}
+use Rattle.http_wire.specs.Messages.{HasRequestHead, SpellsRequest, BeginsRequest, IsNoRequest, RequestStep}
 
 find_cond : {A B : Type 0} (f : A → B) (b : Bool) (x : A) (u : Option B) (v : Option A) → u ≡ option_map f v → cond b (Some (f x)) u ≡ option_map f (cond b (Some x) v)
 find_cond f true x u v e = refl
@@ -34,61 +34,84 @@ coded_fields fields f e = ap (λ (o : Option Pair). option_map (λ p. p.1) o) (f
 abbrev pub with_body : Request → Vec ℕ Global → Request
 with_body r body = record r { body = body }
 
-pub request_read : (a b c : Option (List ℕ)) (r : Request) (body : Vec ℕ Global) → Took a b (λ t. IsRequestHead t r) → Took b c (PlainStep false (parts_of r.fields.items) c (Ok tt) body.items) → Took a c (λ bytes. SpellsRequest bytes c (with_body r body))
-request_read a b c r body head took = record {
-  bytes = head.bytes ++ took.bytes;
-  taken = Consumes-trans a b c head.bytes took.bytes head.taken took.taken;
-  holds = record {
-    head = head.bytes;
-    tail = took.bytes;
-    split = refl;
-    tree = head.holds.tree;
-    spells = head.holds.spells;
-    short = head.holds.short;
-    has = record { method = head.holds.has.method; target = head.holds.has.target; fields = head.holds.has.fields };
-    plain = took.holds.0;
-    body = took.holds.1;
-  };
-}
+-- the body that was read behind a head
+pub body_read : (b c : Option (List ℕ)) (head : Request) (body : Vec ℕ Global) → Took b c (PlainStep false (parts_of head.fields.items) c (Ok tt) body.items) → Took b c (RequestBodyStep head c (Ok (with_body head body)))
+body_read b c head body took = record { bytes = took.bytes; taken = took.taken; holds = (record { method = refl; target = refl; fields = refl }, took.holds) }
 
--- a head, and what holds of its fields and of what was taken behind it
-pub begins_request : (P : List Pair → List ℕ → Type 0) (a b c : Option (List ℕ)) (r : Request) → Took a b (λ t. IsRequestHead t r) → Took b c (P (parts_of r.fields.items)) → Took a c (BeginsRequest P)
-begins_request P a b c r head took =
-    let Q : List Pair → Type 0 = λ fields. P fields took.bytes in
+-- in a fault nothing is said of the body
+same_fault : (fields : List Pair) (left : Option (List ℕ)) (f : WireFault) (body other taken : List ℕ) → PlainStep false fields left (Err f) body taken → PlainStep false fields left (Err f) other taken
+same_fault fields left fault.BadHead body other taken p = p
+same_fault fields left fault.BadBody body other taken p = p
+same_fault fields left (fault.TooLong n) body other taken p = p
+same_fault fields left (fault.Encoded v) body other taken p = p
+same_fault fields left fault.Link body other taken p = p
+same_fault fields left fault.OutOfMemory body other taken p = p
+
+pub body_faulty : (b c : Option (List ℕ)) (head : Request) (body : List ℕ) (f : WireFault) → Took b c (PlainStep false (parts_of head.fields.items) c (Err f) body) → Took b c (RequestBodyStep head c (Err f))
+body_faulty b c head body f took = record { bytes = took.bytes; taken = took.taken; holds = same_fault (parts_of head.fields.items) c f body [] took.bytes took.holds }
+
+-- a head, and the body behind it
+request_spelled : (left : Option (List ℕ)) (head r : Request) (front rest : List ℕ) → IsRequestHead front head → RequestBodyStep head left (Ok r) rest → SpellsRequest (front ++ rest) left r
+request_spelled left head r front rest first step =
+    let same : HasHeadOf head r = step.0 in
     record {
-      bytes = head.bytes ++ took.bytes;
-      taken = Consumes-trans a b c head.bytes took.bytes head.taken took.taken;
-      holds = record {
-        head = head.bytes;
-        tail = took.bytes;
-        split = refl;
-        tree = head.holds.tree;
-        spells = head.holds.spells;
-        short = head.holds.short;
-        about = subst Q head.holds.has.fields took.holds;
-      };
+      head = front;
+      tail = rest;
+      split = refl;
+      tree = first.tree;
+      spells = first.spells;
+      short = first.short;
+      has = record { method = same.method ∙ first.has.method; target = same.target ∙ first.has.target; fields = same.fields ∙ first.has.fields };
+      plain = ap encoding_of same.fields ∙ step.1.0;
+      body = (let B : List Pair → Type 0 = λ fields. IsBody false (framing_of fields) rest left r.body.items in subst B (sym same.fields) step.1.1);
     }
 
-pub request_stuck : (a b : Option (List ℕ)) (taken : List ℕ) → Consumes a b taken → StopsWithin IsRequestText head_limit taken b → Took a b (λ bytes. IsNoRequest bytes b fault.BadHead)
-request_stuck a b taken t s = record { bytes = taken; taken = t; holds = s }
-
--- what a fault of the head makes of the request
-pub request_headless : (a b : Option (List ℕ)) (f : WireFault) → Took a b (RequestHeadStep b (Err f)) → Took a b (λ bytes. IsNoRequest bytes b f)
-request_headless a b fault.BadHead took = took
-request_headless a b fault.BadBody took = absurd took.holds
-request_headless a b (fault.TooLong n) took = absurd took.holds
-request_headless a b (fault.Encoded v) took = absurd took.holds
-request_headless a b fault.Link took = took
-request_headless a b fault.OutOfMemory took = took
+-- a head, and what holds of its fields and of what was taken behind it
+request_begun : (P : List Pair → List ℕ → Type 0) (head : Request) (front rest : List ℕ) → IsRequestHead front head → P (parts_of head.fields.items) rest → BeginsRequest P (front ++ rest)
+request_begun P head front rest first holds =
+    let Q : List Pair → Type 0 = λ fields. P fields rest in
+    record {
+      head = front;
+      tail = rest;
+      split = refl;
+      tree = first.tree;
+      spells = first.spells;
+      short = first.short;
+      about = subst Q first.has.fields holds;
+    }
 
 -- what a fault of the body makes of the request
-pub request_faulty : (a b c : Option (List ℕ)) (r : Request) (body : List ℕ) (f : WireFault) → Took a b (λ t. IsRequestHead t r) → Took b c (PlainStep false (parts_of r.fields.items) c (Err f) body) → Took a c (λ bytes. IsNoRequest bytes c f)
-request_faulty a b c r body fault.BadHead head took = absurd took.holds
-request_faulty a b c r body fault.BadBody head took = begins_request (λ fields tail. (encoding_of fields ≡ None) × IsNoBody (framing_of fields) tail c) a b c r head took
-request_faulty a b c r body (fault.TooLong n) head took = begins_request (λ fields tail. (n ≡ body_limit) × (encoding_of fields ≡ None) × IsLongBody false (framing_of fields) tail) a b c r head took
-request_faulty a b c r body (fault.Encoded v) head took = begins_request (λ fields tail. (encoding_of fields ≡ Some v.items) × (tail ≡ [])) a b c r head took
-request_faulty a b c r body fault.Link head took = record { bytes = head.bytes ++ took.bytes; taken = Consumes-trans a b c head.bytes took.bytes head.taken took.taken; holds = tt }
-request_faulty a b c r body fault.OutOfMemory head took = record { bytes = head.bytes ++ took.bytes; taken = Consumes-trans a b c head.bytes took.bytes head.taken took.taken; holds = tt }
+request_faulty : (left : Option (List ℕ)) (head : Request) (f : WireFault) (front rest : List ℕ) → IsRequestHead front head → RequestBodyStep head left (Err f) rest → IsNoRequest (front ++ rest) left f
+request_faulty left head fault.BadHead front rest first step = absurd step
+request_faulty left head fault.BadBody front rest first step = request_begun (λ fields tail. (encoding_of fields ≡ None) × IsNoBody (framing_of fields) tail left) head front rest first step
+request_faulty left head (fault.TooLong n) front rest first step = request_begun (λ fields tail. (n ≡ body_limit) × (encoding_of fields ≡ None) × IsLongBody false (framing_of fields) tail) head front rest first step
+request_faulty left head (fault.Encoded v) front rest first step = request_begun (λ fields tail. (encoding_of fields ≡ Some v.items) × (tail ≡ [])) head front rest first step
+request_faulty left head fault.Link front rest first step = tt
+request_faulty left head fault.OutOfMemory front rest first step = tt
+
+-- what a head, and what was found behind it, make of the request
+pub request_parts : (left : Option (List ℕ)) (head : Request) (read : Result Request WireFault) (front rest : List ℕ) → IsRequestHead front head → RequestBodyStep head left read rest → RequestStep left read (front ++ rest)
+request_parts left head (Ok r) front rest first step = request_spelled left head r front rest first step
+request_parts left head (Err f) front rest first step = request_faulty left head f front rest first step
+
+-- what a fault of the head makes of it
+pub request_headless : (left : Option (List ℕ)) (f : WireFault) (bytes : List ℕ) → RequestHeadStep left (Err f) bytes → RequestStep left (Err f) bytes
+request_headless left fault.BadHead bytes step = step
+request_headless left fault.BadBody bytes step = absurd step
+request_headless left (fault.TooLong n) bytes step = absurd step
+request_headless left (fault.Encoded v) bytes step = absurd step
+request_headless left fault.Link bytes step = step
+request_headless left fault.OutOfMemory bytes step = step
+
+pub took_parts : (a b c : Option (List ℕ)) (head : Request) (read : Result Request WireFault) → Took a b (RequestHeadStep b (Ok head)) → Took b c (RequestBodyStep head c read) → Took a c (RequestStep c read)
+took_parts a b c head read first took = record {
+  bytes = first.bytes ++ took.bytes;
+  taken = Consumes-trans a b c first.bytes took.bytes first.taken took.taken;
+  holds = request_parts c head read first.bytes took.bytes first.holds took.holds;
+}
+
+pub took_headless : (a b : Option (List ℕ)) (f : WireFault) → Took a b (RequestHeadStep b (Err f)) → Took a b (RequestStep b (Err f))
+took_headless a b f took = record { bytes = took.bytes; taken = took.taken; holds = request_headless b f took.bytes took.holds }
 
 -- the head of a form that was read
 pub head_read : (a b : Option (List ℕ)) (text : List ℕ) (r : Request) → Consumes a b text → Within IsRequestText head_limit text → (h : RequestHead) × SpellsRequestHead text h × HasRequestHead h r → Took a b (λ t. IsRequestHead t r)

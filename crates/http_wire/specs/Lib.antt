@@ -16,3 +16,4 @@ pub mod Spellings
 pub mod ReadBack
 pub mod Codings
 pub mod Plain
+pub mod Expects

@@ -1,5 +1,5 @@
 -- What the calls that read the head of a request, and the body behind a head, found.
-use Rattle.std.specs.Prelude.{◌≡◌, ℕ, ◌≤◌, Bool, List, [], length, Option, Some, None, Result, Ok, Err, ⊤}
+use Rattle.std.specs.Prelude.{◌≡◌, ℕ, ◌≤◌, Bool, false, List, [], length, Option, Some, None, Result, Ok, Err, ⊤}
 use Rattle.httparse.specs.Grammar.{RequestHead}
 use Rattle.http_wire.specs.declared.message.Request.{Request}
 use Rattle.http_wire.specs.declared.message.WireFault.{WireFault}
@@ -8,6 +8,7 @@ use Rattle.http_wire.specs.Fronts.{StopsWithin}
 use Rattle.http_wire.specs.Heads.{SpellsRequestHead, IsRequestText, head_limit}
 use Rattle.http_wire.specs.Framings.{Pair, body_limit, encoding_of, framing_of}
 use Rattle.http_wire.specs.Bodies.{IsBody, IsNoBody, IsLongBody}
+use Rattle.http_wire.specs.Parts.{parts_of}
 use Rattle.http_wire.specs.Messages.{HasRequestHead}
 
 -- a head within the limits
@@ -36,3 +37,14 @@ PlainStep to_end fields left (Err (fault.TooLong n)) body taken = (n ≡ body_li
 PlainStep to_end fields left (Err (fault.Encoded v)) body taken = (encoding_of fields ≡ Some v.items) × (taken ≡ [])
 PlainStep to_end fields left (Err fault.Link) body taken = ⊤
 PlainStep to_end fields left (Err fault.OutOfMemory) body taken = ⊤
+
+-- the same method, target and fields
+pub record HasHeadOf (head r : Request) : Type 0 where
+  pub method : r.method ≡ head.method
+  pub target : r.target.items ≡ head.target.items
+  pub fields : parts_of r.fields.items ≡ parts_of head.fields.items
+
+-- what reading the body behind this head found: the request of the head and the body, or why there is none
+abbrev pub RequestBodyStep : Request → Option (List ℕ) → Result Request WireFault → List ℕ → Type 0
+RequestBodyStep head left (Ok r) taken = HasHeadOf head r × PlainStep false (parts_of head.fields.items) left (Ok tt) r.body.items taken
+RequestBodyStep head left (Err f) taken = PlainStep false (parts_of head.fields.items) left (Err f) [] taken

@@ -1,8 +1,9 @@
 //! Laws of what bytes spell.
-ghost use Rattle.std.specs.Prelude.{◌≡◌, ◌++◌, ◌⊎◌, ℕ, List, Some};
+ghost use Rattle.std.specs.Prelude.{◌≡◌, ◌++◌, ◌⊎◌, ℕ, List, Option, Some, Result, Err};
 ghost use Rattle.http_wire.specs.Fronts.{HasNoFront, IsStuck, Within};
 ghost use Rattle.http_wire.specs.Heads.{IsRequestText, IsResponseText, head_limit};
-ghost use Rattle.http_wire.specs.Messages.{SpellsRequest, IsSameRequest, IsNoRequest, SpellsResponse, IsSameResponse, IsNoResponse};
+ghost use Rattle.http_wire.specs.Plain.{IsRequestHead, RequestBodyStep, RequestHeadStep};
+ghost use Rattle.http_wire.specs.Messages.{RequestStep, SpellsRequest, IsSameRequest, IsNoRequest, SpellsResponse, IsSameResponse, IsNoResponse};
 ghost use Rattle.http_wire.specs.Framings.{Pair, framing_of};
 ghost use Rattle.http_wire.specs.Spellings.{spelled_request, spelled_response};
 ghost use Rattle.http_wire.specs.ReadBack.{IsPlainRequest, HasFixedFields, IsPlainResponse, HasFixedResponseFields};
@@ -10,6 +11,12 @@ ghost use Rattle.http_wire.specs.FramingRules.{IsFramedBy};
 ghost use Rattle.http_wire.specs.declared.message.Request.{Request};
 ghost use Rattle.http_wire.specs.declared.message.Response.{Response};
 ghost use Rattle.http_wire.specs.declared.message.WireFault.{WireFault};
+
+/// A head, and what was found behind it, are a request, or why there is none; and where there is no head there is none.
+pub fn parts_law()
+    ensures behind { (left : Option (List ℕ)) (head : Request) (read : Result Request WireFault) (front rest : List ℕ) → IsRequestHead front head → RequestBodyStep head left read rest → RequestStep left read (front ++ rest) }
+    ensures headless { (left : Option (List ℕ)) (f : WireFault) (bytes : List ℕ) → RequestHeadStep left (Err f) bytes → RequestStep left (Err f) bytes }
+{}
 
 /// Where a link has these bytes left, no more than one request stands at their front, however they are cut.
 pub fn request_law()

@@ -80,7 +80,7 @@ fn send_both<L: Link>(link: &mut L, head: &[u8], body: &[u8]) -> Result<(), Fail
 
 /// Sends all the bytes. `Failed` only where the link's count of faults rose; a front of the bytes was sent
 /// then, and not all.
-fn send_all<L: Link>(link: &mut L, bytes: &[u8]) -> Result<(), Failed>
+pub(crate) fn send_all<L: Link>(link: &mut L, bytes: &[u8]) -> Result<(), Failed>
     ensures ok { OnOk result (Appends (L.held link.old) (L.held link.new) bytes.now) }
     ensures err { OnErr result (AppendsFront (L.held link.old) (L.held link.new) bytes.now) }
     ensures cause { HasCause (L.faults link.old) (L.faults link.new) result }

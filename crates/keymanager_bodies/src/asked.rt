@@ -30,9 +30,12 @@ pub enum Asked {
     },
 }
 
-/// What a request asks for, where this token is wanted, or the first check that it fails: those of the head; then, to
-/// take keys in or to give them up, that the body is a JSON object with each member, in their order; that there is a
-/// password for each keystore; and that the text of the interchange file is one. The error outside is want of memory.
+/// What a request asks for, where this token is wanted, or the first check that it fails: those of the head, as
+/// `read_action` looks for them, and then those of the body, as `asked_in` does.
+///
+/// # Errors
+///
+/// The error outside is want of memory, the one inside the check.
 pub fn read_asked(
     alloc: Global,
     request: &Request,
@@ -43,19 +46,35 @@ pub fn read_asked(
     // The file lists each key once.
     ensures once { IfOk result (λ read. IfOk read ListsOnce) }
 {
-    match read(alloc, request, token) {
-        Ok(asked) => Ok(Ok(asked)),
+    match read_action(alloc, request, token) {
+        Ok(action) => asked_in(alloc, action, request.body.as_slice()),
         Err(Stop::Refused(refusal)) => Ok(Err(refusal)),
         Err(Stop::Memory) => Err(AllocError),
     }
 }
 
-fn read(alloc: Global, request: &Request, token: &[u8]) -> Result<Asked, Stop>
-    ensures asked { Gives result (asked_of token.now request.now) }
-    ensures once { IfOk result ListsOnce }
+/// What a request for this asks for with its body, or the first check that the body fails: to take keys in or to give
+/// them up, that it is a JSON object with each member, in their order; that there is a password for each keystore; and
+/// that the text of the interchange file is one.
+///
+/// # Errors
+///
+/// The error outside is want of memory, the one inside the check.
+pub fn asked_in(
+    alloc: Global,
+    action: Action,
+    body: &[u8],
+) -> Result<Result<Asked, Refusal>, AllocError>
+    ensures asked { IfOk result (λ read. read ≡ body_asks action body.now) }
+
+    // The file lists each key once.
+    ensures once { IfOk result (λ read. IfOk read ListsOnce) }
 {
-    let action = read_action(alloc, request, token)?;
-    read_body(alloc, action, request.body.as_slice())
+    match read_body(alloc, action, body) {
+        Ok(asked) => Ok(Ok(asked)),
+        Err(Stop::Refused(refusal)) => Ok(Err(refusal)),
+        Err(Stop::Memory) => Err(AllocError),
+    }
 }
 
 fn read_body(alloc: Global, action: Action, body: &[u8]) -> Result<Asked, Stop>

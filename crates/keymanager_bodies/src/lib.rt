@@ -5,5 +5,5 @@ mod asked;
 mod bodies;
 mod members;
 
-pub use asked::{Asked, read_asked};
+pub use asked::{Asked, asked_in, read_asked};
 pub use bodies::{deletion_reply, import_reply, listed_reply};

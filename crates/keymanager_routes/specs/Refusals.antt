@@ -26,13 +26,13 @@ lists_text keystores passwords = codes "lists differ: " ++ decimal keystores ++ 
 -- the status and the message; in the order in which they are looked for
 abbrev pub refusal_reply : Refusal → Reply
 refusal_reply refusal.BadHead = message_reply 400 (codes "bad head")
-refusal_reply (refusal.Encoded value) = message_reply 400 (codes "encoded body: " ++ utf8_lossy value)
-refusal_reply refusal.BodyTooLong = message_reply 413 (codes "body too long")
-refusal_reply refusal.BadBody = message_reply 400 (codes "bad body")
 refusal_reply refusal.NoRoute = message_reply 404 (codes "no route")
 refusal_reply refusal.NoMethod = message_reply 405 (codes "no method")
 refusal_reply refusal.NoToken = message_reply 401 (codes "no token")
 refusal_reply refusal.WrongToken = message_reply 403 (codes "wrong token")
+refusal_reply (refusal.Encoded value) = message_reply 400 (codes "encoded body: " ++ utf8_lossy value)
+refusal_reply refusal.BadBody = message_reply 400 (codes "bad body")
+refusal_reply refusal.BodyTooLong = message_reply 413 (codes "body too long")
 refusal_reply (refusal.BadMember m) = message_reply 400 (codes "bad member: " ++ member_name m)
 refusal_reply (refusal.ListsDiffer keystores passwords) = message_reply 400 (lists_text keystores passwords)
 refusal_reply (refusal.BadProtection f) = message_reply 400 (codes "protection refused: " ++ fault_word f)

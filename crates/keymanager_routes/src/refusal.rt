@@ -15,12 +15,6 @@ use std::alloc::{AllocError, AllocFailed, Global};
 pub enum Refusal {
     /// What came is no head of a request.
     BadHead,
-    /// The body is in this coding, other than identity.
-    Encoded(Items<u8>),
-    /// The body has more bytes than are read.
-    BodyTooLong,
-    /// What came is no body as its fields frame it.
-    BadBody,
     /// The target before its query names nothing.
     NoRoute,
     /// The method does nothing with what the target names.
@@ -29,6 +23,12 @@ pub enum Refusal {
     NoToken,
     /// The request bears another token.
     WrongToken,
+    /// The body is in this coding, other than identity.
+    Encoded(Items<u8>),
+    /// What came is no body as its fields frame it.
+    BadBody,
+    /// The body has more bytes than are read.
+    BodyTooLong,
     /// The body is no JSON object, or this member is absent or of another kind.
     BadMember(Member),
     /// There are so many keystores, and so many passwords.
@@ -44,13 +44,13 @@ impl Refusal {
     {
         match self {
             Refusal::BadHead => Reply::of_message(alloc, 400, "bad head"),
-            Refusal::Encoded(value) => encoded_reply(alloc, value.as_slice()),
-            Refusal::BodyTooLong => Reply::of_message(alloc, 413, "body too long"),
-            Refusal::BadBody => Reply::of_message(alloc, 400, "bad body"),
             Refusal::NoRoute => Reply::of_message(alloc, 404, "no route"),
             Refusal::NoMethod => Reply::of_message(alloc, 405, "no method"),
             Refusal::NoToken => Reply::of_message(alloc, 401, "no token"),
             Refusal::WrongToken => Reply::of_message(alloc, 403, "wrong token"),
+            Refusal::Encoded(value) => encoded_reply(alloc, value.as_slice()),
+            Refusal::BadBody => Reply::of_message(alloc, 400, "bad body"),
+            Refusal::BodyTooLong => Reply::of_message(alloc, 413, "body too long"),
             Refusal::BadMember(member) => {
                 Reply::of_word(alloc, 400, "bad member: ", member.name())
             }

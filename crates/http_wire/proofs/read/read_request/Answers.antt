@@ -1,34 +1,18 @@
-use Rattle.std.proofs.Common.{◌+◌, List, false, Ok, Err, arith, subst}
-use Rattle.http_wire.specs.declared.field.Field.{Field}
-use Rattle.http_wire.specs.Parts.{parts_of}
+use Rattle.std.proofs.Common.{◌+◌, arith}
 use Rattle.http_wire.specs.Heads.{head_limit}
 use Rattle.http_wire.specs.Bounds.{chunked_limit}
-use Rattle.http_wire.specs.Steps.{Took}
-use Rattle.http_wire.specs.Plain.{PlainStep}
-use Rattle.http_wire.proofs.RequestLemmas.{request_read, request_faulty, request_headless}
+use Rattle.http_wire.proofs.RequestLemmas.{took_parts, took_headless}
 use Rattle.http_wire.proofs.TakeLemmas.{at_most_within, at_most_more}
 use Rattle.http_wire.proofs.read.read_request.Goals as goal
 
-pub returns-in-Ok-read_plain_body-clause-step : goal.returns-in-Ok-read_plain_body-clause-step
-returns-in-Ok-read_plain_body-clause-step g c =
-    let r = c.in-Ok.request in
-    let B : List Field → Type 0 = λ fields. Took (g.L.Link.left c.read_request_head.new.link) (g.L.Link.left c.read_plain_body.new.link) (PlainStep false (parts_of fields) (g.L.Link.left c.read_plain_body.new.link) (Ok tt) c.read_plain_body.new.body.items) in
-    request_read _ _ _ r c.read_plain_body.new.body c.in-Ok.ensures.step (subst B c.as_slice.ensures.value c.in-Ok-read_plain_body.ensures.step)
-
-pub returns-in-Err-read_plain_body-clause-step : goal.returns-in-Err-read_plain_body-clause-step
-returns-in-Err-read_plain_body-clause-step g c =
-    let r = c.in-Ok.request in
-    let B : List Field → Type 0 = λ fields. Took (g.L.Link.left c.read_request_head.new.link) (g.L.Link.left c.read_plain_body.new.link) (PlainStep false (parts_of fields) (g.L.Link.left c.read_plain_body.new.link) (Err c.in-Err-read_plain_body.fault) c.read_plain_body.new.body.items) in
-    request_faulty _ _ _ r c.read_plain_body.new.body.items c.in-Err-read_plain_body.fault c.in-Ok.ensures.step (subst B c.as_slice.ensures.value c.in-Err-read_plain_body.ensures.step)
+pub returns-in-Ok-clause-step : goal.returns-in-Ok-clause-step
+returns-in-Ok-clause-step g c = took_parts _ _ _ c.in-Ok.head c.read_request_body.result c.in-Ok.ensures.step c.read_request_body.ensures.step
 
 pub returns-in-Err-clause-step : goal.returns-in-Err-clause-step
-returns-in-Err-clause-step g c = request_headless _ _ c.in-Err.fault c.in-Err.ensures.step
+returns-in-Err-clause-step g c = took_headless _ _ c.in-Err.fault c.in-Err.ensures.step
 
-pub returns-in-Ok-read_plain_body-clause-bound : goal.returns-in-Ok-read_plain_body-clause-bound
-returns-in-Ok-read_plain_body-clause-bound g c = at_most_more _ _ _ (head_limit) chunked_limit (head_limit + chunked_limit) c.read_request_head.ensures.bound c.read_plain_body.ensures.bound (omega arith)
-
-pub returns-in-Err-read_plain_body-clause-bound : goal.returns-in-Err-read_plain_body-clause-bound
-returns-in-Err-read_plain_body-clause-bound g c = at_most_more _ _ _ (head_limit) chunked_limit (head_limit + chunked_limit) c.read_request_head.ensures.bound c.read_plain_body.ensures.bound (omega arith)
+pub returns-in-Ok-clause-bound : goal.returns-in-Ok-clause-bound
+returns-in-Ok-clause-bound g c = at_most_more _ _ _ (head_limit) chunked_limit (head_limit + chunked_limit) c.read_request_head.ensures.bound c.read_request_body.ensures.bound (omega arith)
 
 pub returns-in-Err-clause-bound : goal.returns-in-Err-clause-bound
 returns-in-Err-clause-bound g c = at_most_within _ _ (head_limit) _ c.read_request_head.ensures.bound (omega arith)
