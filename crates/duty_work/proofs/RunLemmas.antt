@@ -1,5 +1,5 @@
 -- A turn, part behind part.
-use Rattle.std.proofs.Common.{◌≡◌, ℕ, ◌≤◌, ◌++◌, List, [], ◌∷◌, length, Option, Some, None, Result, Ok, Err, true, false, refl, sym, ◌∙◌, ap, subst}
+use Rattle.std.proofs.Common.{◌≡◌, ℕ, ◌++◌, List, [], ◌∷◌, length, Option, Some, None, Result, Ok, Err, true, false, refl, sym, ◌∙◌, ap, subst}
 use Rattle.std.specs.Prelude.{OnOk}
 use Rattle.edge_kit.specs.declared.bytes.PubKey.{PubKey}
 use Rattle.sign_roots.specs.declared.domains.Domains.{Domains}
@@ -26,7 +26,7 @@ use Rattle.duty_plans.specs.declared.setup.DutySetup.{DutySetup}
 use Rattle.duty_plans.specs.declared.work.SlotWork.{SlotWork}
 use Rattle.duty_turns.specs.Lines.{duty_lines}
 use Rattle.duty_turns.specs.Standing.{Standing}
-use Rattle.duty_turns.specs.Times.{epoch_of, next_slot, slot_of, slot_start, votes_start}
+use Rattle.duty_turns.specs.Times.{epoch_of, is_missed, next_slot, slot_start, votes_start}
 use Rattle.duty_turns.specs.Turns.{NextPlan, PartPlan, active_of, asked_plan, at_slot, blocks_in, calls, close_plan, closed_plan, due_plan, failed_plan, listed_plan, prunes, ready_plan, refreshes, refreshes_lanes, shortens, turn_plan, votes_in, votes_plan, waits, with_active, woken_plan, work_of, works}
 use Rattle.duty_turns.specs.TurnSteps.{Does, Fits, House, SinkSeen}
 use Rattle.duty_turns.specs.declared.held.DutyEnd.{DutyEnd}
@@ -46,14 +46,16 @@ kept (Ok x) p = p
 kept (Err e) p = tt
 
 -- what stands is held with another slot, or other active keys
-pub holds_at : (before now : Held) (s : Standing) (slot : ℕ) → HoldsPlaced before s → now.slot ≡ slot → now.fork ≡ before.fork → now.indices ≡ before.indices → now.schedule ≡ before.schedule → now.active ≡ before.active → HoldsPlaced now (at_slot slot s)
-holds_at before now s slot h at fork indices schedule active = record {
+pub holds_at : (before now : Held) (s : Standing) (slot : ℕ) → HoldsPlaced before s → now.slot ≡ slot → now.fork ≡ before.fork → now.indices ≡ before.indices → now.schedule ≡ before.schedule → now.active ≡ before.active → now.renewed ≡ before.renewed
+    → HoldsPlaced now (at_slot slot s)
+holds_at before now s slot h at fork indices schedule active renewed = record {
   is = record {
     slot = at;
     fork = fork ∙ h.is.fork;
     indices = ap (λ m. m.entries) indices ∙ h.is.indices;
     schedule = rw schedule h.is.schedule;
     active = active ∙ h.is.active;
+    renewed = renewed ∙ h.is.renewed;
   };
   places = h.places;
 }
@@ -260,10 +262,10 @@ module _ {K : Type 0} (leads : Leads K) (start : Option ℕ) where
         runs = turn_works_cut leads start d ls ks ns o (work_of setup s) 0 (blocks_in ds) (λ proposed. waits (votes_start setup.genesis_time s.slot) (votes_plan setup s ds proposed)) done;
       }
 
-  module _ (Holds : Standing → Type 0) (setup : DutySetup) (s : Standing) (d : K) (ls ks : List (Seat K)) (ns : List Seen) (o : SinkSeen) (ds votes : List Duty) (rs : List DutyResult) (reached later slot place : ℕ)
-      (is : later ≡ slot_of setup.genesis_time reached) (at : slot ≡ s.slot) (due : later ≤ slot) (of : votes ≡ votes_in ds) (behind : place ≡ length (blocks_in ds)) where
+  module _ (Holds : Standing → Type 0) (setup : DutySetup) (s : Standing) (d : K) (ls ks : List (Seat K)) (ns : List Seen) (o : SinkSeen) (ds votes : List Duty) (rs : List DutyResult) (reached place : ℕ)
+      (due : is_missed setup.genesis_time s.slot (votes_start setup.genesis_time s.slot) reached ≡ false) (of : votes ≡ votes_in ds) (behind : place ≡ length (blocks_in ds)) where
     now : votes_plan setup s ds rs reached ≡ works (work_of setup s) (length (blocks_in ds)) (votes_in ds) (λ cast. close_plan setup s.slot (blocks_in ds ++ votes_in ds) (rs ++ cast) (at_slot (next_slot s.slot) s))
-    now = votes_now setup s ds rs reached later is (subst (λ n. later ≤ n) at due)
+    now = votes_now setup s ds rs reached due
 
     dealt_so : (v : Option (List DutyResult)) → WorksDone leads (work_of setup s) place votes ls ks v → WorksDone leads (work_of setup s) (length (blocks_in ds)) (votes_in ds) ls ks v
     dealt_so v work =

@@ -1,8 +1,7 @@
 -- Late, or in time; and turn behind turn.
-use Rattle.std.proofs.Common.{◌≡◌, ℕ, suc, ◌+◌, ◌-◌, ◌<◌, ◌≤◌, nat_lt, true, false, List, [], ◌++◌, length, Option, Some, Result, Ok, Err, refl, ap, subst, arith}
-use Rattle.std.proofs.lemmas.Bool.{lt-ltb, le-ltb}
+use Rattle.std.proofs.Common.{◌≡◌, ℕ, suc, ◌+◌, ◌-◌, ◌<◌, ◌≤◌, Bool, true, false, List, [], ◌++◌, length, Option, Some, None, Result, Ok, Err, refl, sym, ◌∙◌, ap, subst, arith}
 use Rattle.client_calls.proofs.SeatLemmas.{Leads}
-use Rattle.edge_clock.specs.Clocks.{IsNow}
+use Rattle.edge_clock.specs.Clocks.{IsHalted, IsNow}
 use Rattle.desk_machine.specs.declared.call.DeskCall.TheVariants as call
 use Rattle.call_plans.specs.Plans.{Done, bind}
 use Rattle.call_plans.specs.Paths.{Carries, Comes}
@@ -11,34 +10,33 @@ use Rattle.duty_schedule.specs.declared.rows.Duty.{Duty}
 use Rattle.duty_plans.specs.declared.result.DutyResult.{DutyResult}
 use Rattle.duty_plans.specs.declared.setup.DutySetup.{DutySetup}
 use Rattle.duty_turns.specs.Standing.{Standing}
-use Rattle.duty_turns.specs.Times.{next_slot, slot_of}
+use Rattle.duty_turns.specs.Times.{is_missed, next_slot, slot_of, slot_start, votes_start}
 use Rattle.duty_turns.specs.Turns.{at_slot, blocks_in, calls, close_plan, first_standing, listed_plan, next_turn, refreshes, refreshes_lanes, shortens, turn_plan, turns_plan, votes_in, votes_plan, woken_plan, work_of, works}
 use Rattle.duty_turns.specs.TurnSteps.{Does, Fits, House, TurnPlan}
 use Rattle.duty_turns.specs.declared.held.DutyEnd.{DutyEnd}
 use Rattle.duty_turns.specs.declared.held.DutyEnd.TheVariants as end
-use Rattle.duty_work.specs.Houses.{RunsFrom, Turns, end_value, next_value}
+use Rattle.duty_work.specs.Houses.{AreTaken, RunsFrom, Turns, end_value, next_value}
 
-pub woken_late : (setup : DutySetup) (s : Standing) (reached later : ℕ) → later ≡ slot_of setup.genesis_time reached → s.slot < later → woken_plan setup s reached ≡ close_plan setup s.slot [] [] (at_slot later s)
-woken_late setup s reached later e h =
-    let late : nat_lt s.slot (slot_of setup.genesis_time reached) ≡ true = lt-ltb s.slot (slot_of setup.genesis_time reached) (subst (λ n. s.slot < n) e h) in
-    rw (late, e) refl
+-- whether a wait was over at another moment is said of the slot and the moment that are held
+pub missed_so : (genesis slot moment held reached : ℕ) (start : ℕ → ℕ → ℕ) (said is : Bool) → said ≡ is_missed genesis slot moment reached → said ≡ is → moment ≡ start genesis slot → slot ≡ held → is_missed genesis held (start genesis held) reached ≡ is
+missed_so genesis slot moment held reached start said is says e of at =
+    subst (λ n. is_missed genesis n (start genesis n) reached ≡ is) at (subst (λ n. is_missed genesis slot n reached ≡ is) of (sym says ∙ e))
 
-pub woken_now : (setup : DutySetup) (s : Standing) (reached later : ℕ) → later ≡ slot_of setup.genesis_time reached → later ≤ s.slot → woken_plan setup s reached ≡ refreshes (refreshes_lanes (shortens s (calls call.Keys (listed_plan setup s))))
-woken_now setup s reached later e h =
-    let now : nat_lt s.slot (slot_of setup.genesis_time reached) ≡ false = le-ltb s.slot (slot_of setup.genesis_time reached) (subst (λ n. n ≤ s.slot) e h) in
-    rw now refl
+pub woken_late : (setup : DutySetup) (s : Standing) (reached later : ℕ) → is_missed setup.genesis_time s.slot (slot_start setup.genesis_time s.slot) reached ≡ true → later ≡ slot_of setup.genesis_time reached
+    → woken_plan setup s reached ≡ close_plan setup s.slot [] [] (at_slot later s)
+woken_late setup s reached later late e = rw (late, e) refl
 
-pub votes_late : (setup : DutySetup) (s : Standing) (ds : List Duty) (rs : List DutyResult) (reached later : ℕ) → later ≡ slot_of setup.genesis_time reached → s.slot < later
+pub woken_now : (setup : DutySetup) (s : Standing) (reached : ℕ) → is_missed setup.genesis_time s.slot (slot_start setup.genesis_time s.slot) reached ≡ false
+    → woken_plan setup s reached ≡ refreshes (refreshes_lanes (shortens s (calls call.Keys (listed_plan setup s))))
+woken_now setup s reached now = rw now refl
+
+pub votes_late : (setup : DutySetup) (s : Standing) (ds : List Duty) (rs : List DutyResult) (reached later : ℕ) → is_missed setup.genesis_time s.slot (votes_start setup.genesis_time s.slot) reached ≡ true → later ≡ slot_of setup.genesis_time reached
     → votes_plan setup s ds rs reached ≡ close_plan setup s.slot (blocks_in ds) rs (at_slot later s)
-votes_late setup s ds rs reached later e h =
-    let late : nat_lt s.slot (slot_of setup.genesis_time reached) ≡ true = lt-ltb s.slot (slot_of setup.genesis_time reached) (subst (λ n. s.slot < n) e h) in
-    rw (late, e) refl
+votes_late setup s ds rs reached later late e = rw (late, e) refl
 
-pub votes_now : (setup : DutySetup) (s : Standing) (ds : List Duty) (rs : List DutyResult) (reached later : ℕ) → later ≡ slot_of setup.genesis_time reached → later ≤ s.slot
+pub votes_now : (setup : DutySetup) (s : Standing) (ds : List Duty) (rs : List DutyResult) (reached : ℕ) → is_missed setup.genesis_time s.slot (votes_start setup.genesis_time s.slot) reached ≡ false
     → votes_plan setup s ds rs reached ≡ works (work_of setup s) (length (blocks_in ds)) (votes_in ds) (λ cast. close_plan setup s.slot (blocks_in ds ++ votes_in ds) (rs ++ cast) (at_slot (next_slot s.slot) s))
-votes_now setup s ds rs reached later e h =
-    let now : nat_lt s.slot (slot_of setup.genesis_time reached) ≡ false = le-ltb s.slot (slot_of setup.genesis_time reached) (subst (λ n. n ≤ s.slot) e h) in
-    rw now refl
+votes_now setup s ds rs reached now = rw now refl
 
 -- ---- turn behind turn
 
@@ -76,46 +74,81 @@ module _ {K : Type 0} (leads : Leads K) (start : Option ℕ) (setup : DutySetup)
       let e : n - i ≡ 0 = omega arith in
       comes_end Fits (Does leads start) a b p (Done (Ok tt)) (Some (Ok tt)) (subst (λ k. Comes Fits (Does leads start) p (turns_plan setup k s) a b) e g) refl
 
--- so many turns were carried out, from the clock's moment on, and this stands then
+-- so many turns were carried out, from the clock's moment on, and this stands then, whatever number of turns is wanted
 pub record TurnsSoFar {K : Type 0} (leads : Leads K) (start : Option ℕ) (setup : DutySetup) (Holds : Standing → Type 0) (taken : ℕ) (a b : House K) : Type 0 where
   pub now : ℕ
   pub is_now : IsNow start now
   pub after : Standing
   pub held : Holds after
-  pub comes : Comes Fits (Does leads start) (turns_plan setup setup.slots (first_standing setup now)) (turns_plan setup (setup.slots - taken) after) a b
+  pub comes : (n : ℕ) → taken ≤ n → Comes Fits (Does leads start) (turns_plan setup n (first_standing setup now)) (turns_plan setup (n - taken) after) a b
+
+all_taken : (start : Option ℕ) (wanted : ℕ) → AreTaken start wanted wanted
+all_taken None wanted = omega arith
+all_taken (Some first) wanted = refl
+
+-- a clock that is told on time is never halted
+few_taken : (start : Option ℕ) (wanted turns : ℕ) (halted : Bool) → IsHalted start halted → halted ≡ true → turns ≤ wanted → AreTaken start wanted turns
+few_taken None wanted turns halted is e h = h
+few_taken (Some first) wanted turns halted is e h = absurd cc
 
 module _ {K : Type 0} (leads : Leads K) (start : Option ℕ) (setup : DutySetup) where
   pub turns_begun : (Holds : Standing → Type 0) (a : House K) (now : ℕ) → IsNow start now → Holds (first_standing setup now) → TurnsSoFar leads start setup Holds 0 a a
-  turns_begun Holds a now is held =
-      let e : setup.slots ≡ setup.slots - 0 = omega arith in
-      record {
-        now = now;
-        is_now = is;
-        after = first_standing setup now;
-        held = held;
-        comes = subst (λ n. Comes Fits (Does leads start) (turns_plan setup setup.slots (first_standing setup now)) (turns_plan setup n (first_standing setup now)) a a) e
-            (comes_none Fits (Does leads start) (turns_plan setup setup.slots (first_standing setup now)) a);
-      }
+  turns_begun Holds a now is held = record {
+    now = now;
+    is_now = is;
+    after = first_standing setup now;
+    held = held;
+    comes = λ n h.
+        let e : n ≡ n - 0 = omega arith in
+        subst (λ k. Comes Fits (Does leads start) (turns_plan setup n (first_standing setup now)) (turns_plan setup k (first_standing setup now)) a a) e (comes_none Fits (Does leads start) (turns_plan setup n (first_standing setup now)) a);
+  }
 
-  pub turns_go : (P Q : Standing → Type 0) (a b c : House K) (i : ℕ) → i < setup.slots → (w : TurnsSoFar leads start setup P i a b) → Turns leads start Q (turn_plan setup w.after) b c (Ok tt) → TurnsSoFar leads start setup Q (i + 1) a c
-  turns_go P Q a b c i h w t = record {
+  pub turns_go : (P Q : Standing → Type 0) (a b c : House K) (i : ℕ) → (w : TurnsSoFar leads start setup P i a b) → Turns leads start Q (turn_plan setup w.after) b c (Ok tt) → TurnsSoFar leads start setup Q (i + 1) a c
+  turns_go P Q a b c i w t = record {
     now = w.now;
     is_now = w.is_now;
     after = t.after;
     held = t.held;
-    comes = turn_goes leads start setup (turns_plan setup setup.slots (first_standing setup w.now)) setup.slots i w.after t.after a b c h w.comes t.runs;
+    comes = λ n h.
+        let below : i < n = omega arith in
+        let within : i ≤ n = omega arith in
+        turn_goes leads start setup (turns_plan setup n (first_standing setup w.now)) n i w.after t.after a b c below (w.comes n within) t.runs;
   }
 
   pub turns_end : (P Q : Standing → Type 0) (a b c : House K) (i : ℕ) → i < setup.slots → (e : DutyEnd) → (w : TurnsSoFar leads start setup P i a b) → Turns leads start Q (turn_plan setup w.after) b c (Err e) → RunsFrom leads start setup a c (end_value (Err e))
-  turns_end P Q a b c i h e w t = record {
-    now = w.now;
-    is_now = w.is_now;
-    runs = turn_ends leads start setup (turns_plan setup setup.slots (first_standing setup w.now)) setup.slots i w.after t.after a b c e h w.comes t.runs;
-  }
+  turns_end P Q a b c i h e w t =
+      let within : i ≤ setup.slots = omega arith in
+      record {
+        now = w.now;
+        is_now = w.is_now;
+        turns = setup.slots;
+        taken = all_taken start setup.slots;
+        runs = turn_ends leads start setup (turns_plan setup setup.slots (first_standing setup w.now)) setup.slots i w.after t.after a b c e h (w.comes setup.slots within) t.runs;
+      }
 
-  pub turns_over : (P : Standing → Type 0) (a b : House K) (i : ℕ) → setup.slots ≤ i → (w : TurnsSoFar leads start setup P i a b) → RunsFrom leads start setup a b (Some (Ok tt))
+  taken_runs : (P : Standing → Type 0) (a b : House K) (i : ℕ) → (w : TurnsSoFar leads start setup P i a b) → Carries Fits (Does leads start) (turns_plan setup i (first_standing setup w.now)) a b (Some (Ok tt))
+  taken_runs P a b i w =
+      let same : i ≤ i = omega arith in
+      turns_done leads start setup (turns_plan setup i (first_standing setup w.now)) i i w.after a b same (w.comes i same)
+
+  -- all turns that were wanted
+  pub turns_over : (P : Standing → Type 0) (a b : House K) (i : ℕ) → i ≡ setup.slots → (w : TurnsSoFar leads start setup P i a b) → RunsFrom leads start setup a b (Some (Ok tt))
   turns_over P a b i h w = record {
     now = w.now;
     is_now = w.is_now;
-    runs = turns_done leads start setup (turns_plan setup setup.slots (first_standing setup w.now)) setup.slots i w.after a b h w.comes;
+    turns = i;
+    taken = subst (λ n. AreTaken start n i) h (all_taken start i);
+    runs = taken_runs P a b i w;
   }
+
+  -- or fewer, where the clock is halted
+  pub turns_halted : (P : Standing → Type 0) (a b : House K) (i : ℕ) (halted : Bool) → i < setup.slots → IsHalted start halted → halted ≡ true → (w : TurnsSoFar leads start setup P i a b) → RunsFrom leads start setup a b (Some (Ok tt))
+  turns_halted P a b i halted h is e w =
+      let within : i ≤ setup.slots = omega arith in
+      record {
+        now = w.now;
+        is_now = w.is_now;
+        turns = i;
+        taken = few_taken start setup.slots i halted is e within;
+        runs = taken_runs P a b i w;
+      }

@@ -1,5 +1,5 @@
 -- What the parts of a turn make of the loop's own desk and nodes, the lanes and the output.
-use Rattle.std.specs.Prelude.{ℕ, true, List, Option, Some, None, Result, Ok, Err, OnOk}
+use Rattle.std.specs.Prelude.{◌≡◌, ◌≤◌, ℕ, true, List, Option, Some, None, Result, Ok, Err, OnOk}
 use Rattle.std.specs.declared.alloc.AllocError.{AllocError}
 use Rattle.desk_machine.specs.declared.call.DeskCall.{DeskCall}
 use Rattle.desk_machine.specs.declared.call.DeskReply.{DeskReply}
@@ -100,8 +100,15 @@ pub record PartTurns {K : Type 0} (leads : K → List (DeskCall × DeskReply) �
   pub held : OnOk result (Holds after)
   pub runs : Carries Fits (Does leads start) plan a b (done_value after result)
 
--- all turns were carried out, from the clock's moment on
+-- that many turns were taken: all that were wanted, or fewer, where the clock is not told on time and was halted
+abbrev pub AreTaken : Option ℕ → ℕ → ℕ → Type 0
+AreTaken None wanted turns = turns ≤ wanted
+AreTaken (Some start) wanted turns = turns ≡ wanted
+
+-- all turns were carried out, from the clock's moment on; or fewer, up to the end of one, where the clock was halted
 pub record RunsFrom {K : Type 0} (leads : K → List (DeskCall × DeskReply) → K → Type 0) (start : Option ℕ) (setup : DutySetup) (a b : House K) (value : Option (Result (Unit {0}) DutyEnd)) : Type 0 where
   pub now : ℕ
   pub is_now : IsNow start now
-  pub runs : Carries Fits (Does leads start) (turns_plan setup setup.slots (first_standing setup now)) a b value
+  pub turns : ℕ
+  pub taken : AreTaken start setup.slots turns
+  pub runs : Carries Fits (Does leads start) (turns_plan setup turns (first_standing setup now)) a b value

@@ -18,7 +18,7 @@ use desk_machine::{DeskCall, DeskCalls, DeskReply};
 use duty_asks::write_text;
 use duty_plans::{DutyResult, DutySetup};
 use duty_schedule::Duty;
-use duty_turns::{DutyEnd, Held, duty_lines, epoch_of, next_slot, slot_of, votes_start};
+use duty_turns::{DutyEnd, Held, duty_lines, epoch_of, is_missed, next_slot, slot_of, votes_start};
 use duty_workers::{Lane, run_lanes};
 use edge_clock::Clock;
 use edge_kit::Sink;
@@ -104,8 +104,8 @@ fn do_duties<T: Threads + Sync, K: DeskCalls + Send, S: Signer + Send, N: Node +
     )
 }
 
-/// Has the votes cast, whose places are behind those of the blocks, unless the moment that was reached is of a later slot.
-/// Then the next turn is that slot's.
+/// Has the votes cast, whose places are behind those of the blocks, unless the moment that was reached is of a later slot,
+/// or before that at which votes are cast. Then the next turn is that of the slot that was reached.
 fn cast_votes<
     T: Threads + Sync,
     K: DeskCalls + Send,
@@ -137,9 +137,9 @@ fn cast_votes<
         (house desk.new (lanes_seen S.told S.faults S.denials N.told N.faults lanes.new) nodes (sink_seen O.held O.faults out.new)) result }
 {
     let slot = held.slot;
-    let later = slot_of(setup.genesis_time, reached);
-    if slot < later {
-        held.slot = later;
+    let moment = votes_start(setup.genesis_time, slot);
+    if is_missed(setup.genesis_time, slot, moment, reached) {
+        held.slot = slot_of(setup.genesis_time, reached);
         return close(alloc, setup, slot, blocks, proposed, held, desk, out);
     }
     let Ok(votes) = votes_in(alloc, due) else {
