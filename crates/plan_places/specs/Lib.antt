@@ -1,2 +1,4 @@
 pub mod Files
 pub mod Services
+pub mod TokenFiles
+pub mod TokenPlaces

@@ -1,5 +1,5 @@
-//! What a command line names of the outside: the files of its journal, the services that it calls, and where it takes
-//! connections.
+//! What a command line names of the outside: the files of its journal, the services that it calls, where it takes
+//! connections, and the file that holds the token.
 #![tactic(auto)]
 
 ghost use Rattle.std.specs.Prelude.{◌≡◌, [], IfOk, None, Ok, Some, map, option_map, string_bytes, ◌++◌};
@@ -7,9 +7,12 @@ ghost use Rattle.command_line.specs.Plans.{asked_of, taken_as};
 ghost use Rattle.plan_places.specs.Files.{files_at, files_of};
 ghost use Rattle.plan_places.specs.Services.{listen_of, nodes_of, signer_of, timeout_of};
 
+mod token_file;
+
 use command_line::{ListenAddress, NodeTimeout, Plan, ServeOptions, plan};
 use service_url::ServiceUrl;
 use std::alloc::{AllocError, Global};
+pub use token_file::{token_path, with_token};
 
 /// What words name of the outside.
 #[derive(Drop)]
