@@ -1,3 +1,4 @@
 mod RunLemmas
 mod ServeLemmas
+mod ReadingLemmas
 pub mod VisitLemmas

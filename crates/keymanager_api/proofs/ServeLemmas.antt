@@ -40,11 +40,10 @@ nothing_appends (Some x) None c text p q = absurd p
 nothing_appends (Some x) (Some y) None text p q = absurd q
 nothing_appends (Some x) (Some y) (Some z) text p q = q ∙ ap (λ l. l ++ text) (p ∙ append-nil x)
 
-pub nothing_sent : (a b c : Option (List ℕ)) (text : List ℕ) → Stays a b → Stays b c → AppendsSome a c text
-nothing_sent None b c text p q = (0, tt)
-nothing_sent (Some x) None c text p q = absurd p
-nothing_sent (Some x) (Some y) None text p q = absurd q
-nothing_sent (Some x) (Some y) (Some z) text p q = (0, q ∙ p ∙ sym (append-nil x))
+nothing_sent : (a b : Option (List ℕ)) (text : List ℕ) → Stays a b → AppendsSome a b text
+nothing_sent None b text p = (0, tt)
+nothing_sent (Some x) None text p = absurd p
+nothing_sent (Some x) (Some y) text p = (0, p ∙ sym (append-nil x))
 
 pub front_some : (a b : Option (List ℕ)) (text : List ℕ) → AppendsFront a b text → AppendsSome a b text
 front_some a b text f = (f.0, f.2)
@@ -57,6 +56,9 @@ rose_before a b c r h = omega arith
 
 pub rose_after : (a b c : ℕ) → a ≤ b → Rose b c → Rose a c
 rose_after a b c h r = omega arith
+
+pub both_later : (a b c : ℕ) → a ≤ b → b ≤ c → a ≤ c
+both_later a b c l m = omega arith
 
 -- ---- replies
 
@@ -86,17 +88,17 @@ pub finished : (a b c : Option (List ℕ)) (f g h : ℕ) (reply : Option Reply) 
     → SendsWhole a b reply sent → HasCause f g sent → Stays b c → HasCause g h ended → Sends a c f h reply (served_by sent ended)
 finished a b c f g h reply sent ended s p st q = record { said = s.said; may = s.may; sent = ended_as a b c f g h s.said sent ended s.sent p st q }
 
-later_as : (a b c : Option (List ℕ)) (f g h : ℕ) (said : Reply) (s : Served) → Stays a b → f ≤ g → SentAs b c g h said s → SentAs a c f h said s
-later_as a b c f g h said (served.Replied status) st l s = (s.0, stays_appends a b c (reply_text said) st s.1)
-later_as a b c f g h said served.Dropped st l s = ((s.0.0, stays_appends a b c (take s.0.0 (reply_text said)) st s.0.1), rose_after f g h l s.1)
+counted_as : (a b : Option (List ℕ)) (f g h : ℕ) (said : Reply) (s : Served) → f ≤ g → SentAs a b g h said s → SentAs a b f h said s
+counted_as a b f g h said (served.Replied status) l s = s
+counted_as a b f g h said served.Dropped l s = (s.0, rose_after f g h l s.1)
 
 -- behind a call that sent nothing
-pub sends_later : (a b c : Option (List ℕ)) (f g h : ℕ) (reply : Option Reply) (s : Served) → Stays a b → f ≤ g → Sends b c g h reply s → Sends a c f h reply s
-sends_later a b c f g h reply s st l p = record { said = p.said; may = p.may; sent = later_as a b c f g h p.said s st l p.sent }
+pub sends_later : (a b : Option (List ℕ)) (f g h : ℕ) (reply : Option Reply) (s : Served) → f ≤ g → Sends a b g h reply s → Sends a b f h reply s
+sends_later a b f g h reply s l p = record { said = p.said; may = p.may; sent = counted_as a b f g h p.said s l p.sent }
 
--- the link failed in the reading
-pub dropped : (a b c : Option (List ℕ)) (f g h : ℕ) → Stays a b → Stays b c → Rose f g → g ≤ h → Sends a c f h None served.Dropped
-dropped a b c f g h p q r l = record { said = memory_reply; may = refl; sent = (nothing_sent a b c (reply_text memory_reply) p q, rose_before f g h r l) }
+-- the link failed before there was a reply
+pub dropped : (a b : Option (List ℕ)) (f g h : ℕ) → Stays a b → Rose f g → g ≤ h → Sends a b f h None served.Dropped
+dropped a b f g h p r l = record { said = memory_reply; may = refl; sent = (nothing_sent a b (reply_text memory_reply) p, rose_before f g h r l) }
 
 -- the constant text is that of the reply
 pub memory_text : codes "HTTP/1.1 503 Service Unavailable\r\nContent-Type: application/json\r\nContent-Length: 27\r\nConnection: close\r\n\r\n{\"message\":\"out of memory\"}" ≡ reply_text memory_reply

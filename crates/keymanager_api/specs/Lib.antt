@@ -1,4 +1,5 @@
 pub mod Plans
+pub mod Readings
 pub mod Serving
 pub mod Doors
 pub mod Handling

@@ -1,14 +1,16 @@
 -- A connection that is served.
-use Rattle.std.specs.Prelude.{◌≡◌, ◌⊎◌, ℕ, List, [], take, Option, Some, None, Result, Ok, Err, codes}
+use Rattle.std.specs.Prelude.{◌≡◌, ◌⊎◌, ◌≤◌, ℕ, List, [], take, Option, Some, None, IfSome, Result, Ok, Err, codes}
 use Rattle.std.specs.Io.KnownBytes.{Appends}
 use Rattle.http.specs.StatusCode.{IsStatusCode}
 use Rattle.edge_kit.specs.Causes.{Rose}
+use Rattle.edge_kit.specs.Links.{Stays}
 use Rattle.edge_kit.specs.declared.traits.Failed.{Failed}
+use Rattle.call_plans.specs.Plans.{Done}
 use Rattle.desk_machine.specs.declared.call.DeskCall.{DeskCall}
 use Rattle.desk_machine.specs.declared.call.DeskReply.{DeskReply}
 use Rattle.client_calls.specs.Seats.{Seat, Ran}
 use Rattle.http_wire.specs.Steps.{Took}
-use Rattle.http_wire.specs.Messages.{RequestStep}
+use Rattle.http_wire.specs.Plain.{IsRequestHead}
 use Rattle.http_wire.specs.Parts.{parts_of}
 use Rattle.http_wire.specs.declared.message.Request.{Request}
 use Rattle.http_wire.specs.declared.message.Response.{Response}
@@ -16,7 +18,8 @@ use Rattle.http_wire.specs.declared.message.WireFault.{WireFault}
 use Rattle.http_wire.specs.declared.message.WireFault.TheVariants as fault
 use Rattle.keymanager_routes.specs.Replies.{message_reply, reply_text}
 use Rattle.keymanager_routes.specs.declared.reply.Reply.{Reply}
-use Rattle.keymanager_api.specs.Plans.{message_plan}
+use Rattle.keymanager_api.specs.Plans.{faulty_plan, message_plan}
+use Rattle.keymanager_api.specs.Readings.{Continues, MessageStep}
 use Rattle.keymanager_api.specs.declared.serve.Served.{Served}
 use Rattle.keymanager_api.specs.declared.serve.Served.TheVariants as served
 
@@ -75,12 +78,30 @@ pub record LinkSeen : Type 0 where
   pub held : Option (List ℕ)
   pub faults : ℕ
 
--- One message was read, or none; the desk and the signer did what its plan says; and what came of it was sent.
+-- One message was read, or none, of a head that fails its checks the head alone; the response of status 100 was sent where it is due; the
+-- desk and the signer did what the message's plan says; and what came of it was sent.
 pub record Serves {K : Type 0} (leads : K → List (DeskCall × DeskReply) → K → Type 0) (token : List ℕ) (now : ℕ) (link_before link_now : LinkSeen) (before after : Seat K) (s : Served) : Type 0 where
   pub read : Result Request WireFault
   pub left : Option (List ℕ)
-  pub took : Took link_before.left left (RequestStep left read)
+  pub took : Took link_before.left left (MessageStep token left read)
+  pub held : Option (List ℕ)
+  pub continued : Continues token left read took.bytes took.holds link_before.held held
   pub reply : Option Reply
   pub ran : Ran leads (message_plan token now read) before after reply
-  pub sends : Sends link_before.held link_now.held link_before.faults link_now.faults reply s
+  pub sends : Sends held link_now.held link_before.faults link_now.faults reply s
   pub failed : read ≡ Err fault.Link → s ≡ served.Dropped
+
+-- this head was taken, and nothing else has happened
+pub record ReadsHead (head : Request) (link_before link_now : LinkSeen) : Type 0 where
+  pub took : Took link_before.left link_now.left (λ text. IsRequestHead text head)
+  pub empty : head.body.items ≡ []
+  pub held : Stays link_before.held link_now.held
+  pub later : link_before.faults ≤ link_now.faults
+
+-- What became of a connection of which no request was read but this fault: the fault's reply, if there is one, was sent. Where the link
+-- failed, which it did since so many faults were counted, none was.
+pub record EndsFaulty (f : WireFault) (held_before held_now : Option (List ℕ)) (faults_before faults_now : ℕ) (s : Served) : Type 0 where
+  pub reply : Option Reply
+  pub plan : IfSome reply (λ r. faulty_plan f ≡ Done r)
+  pub sends : (counted : ℕ) → counted ≤ faults_before → (f ≡ fault.Link → Rose counted faults_before) → Sends held_before held_now counted faults_now reply s
+  pub failed : f ≡ fault.Link → s ≡ served.Dropped

@@ -4,8 +4,8 @@ ghost use Rattle.std.specs.Result.{result_ok};
 ghost use Rattle.http.specs.StatusCode.{IsStatusCode};
 ghost use Rattle.desk_machine.specs.Machine.{moment_limit};
 ghost use Rattle.client_calls.specs.Seats.{SignerSeen, Ran, at_seat};
-ghost use Rattle.keymanager_bodies.specs.Asking.{IsListedOnce, ListsOnce};
-ghost use Rattle.keymanager_api.specs.Plans.{answer_plan, asked_plan};
+ghost use Rattle.keymanager_bodies.specs.Asking.{IsListedOnce, ListsOnce, body_asks};
+ghost use Rattle.keymanager_api.specs.Plans.{answer_plan, asked_plan, checked_plan};
 ghost use Rattle.keymanager_api.specs.Serving.{IsBare, reply_in};
 
 use custody_format::Keystores;
@@ -13,8 +13,8 @@ use desk_machine::DeskCalls;
 use edge_kit::PubKey;
 use http_wire::{Request, Response};
 use key_custody::{delete_keys, import_keys, list_keys};
-use keymanager_bodies::{Asked, deletion_reply, import_reply, listed_reply, read_asked};
-use keymanager_routes::Reply;
+use keymanager_bodies::{Asked, asked_in, deletion_reply, import_reply, listed_reply, read_asked};
+use keymanager_routes::{Action, Reply};
 use signer_link::Signer;
 use slash_defs::File;
 use std::alloc::{AllocError, Global};
@@ -79,6 +79,30 @@ pub(crate) fn reply_to<K: DeskCalls, S: Signer>(
         (at_seat desk.new (record { told = S.told signer.new; faults = S.faults signer.new; denials = S.denials signer.new })) (result_ok result) }
 {
     match read_asked(alloc, request, token.as_bytes()) {
+        Ok(Ok(asked)) => do_asked(alloc, asked, now, desk, signer),
+        Ok(Err(refusal)) => refusal.reply(alloc),
+        Err(AllocError) => Err(AllocError),
+    }
+}
+
+/// The reply to a request whose head passes the checks and asks for this.
+pub(crate) fn reply_behind<K: DeskCalls, S: Signer>(
+    alloc: Global,
+    action: Action,
+    request: &Request,
+    now: u64,
+    desk: &mut K,
+    signer: &mut S,
+) -> Result<Reply, AllocError>
+    requires ready { K.ready desk.old }
+    requires moment { now ≤ moment_limit }
+    ensures ready { K.ready desk.new }
+    ensures status { IfOk result (λ r. IsStatusCode r.status) }
+    ensures runs { Ran K.leads (checked_plan now (body_asks action request.now.body.items))
+        (at_seat desk.old (record { told = S.told signer.old; faults = S.faults signer.old; denials = S.denials signer.old }))
+        (at_seat desk.new (record { told = S.told signer.new; faults = S.faults signer.new; denials = S.denials signer.new })) (result_ok result) }
+{
+    match asked_in(alloc, action, request.body.as_slice()) {
         Ok(Ok(asked)) => do_asked(alloc, asked, now, desk, signer),
         Ok(Err(refusal)) => refusal.reply(alloc),
         Err(AllocError) => Err(AllocError),

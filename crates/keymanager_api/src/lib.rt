@@ -4,9 +4,11 @@
 
 mod answering;
 mod connections;
+mod laws;
 mod send;
 mod serve;
 
 pub use answering::answer;
 pub use connections::{Connections, ConnectionsEnd, serve_connections};
+pub use laws::message_law;
 pub use serve::{Served, serve_connection};

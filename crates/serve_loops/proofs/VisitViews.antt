@@ -24,6 +24,8 @@ module _ {K : Type 0} (leads : K → List (DeskCall × DeskReply) → K → Type
     read = v.read;
     left = v.left;
     took = v.took;
+    held = v.held;
+    continued = v.continued;
     reply = v.reply;
     ran = ran_seen (message_plan token now v.read) a b v.reply v.ran;
     sends = v.sends;
