@@ -4,13 +4,18 @@
 ghost use Rattle.std.specs.Prelude.{◌≡◌, [], IfOk};
 ghost use Rattle.edge_kit.specs.OnMemDisks.{disk_bytes};
 
+mod announce;
+mod token;
+
+use crate::announce::announce;
+use crate::token::{TokenNote, TokenWords, token_words};
 use beacon_node::BeaconNode;
 use command_line::{ListenAddress, NodeTimeout};
-use edge_clock::SystemClock;
+use edge_clock::{Halt, SystemClock};
 use edge_kit::{Disk, Disks, Door, MemDisk};
 use edge_system::{
-    FileDisk, LongRequests, Peers, Reading, StandardStream, StandardStreams, Standing, TcpDoor,
-    TcpLink, Writing,
+    EpochCounts, FileDisk, LongRequests, Peers, Reading, StandardStream, StandardStreams, Standing,
+    TcpDoor, TcpLink, ToldClock, Writing,
 };
 use node_calls::Node;
 use plan_places::{Places, Services, named};
@@ -131,12 +136,13 @@ fn nodes_at<'a, R: Net + Eprint + Clock>(
     Ok(nodes)
 }
 
-/// The door at an address; where there is none, one that is never opened.
+/// The door at an address, which this halt shuts; where there is none, one that is never opened.
 fn door_at<'a, R: Net + Eprint + Clock>(
     rt: &'a R,
     alloc: Global,
     listen: Option<ListenAddress>,
-) -> Result<TcpDoor<&'a R>, AllocError> {
+    halt: &'a Halt,
+) -> Result<TcpDoor<'a, &'a R>, AllocError> {
     let (host, port) = match listen {
         Some(address) => {
             let host = address.host;
@@ -144,7 +150,7 @@ fn door_at<'a, R: Net + Eprint + Clock>(
         }
         None => (String::new(alloc), 0),
     };
-    Ok(TcpDoor::new(alloc, rt, host, port))
+    Ok(TcpDoor::new(alloc, rt, host, port, halt))
 }
 
 /// A run of the words over these disks, with the services that they name; with a signer in memory where they name none.
@@ -201,7 +207,8 @@ where
     }
 }
 
-/// A run of the words over these disks, with this signer and these nodes, and a door at this address.
+/// A run of the words over these disks, with this signer and these nodes, and a door at this address. One halt ends what
+/// the door and the clock wait for.
 fn run_listening<
     R: Threads + Wait + Sync + Input + Print + Eprint + Net + Clock,
     D: Disk + Drop + Send,
@@ -220,13 +227,14 @@ where
     R::Stream: Send,
     R::Listener: Send,
 {
-    match door_at(rt, alloc, listen) {
-        Ok(door) => run(rt, alloc, words, disks, signer, nodes, door),
+    let halt = Halt::new();
+    match door_at(rt, alloc, listen, &halt) {
+        Ok(door) => run(rt, alloc, words, disks, signer, nodes, door, &halt),
         Err(AllocError) => Status::OutOfMemory,
     }
 }
 
-/// A run of the words over these objects.
+/// A run of the words over these objects, which this halt ends.
 fn run<
     R: Threads + Wait + Sync + Input + Print + Eprint + Clock,
     D: Disk + Drop + Send,
@@ -241,9 +249,10 @@ fn run<
     signer: S,
     nodes: Vec<N>,
     door: E,
+    halt: &Halt,
 ) -> Status {
     let mut input = Reading::new(rt.reader(), rt);
-    let mut output = Writing::new(io::writer(rt), rt);
+    let mut output = EpochCounts::new(alloc, Writing::new(io::writer(rt), rt), rt);
     let ending = run_validator(
         rt,
         alloc,
@@ -251,7 +260,7 @@ fn run<
         disks,
         signer,
         nodes,
-        SystemClock::new(rt),
+        ToldClock::new(SystemClock::new(rt, halt), rt),
         door,
         &mut input,
         &mut output,
@@ -332,34 +341,56 @@ fn tell_unknown<R: Print + Eprint>(rt: &R, output: Standing, error: Standing) ->
 struct Begun {
     /// What keeps the numbers of the standard streams from what is opened.
     streams: StandardStreams,
-    /// The words of the command line.
+    /// The words of the command line, with the token in them.
     words: Vec<String>,
     /// What they name of the outside.
     places: Places,
 }
 
-/// The words of the command line, and what they name of the outside.
-fn named_words<R: Env + AllocGlobal>(rt: &R) -> Result<(Vec<String>, Places), AllocError> {
-    let words = words(rt)?;
-    let places = named(rt.alloc(), words.as_slice())?;
-    Ok((words, places))
+/// The words of the command line with the token in them, and what they name of the outside.
+fn named_words<R: Files<File = File> + Env + AllocGlobal>(
+    rt: &R,
+) -> Result<(TokenWords, Places), AllocError> {
+    let given = token_words(rt, rt.alloc(), words(rt)?)?;
+    let places = named(rt.alloc(), given.words.as_slice())?;
+    Ok((given, places))
 }
 
-/// Reads the words, and takes the standard streams before anything is opened. Without a standard output nothing is begun,
-/// since nothing could be answered; nor where an output is a file of a journal.
+/// Reads the words, and the file of the token, which is closed again before the standard streams are taken; these are taken
+/// before anything else is opened. Without a standard output nothing is begun, since nothing could be answered; nor where
+/// an output is a file of a journal, or the token could not be read.
 fn begin<R: Files<File = File> + Env + Print + Eprint + AllocGlobal>(
     rt: &R,
 ) -> Result<Begun, Status> {
-    let Ok((words, places)) = named_words(rt) else {
+    let Ok((given, places)) = named_words(rt) else {
         return Err(Status::OutOfMemory);
     };
-    match take_streams(rt, &places) {
-        Ok(streams) => Ok(Begun {
-            streams,
-            words,
-            places,
-        }),
-        Err(status) => Err(status),
+    let TokenWords { words, note } = given;
+    let streams = take_streams(rt, &places)?;
+    tell_note(rt, &places, &note)?;
+    Ok(Begun {
+        streams,
+        words,
+        places,
+    })
+}
+
+/// Tells what is to be told of the file of the token. Where it is refused, so are the words.
+fn tell_note<R: Files<File = File> + Eprint>(
+    rt: &R,
+    places: &Places,
+    note: &TokenNote,
+) -> Result<(), Status> {
+    match note {
+        TokenNote::Nothing => Ok(()),
+        TokenNote::Warning(line) => {
+            tell(rt, places, line.as_str());
+            Ok(())
+        }
+        TokenNote::Refusal(line) => {
+            tell(rt, places, line.as_str());
+            Err(Status::Usage)
+        }
     }
 }
 
@@ -400,6 +431,7 @@ fn main(rt: HostRuntime) -> ExitCode {
     };
     let alloc = rt.alloc();
     let Places { files, services } = places;
+    announce(&rt, &services);
     let status = match files {
         Some((first, second)) => match file_disks(&rt, alloc, first, second) {
             Ok(disks) => run_signing(&rt, alloc, words.as_slice(), disks, services),
