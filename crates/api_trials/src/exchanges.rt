@@ -1,6 +1,6 @@
 //! Requests, each with its reply.
 use crate::Outcome;
-use crate::links::{client, counted};
+use crate::links::{client, counted, metered_client};
 use crate::stage::{Chosen, NOW, Stage, TOKEN, serve};
 use edge_kit::MemLink;
 use http_wire::{Request, Response, read_request};
@@ -29,6 +29,28 @@ pub(crate) fn exchange(
     };
     let served = serve(alloc, &mut link, desk, &mut stage.signer);
     served_words(alloc, served, link)
+}
+
+/// Serves the connection of a client, and tells how many of the bytes that it says were read.
+pub(crate) fn heard(alloc: Global, arguments: &str, stage: &mut Stage) -> Outcome {
+    let Some(desk) = &mut stage.desk else {
+        return Ok(None);
+    };
+    let Some(mut link) = metered_client(alloc, arguments)? else {
+        return Ok(None);
+    };
+    let served = serve(alloc, &mut link, desk, &mut stage.signer);
+    let read = format!(in alloc; "{} of {} bytes read", link.read, link.said)?;
+    let words = served_words(alloc, served, link.link)?;
+    with_read(alloc, read.as_str(), words)
+}
+
+/// What became of a connection, behind how much was read of it.
+fn with_read(alloc: Global, read: &str, words: Option<String>) -> Outcome {
+    match words {
+        Some(words) => Ok(Some(format!(in alloc; "{read}, {words}")?)),
+        None => Ok(None),
+    }
 }
 
 /// The request that a client says, if it says one.

@@ -1,5 +1,7 @@
 //! The notation of bytes, and links in memory.
-use edge_kit::{Link, MemLink};
+ghost use Rattle.std.specs.Prelude.{None};
+
+use edge_kit::{Failed, Link, MemLink};
 use std::alloc::{AllocError, Global};
 
 /// Room for each reply, where a line names none.
@@ -66,13 +68,13 @@ fn request_of(alloc: Global, text: &str, times: usize) -> Result<Vec<u8>, AllocE
     Ok(request.into_bytes())
 }
 
-/// What a client says: a request by its method and its body for `ask`, else bytes.
+/// What a client says: a request by its method and its body for `ask`, else bytes; for `heard` some of them repeated.
 fn said(alloc: Global, subject: &str, options: &str, text: &str) -> Result<Vec<u8>, AllocError> {
-    if subject == "ask" {
-        let times = number_of(options, "times").unwrap_or(1);
-        request_of(alloc, text, times as usize)
-    } else {
-        bytes_of(alloc, text)
+    let times = number_of(options, "times").unwrap_or(1) as usize;
+    match subject {
+        "ask" => request_of(alloc, text, times),
+        "heard" => bytes_of(alloc, repeated(alloc, text, times)?.as_str()),
+        _ => bytes_of(alloc, text),
     }
 }
 
@@ -98,4 +100,68 @@ pub(crate) fn client(
     };
     let bytes = said(alloc, subject, options, text.trim_start())?;
     Ok(Some(link_of(alloc, options, bytes)?))
+}
+
+/// A link in memory, with how many bytes its client says and how many of them were read. It tells nothing.
+#[derive(Drop)]
+pub(crate) struct Metered {
+    pub(crate) link: MemLink,
+    pub(crate) said: usize,
+    pub(crate) read: usize,
+}
+
+impl Link for Metered {
+    ghost use Rattle.edge_kit.specs.OnMemLinks.{link_calls};
+
+    ghost left = { λ _. None };
+
+    ghost coming = { λ _. None };
+
+    ghost held = { λ _. None };
+
+    ghost faults = { λ s. (link_calls s.link).faults };
+
+    fn connect(&mut self) -> Result<(), Failed> {
+        self.link.connect()
+    }
+
+    fn send(&mut self, piece: &[u8]) -> Result<usize, Failed> {
+        self.link.send(piece)
+    }
+
+    fn recv(&mut self, buf: &mut [u8]) -> Result<usize, Failed> {
+        let count = self.link.recv(buf)?;
+        self.read = self.read.saturating_add(count);
+        Ok(count)
+    }
+
+    fn hang_up(&mut self) -> Result<(), Failed> {
+        self.link.hang_up()
+    }
+
+    fn twin(&self, alloc: Global) -> Result<Self, AllocError> {
+        Ok(Metered {
+            link: self.link.twin(alloc)?,
+            said: self.said,
+            read: self.read,
+        })
+    }
+}
+
+/// The link of a client that says bytes, with how many it says.
+pub(crate) fn metered_client(
+    alloc: Global,
+    arguments: &str,
+) -> Result<Option<Metered>, AllocError> {
+    let Some((options, text)) = arguments.split_once('>') else {
+        return Ok(None);
+    };
+    let bytes = said(alloc, "heard", options, text.trim_start())?;
+    let said = bytes.len();
+    let link = link_of(alloc, options, bytes)?;
+    Ok(Some(Metered {
+        link,
+        said,
+        read: 0,
+    }))
 }

@@ -9,7 +9,7 @@ mod links;
 mod stage;
 
 use crate::doors::{accept_twice, serve_door};
-use crate::exchanges::{answer_without_link, exchange};
+use crate::exchanges::{answer_without_link, exchange, heard};
 use crate::stage::{Chosen, Stage, choose_signer, look, open_desk};
 use std::alloc::{AllocError, Global};
 use std::io;
@@ -33,6 +33,7 @@ fn set_or_look(alloc: Global, subject: &str, arguments: &str, stage: &mut Stage)
 fn outcome(alloc: Global, subject: &str, arguments: &str, stage: &mut Stage) -> Outcome {
     match subject {
         "say" | "ask" => exchange(alloc, subject, arguments, stage),
+        "heard" => heard(alloc, arguments, stage),
         "answer" => answer_without_link(alloc, arguments, stage),
         "door" => serve_door(alloc, arguments, stage),
         "accept" => accept_twice(alloc, arguments),

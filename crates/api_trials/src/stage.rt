@@ -3,7 +3,7 @@ use crate::Outcome;
 use crate::exhausted::Exhausted;
 use crate::links::{bytes_of, counted, failing_of, number_of};
 use check_sign::Desk;
-use edge_kit::{Disks, MemDisk, MemLink, Root};
+use edge_kit::{Disks, Link, MemDisk, MemLink, Root};
 use keymanager_api::{Served, serve_connection};
 use service_url::ServiceUrl;
 use signer_link::MemSigner;
@@ -112,9 +112,9 @@ pub(crate) fn choose_signer(alloc: Global, arguments: &str, stage: &mut Stage) -
 }
 
 /// Serves a connection over a desk and the signer that is chosen.
-pub(crate) fn serve(
+pub(crate) fn serve<L: Link>(
     alloc: Global,
-    link: &mut MemLink,
+    link: &mut L,
     desk: &mut NotedDesk,
     signer: &mut Chosen,
 ) -> Served {
