@@ -27,7 +27,8 @@ use std::thread::Threads;
 
 /// Takes the turns of a duty loop, as many as the setup says, beginning at the clock's slot: in each the nodes are
 /// asked what is due for the desk's active keys, and that is done in the lanes, each duty under a grant of its lane's
-/// desk. What became of each is a line of the output. A slot whose time is over when its turn comes is passed over.
+/// desk. What became of each is a line of the output. A slot whose time is over when its turn comes is passed over. Where
+/// the clock is halted no further turn begins, and the loop ends as it does after its last turn.
 ///
 /// Each lane does its duties with a desk, a signing service and nodes of its own, one after another, and beside the other
 /// lanes; the loop itself has a desk and nodes, for what is asked outside the duties, and signs nothing. The duties of a
@@ -67,6 +68,9 @@ pub fn run_duties<
 {
     let mut held = first_held(alloc, setup, clock.now());
     'turns: for _turn in 0..setup.slots {
+        if clock.is_halted() {
+            return Ok(());
+        }
         match take_turn(rt, alloc, setup, clock, &mut held, desk, nodes, lanes, out) {
             Ok(()) => {}
             Err(end) => return Err(end),
@@ -86,5 +90,6 @@ pub fn first_held(alloc: Global, setup: &DutySetup, now: u64) -> Held
         indices: BTreeMap::new(alloc),
         schedule: Schedule::new(alloc),
         active: None,
+        renewed: None,
     }
 }

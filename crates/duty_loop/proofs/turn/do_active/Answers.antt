@@ -17,4 +17,4 @@ returns-in_default-clause-runs g c = λ nodes s h. short g.K.DeskCalls.leads (g.
 
 pub returns-clause-runs : goal.returns-clause-runs
 returns-clause-runs g c = λ nodes s h. looked g.K.DeskCalls.leads (g.C.Clock.start c.args.clock.now) _ c.args.setup.now s _ _ c.args.held.now.slot c.args.active c.as_slice.result.now c.in-Ok.due.items c.deref.result.now _ h.is.slot c.as_slice.ensures c.deref.ensures.value (c.in-Ok.ensures s.answers h.is.schedule)
-    (c.do_due.ensures.runs nodes (with_active c.args.active s) (record { is = record { slot = h.is.slot; fork = h.is.fork; indices = h.is.indices; schedule = h.is.schedule; active = refl }; places = h.places }))
+    (c.do_due.ensures.runs nodes (with_active c.args.active s) (record { is = record { slot = h.is.slot; fork = h.is.fork; indices = h.is.indices; schedule = h.is.schedule; active = refl; renewed = h.is.renewed }; places = h.places }))
