@@ -1,5 +1,5 @@
 -- A journal that has grown is compacted.
-use Rattle.std.proofs.Common.{◌≡◌, ℕ, if◌then◌else◌, Bool, true, false, List, [], ◌∷◌, Option, None, Result, Ok, Err, refl, sym, subst}
+use Rattle.std.proofs.Common.{◌≡◌, ℕ, if◌then◌else◌, Bool, true, false, List, [], ◌∷◌, Option, Result, Ok, refl, sym, subst}
 use Rattle.std.specs.declared.alloc.AllocError.{AllocError}
 use Rattle.client_calls.proofs.SeatLemmas.{Leads}
 use Rattle.desk_machine.specs.Grants.{IsGrantFor}
@@ -8,7 +8,7 @@ use Rattle.desk_machine.specs.declared.call.DeskCall.TheVariants as call
 use Rattle.desk_machine.specs.declared.call.DeskReply.{DeskReply}
 use Rattle.desk_machine.specs.declared.call.DeskReply.TheVariants as reply
 use Rattle.node_fallback.specs.Seen.{Seen}
-use Rattle.call_plans.specs.Paths.{Carries, Comes}
+use Rattle.call_plans.specs.Paths.{Comes}
 use Rattle.call_plans.proofs.PathLemmas.{comes_none}
 use Rattle.duty_plans.specs.Hands.{Free, hand_given}
 use Rattle.duty_plans.specs.Seats.{Seat}

@@ -1,6 +1,6 @@
 -- A turn that drops nothing tells of all that was due.
 use Rattle.std.proofs.Common.{◌≡◌, ◌+◌, ℕ, Bool, true, false, List, [], ◌∷◌, ◌++◌, length, map, Option, Some, None, Ok, Err, refl, sym, ◌∙◌, ap, subst, arith, append_assoc}
-use Rattle.std.specs.Prelude.{nat_lt, if◌then◌else◌}
+use Rattle.std.specs.Prelude.{if◌then◌else◌}
 use Rattle.std.proofs.lemmas.List.{length-append}
 use Rattle.edge_kit.specs.declared.bytes.PubKey.{PubKey}
 use Rattle.desk_machine.specs.declared.call.DeskCall.TheVariants as call

@@ -1,11 +1,11 @@
 -- Turns whose waits are over in their slots drop nothing.
-use Rattle.std.proofs.Common.{ℕ, zero, suc, ◌≤◌, ◌<◌, ◌^◌, true, List, [], ◌∷◌, ◌++◌, length, Option, Some, None, Result, Ok, Err, refl, sym, subst, arith}
+use Rattle.std.proofs.Common.{◌≡◌, ℕ, zero, suc, ◌≤◌, ◌<◌, ◌^◌, true, false, List, [], ◌∷◌, ◌++◌, length, Option, Some, None, Result, Ok, Err, refl, sym, subst, arith}
 use Rattle.std.specs.Prelude.{max, nat_lt}
 use Rattle.std.proofs.lemmas.Bool.{le-ltb}
 use Rattle.edge_kit.specs.declared.bytes.PubKey.{PubKey}
 use Rattle.slash_defs.specs.declared.book.Book.{Book}
 use Rattle.slash_defs.specs.declared.book.File.{File}
-use Rattle.edge_clock.specs.Clocks.{IsOnTime}
+use Rattle.edge_clock.specs.Clocks.{IsWaited}
 use Rattle.desk_machine.specs.declared.call.DeskCall.{DeskCall}
 use Rattle.desk_machine.specs.declared.call.DeskCall.TheVariants as call
 use Rattle.desk_machine.specs.declared.call.DeskReply.{DeskReply}
@@ -21,7 +21,7 @@ use Rattle.duty_turns.specs.declared.held.DutyEnd.TheVariants as end
 use Rattle.duty_turns.specs.Lines.{duty_lines}
 use Rattle.duty_turns.specs.Standing.{Standing}
 use Rattle.duty_pruning.specs.Pruning.{pruning_file}
-use Rattle.duty_turns.specs.Times.{epoch_of, is_first_slot, next_slot, slot_of, slot_start, votes_start}
+use Rattle.duty_turns.specs.Times.{epoch_of, is_first_slot, is_missed, next_slot, slot_of, slot_start, votes_start}
 use Rattle.duty_turns.specs.TurnSteps.{Does, Fits, House, TurnCall, TurnPlan, TurnReply, TurnStep, LooksUp, Own, Refreshes, RefreshesLanes, Waits, Works, Writes, Woke, Wrote}
 use Rattle.duty_turns.specs.Turns.{Next, NextPlan, active_of, asked_plan, at_slot, blocks_in, calls, close_plan, closed_plan, due_plan, exported, exports, failed_plan, found, keys_of_turn, lanes_refreshed, listed_plan, merges, next_turn, own_reply, prunes, ready_plan, refreshed, refreshes, refreshes_lanes, is_worth_compacting, shortens, sized, turn_plan, turns_plan, unless_short, votes_in, votes_plan, waits, with_active, woken, woken_plan, work_of, worked}
 use Rattle.duty_safety.specs.OnTime.{AllWaits, AreOnTime, IsWait, Wait, WakesInSlot, cast_plan, done_plan, listed_on_time, on_time_turn, on_time_turns, ready_on_time}
@@ -39,9 +39,15 @@ votes_slot genesis slot = omega arith
 slot_behind : (first slot : ℕ) → first < 2 ^ 64 → first ≤ slot → first ≤ next_slot slot
 slot_behind first slot cap below = omega arith
 
--- from this slot on, a wait for a moment of a slot is over in that slot at the latest
+not_missed : (genesis slot moment reached : ℕ) → slot_of genesis reached ≤ slot → moment ≤ reached → is_missed genesis slot moment reached ≡ false
+not_missed genesis slot moment reached h k =
+    let within : nat_lt slot (slot_of genesis reached) ≡ false = le-ltb slot (slot_of genesis reached) h in
+    let past : nat_lt reached moment ≡ false = le-ltb reached moment k in
+    rw (within, past) refl
+
+-- from this slot on, a wait for a moment of a slot misses neither
 abbrev Bounds : DutySetup → Wait → ℕ → Type 0
-Bounds setup W first = (slot moment reached : ℕ) → first ≤ slot → slot_of setup.genesis_time moment ≤ slot → W moment reached → slot_of setup.genesis_time reached ≤ slot
+Bounds setup W first = (slot moment reached : ℕ) → first ≤ slot → slot_of setup.genesis_time moment ≤ slot → W moment reached → is_missed setup.genesis_time slot moment reached ≡ false
 
 -- the next turn is of this slot or a later one
 abbrev From : ℕ → Next → Type 0
@@ -113,8 +119,9 @@ module _ (setup : DutySetup) (W : Wait) (first : ℕ) (cap : first < 2 ^ 64) (bo
       → Keeps W (From first) (votes_plan setup s ds proposed reached) (cast_plan setup s ds proposed)
   votes_keep s ds proposed reached h w =
       let now = slot_of setup.genesis_time reached in
-      keeps_else W (From first) (nat_lt s.slot now) (close_plan setup s.slot (blocks_in ds) proposed (at_slot now s)) (cast_plan setup s ds proposed) (cast_plan setup s ds proposed)
-      (le-ltb s.slot now (bounds s.slot (votes_start setup.genesis_time s.slot) reached h (votes_slot setup.genesis_time s.slot) w)) (cast_keeps s ds proposed h)
+      let moment = votes_start setup.genesis_time s.slot in
+      keeps_else W (From first) (is_missed setup.genesis_time s.slot moment reached) (close_plan setup s.slot (blocks_in ds) proposed (at_slot now s)) (cast_plan setup s ds proposed) (cast_plan setup s ds proposed)
+      (bounds s.slot moment reached h (votes_slot setup.genesis_time s.slot) w) (cast_keeps s ds proposed h)
 
   due_keeps : (s : Standing) (ds : List Duty) → first ≤ s.slot → Keeps W (From first) (due_plan setup s ds) (done_plan setup s ds)
   due_keeps s ds h =
@@ -147,8 +154,9 @@ module _ (setup : DutySetup) (W : Wait) (first : ℕ) (cap : first < 2 ^ 64) (bo
       let now = slot_of setup.genesis_time reached in
       let old = shortens s (calls call.Keys (listed_plan setup s)) in
       let new = shortens s (calls call.Keys (listed_on_time setup s)) in
-      keeps_else W (From first) (nat_lt s.slot now) (close_plan setup s.slot [] [] (at_slot now s)) (refreshes (refreshes_lanes old)) (refreshes (refreshes_lanes new))
-      (le-ltb s.slot now (bounds s.slot (slot_start setup.genesis_time s.slot) reached h (start_slot setup.genesis_time s.slot) w))
+      let moment = slot_start setup.genesis_time s.slot in
+      keeps_else W (From first) (is_missed setup.genesis_time s.slot moment reached) (close_plan setup s.slot [] [] (at_slot now s)) (refreshes (refreshes_lanes old)) (refreshes (refreshes_lanes new))
+      (bounds s.slot moment reached h (start_slot setup.genesis_time s.slot) w)
       (keeps_ask W (From first) Refreshes (λ r. refreshed r (refreshes_lanes old)) (λ r. refreshed r (refreshes_lanes new)) (λ r is. refreshed_keeps W (From first) r (refreshes_lanes old) (refreshes_lanes new)
       (keeps_ask W (From first) RefreshesLanes (λ r. lanes_refreshed r old) (λ r. lanes_refreshed r new) (λ r is. lanes_refreshed_keeps W (From first) r old new
       (shortens_keeps W first s (calls call.Keys (listed_plan setup s)) (calls call.Keys (listed_on_time setup s))
@@ -179,7 +187,9 @@ module _ (setup : DutySetup) (W : Wait) (first : ℕ) (cap : first < 2 ^ 64) (bo
 -- ---- each wait is over in the slot for which it was
 
 in_slot : (setup : DutySetup) → Bounds setup (WakesInSlot setup) 0
-in_slot setup slot moment reached first below on = omega arith
+in_slot setup slot moment reached first below on =
+    let here : slot_of setup.genesis_time reached ≤ slot = omega (arith, on.1) in
+    not_missed setup.genesis_time slot moment reached here on.0
 
 pub turn_on_time : (setup : DutySetup) (s : Standing) (steps : List TurnStep) (v : Option Next) → Follows Fits (turn_plan setup s) steps v → AreOnTime setup steps → Follows Fits (on_time_turn setup s) steps v
 turn_on_time setup s steps v f on = (turn_keeps setup (WakesInSlot setup) 0 (omega arith) (in_slot setup) s (omega arith) steps v f on).0
@@ -190,21 +200,22 @@ turns_on_time setup n s steps v f on = (turns_keep setup (WakesInSlot setup) 0 (
 
 -- ---- the clock is on time
 
-step_waits : {K : Type 0} (leads : K → List (DeskCall × DeskReply) → K → Type 0) (start : Option ℕ) (a b : House K) (c : TurnCall) (r : TurnReply) → Does leads start a (c, r) b → IsWait (IsOnTime start) (c, r)
-step_waits leads start a b (Waits moment) (Woke reached) d = d.0.on_time
+step_waits : {K : Type 0} (leads : K → List (DeskCall × DeskReply) → K → Type 0) (start : Option ℕ) (a b : House K) (c : TurnCall) (r : TurnReply) → Does leads start a (c, r) b → IsWait (IsWaited start) (c, r)
+step_waits leads start a b (Waits moment) (Woke reached) d = d.0
 step_waits leads start a b c r d = tt
 
-path_waits : {K : Type 0} (leads : K → List (DeskCall × DeskReply) → K → Type 0) (start : Option ℕ) (a b : House K) (steps : List TurnStep) → Path (Does leads start) a steps b → AllWaits (IsOnTime start) steps
+path_waits : {K : Type 0} (leads : K → List (DeskCall × DeskReply) → K → Type 0) (start : Option ℕ) (a b : House K) (steps : List TurnStep) → Path (Does leads start) a steps b → AllWaits (IsWaited start) steps
 path_waits leads start a b [] p = tt
 path_waits leads start a b ((c, r) ∷ steps) p = (step_waits leads start a p.0 c r p.1, path_waits leads start p.0 b steps p.2)
 
 later_slot : (genesis start moment slot : ℕ) → slot_of genesis start ≤ slot → slot_of genesis moment ≤ slot → slot_of genesis (max start moment) ≤ slot
 later_slot genesis start moment slot h k = omega arith
 
-started : (setup : DutySetup) (start : ℕ) → Bounds setup (IsOnTime (Some start)) (slot_of setup.genesis_time start)
+started : (setup : DutySetup) (start : ℕ) → Bounds setup (IsWaited (Some start)) (slot_of setup.genesis_time start)
 started setup start slot moment reached first below on =
     let P : ℕ → Type 0 = λ n. slot_of setup.genesis_time n ≤ slot in
-    subst P (sym on) (later_slot setup.genesis_time start moment slot first below)
+    let past : moment ≤ reached = omega arith in
+    not_missed setup.genesis_time slot moment reached (subst P (sym on) (later_slot setup.genesis_time start moment slot first below)) past
 
 small_slot : (genesis start : ℕ) → start < 2 ^ 64 → slot_of genesis start < 2 ^ 64
 small_slot genesis start h = omega arith
@@ -212,4 +223,4 @@ small_slot genesis start h = omega arith
 pub clock_on_time : {K : Type 0} (leads : K → List (DeskCall × DeskReply) → K → Type 0) (start n : ℕ) (setup : DutySetup) (s : Standing) (a b : House K) (steps : List TurnStep) (v : Option (Result (Unit {0}) DutyEnd))
     → start < 2 ^ 64 → slot_of setup.genesis_time start ≤ s.slot → Path (Does leads (Some start)) a steps b → Follows Fits (turns_plan setup n s) steps v → Follows Fits (on_time_turns setup n s) steps v
 clock_on_time leads start n setup s a b steps v small below path f =
-    (turns_keep setup (IsOnTime (Some start)) (slot_of setup.genesis_time start) (small_slot setup.genesis_time start small) (started setup start) n s below steps v f (path_waits leads (Some start) a b steps path)).0
+    (turns_keep setup (IsWaited (Some start)) (slot_of setup.genesis_time start) (small_slot setup.genesis_time start small) (started setup start) n s below steps v f (path_waits leads (Some start) a b steps path)).0

@@ -28,9 +28,9 @@ abbrev pub AllWaits : Wait → List TurnStep → Type 0
 AllWaits wait [] = Unit {0}
 AllWaits wait (s ∷ steps) = IsWait wait s × AllWaits wait steps
 
--- a wait is over in the slot for which it was
+-- a wait is over in the slot for which it was, and not before its moment
 abbrev pub WakesInSlot : DutySetup → Wait
-WakesInSlot setup moment reached = slot_of setup.genesis_time reached ≤ slot_of setup.genesis_time moment
+WakesInSlot setup moment reached = (moment ≤ reached) × (slot_of setup.genesis_time reached ≤ slot_of setup.genesis_time moment)
 
 -- so is each wait of these steps
 abbrev pub AreOnTime : DutySetup → List TurnStep → Type 0
