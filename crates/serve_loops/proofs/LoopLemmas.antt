@@ -19,7 +19,7 @@ use Rattle.duty_turns.specs.Turns.{first_standing, turns_plan}
 use Rattle.duty_workers.specs.Working.{lanes_seen}
 use Rattle.duty_workers.specs.declared.lane.Lane.{Lane}
 use Rattle.duty_loop.specs.Guarding.{AllFree, Guarded, IsFree, loop_steps}
-use Rattle.duty_work.specs.Houses.{RunsFrom, end_value, house}
+use Rattle.duty_work.specs.Houses.{AreTaken, RunsFrom, end_value, house}
 use Rattle.duty_loop.specs.Ends.{EndAtFailedDisk}
 use Rattle.duty_safety.specs.OnTime.{on_time_turns}
 use Rattle.serve_loops.specs.Serving.{DutiesRan}
@@ -46,18 +46,21 @@ module _ {K : Type 0} (leads : K → List (DeskCall × DeskReply) → K → Type
   pub duties_ran : (a b : House K) (ended : Result (Unit {0}) DutyEnd) → IsFree a → IsFree b → RunsFrom leads clock setup a b (end_value ended) → DutiesRan leads clock setup a b ended
   duties_ran a b ended free_a free_b runs =
       let first : Standing = first_standing setup runs.now in
-      let plan : Turns = turns_plan setup setup.slots first in
+      let plan : Turns = turns_plan setup runs.turns first in
       let steps : List TurnStep = runs.runs.steps in
       let Came : Result (Unit {0}) DutyEnd → Type 0 = λ r. Follows Fits plan steps (end_value r) in
       record {
         runs = runs;
         guarded = guards plan a b steps (end_value ended) free_a free_b runs.runs.path runs.runs.follows;
         later = later a b steps runs.runs.path;
-        write = λ e. write setup setup.slots first a b steps runs.runs.path (subst Came e runs.runs.follows);
-        disk = λ e. disk setup setup.slots first steps (subst Came e runs.runs.follows);
+        write = λ e. write setup runs.turns first a b steps runs.runs.path (subst Came e runs.runs.follows);
+        disk = λ e. disk setup runs.turns first steps (subst Came e runs.runs.follows);
         on_time = λ moment e lt.
             let Ran : Option ℕ → Type 0 = λ c. Path (Does leads c) a steps b in
             let Shown : Option ℕ → Type 0 = λ c. IsNow c runs.now in
             let shown : runs.now ≡ moment = subst Shown e runs.is_now in
-            on_time moment setup.slots setup first a b steps (end_value ended) lt (subst (λ (m : ℕ). slot_of setup.genesis_time m ≤ first.slot) shown (omega arith)) (subst Ran e runs.runs.path) runs.runs.follows;
+            let Taken : Option ℕ → Type 0 = λ c. AreTaken c setup.slots runs.turns in
+            let all : runs.turns ≡ setup.slots = subst Taken e runs.taken in
+            let Followed : ℕ → Type 0 = λ n. Follows Fits (turns_plan setup n first) steps (end_value ended) in
+            on_time moment setup.slots setup first a b steps (end_value ended) lt (subst (λ (m : ℕ). slot_of setup.genesis_time m ≤ first.slot) shown (omega arith)) (subst Ran e runs.runs.path) (subst Followed all runs.runs.follows);
       }

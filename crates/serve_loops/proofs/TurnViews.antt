@@ -77,6 +77,8 @@ module _ {K : Type 0} (leads : K → List (DeskCall × DeskReply) → K → Type
       runs = record {
         now = runs.now;
         is_now = runs.is_now;
+        turns = runs.turns;
+        taken = runs.taken;
         runs = record { steps = runs.runs.steps; path = turn_path a b runs.runs.steps runs.runs.path; follows = runs.runs.follows };
       };
       from = refl;

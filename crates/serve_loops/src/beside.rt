@@ -126,7 +126,8 @@ fn take_turns<
     (ended, DutySide { desk, lanes, nodes })
 }
 
-/// Does duties with what is held here.
+/// Does duties with what is held here. Where they end by a fault the clock is halted, by which the connections beside them
+/// learn that they shall end.
 fn turns_of<T: Threads + Wait + Sync, A: Holds, C: Clock, O: Sink>(
     rt: &T,
     alloc: Global,
@@ -148,10 +149,37 @@ where
     let side = held.take();
     let (ended, side) = take_turns(rt, alloc, setup, clock, side, out);
     held.put(side);
+    if ended.is_err() {
+        clock.halt();
+    }
     ended
 }
 
-/// Does duties with what is held here, and serves connections beside them, up to the end of both.
+/// Serves connections. Where they end by a fault the clock is halted, so that no further turn of the duties beside them
+/// begins.
+fn answer_all<K: DeskCalls, S: Signer, C: Clock, R: Door>(
+    alloc: Global,
+    wanted: Connections<'_>,
+    clock: &C,
+    desk: &mut K,
+    signer: &mut S,
+    door: &mut R,
+) -> Result<(), ConnectionsEnd>
+    requires ready { K.ready desk.old }
+    ensures ready { K.ready desk.new }
+    ensures serves { ServesAll K.leads (link_seen R.Conn.left R.Conn.held R.Conn.faults) (C.start clock.now) wanted.entry.token.now wanted.entry.genesis_time wanted.entry.count
+        (hall desk.old (signer_seen S.told S.faults S.denials signer.old) (door_seen R.coming R.finished R.faults door.old))
+        (hall desk.new (signer_seen S.told S.faults S.denials signer.new) (door_seen R.coming R.finished R.faults door.new)) result }
+{
+    let ended = serve_connections(alloc, wanted, clock, desk, signer, door);
+    if ended.is_err() {
+        clock.halt();
+    }
+    ended
+}
+
+/// Does duties with what is held here, and serves connections beside them, up to the end of both. Where one of them ends by
+/// a fault it halts the clock, by which the other learns that it shall end.
 fn join_loops<
     T: Threads + Wait + Sync,
     A: Holds + Send,
@@ -200,7 +228,7 @@ where
             ensures { K.ready other.exit.now × ServesAll K.leads (link_seen R.Conn.left R.Conn.held R.Conn.faults) (C.start clock.entry.now) wanted.entry.token.now wanted.entry.genesis_time wanted.entry.count
                 (hall other.entry.now (signer_seen S.told S.faults S.denials signer.entry.now) (door_seen R.coming R.finished R.faults door.entry.now))
                 (hall other.exit.now (signer_seen S.told S.faults S.denials signer.exit.now) (door_seen R.coming R.finished R.faults door.exit.now)) result }
-        { serve_connections(alloc, wanted, clock, other, signer, door) },
+        { answer_all(alloc, wanted, clock, other, signer, door) },
     )
 }
 
