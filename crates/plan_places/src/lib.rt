@@ -12,7 +12,7 @@ mod token_file;
 use command_line::{ListenAddress, NodeTimeout, Plan, ServeOptions, plan};
 use service_url::ServiceUrl;
 use std::alloc::{AllocError, Global};
-pub use token_file::{token_path, with_token};
+pub use token_file::{token_path, with_token, without_line_end};
 
 /// What words name of the outside.
 #[derive(Drop)]

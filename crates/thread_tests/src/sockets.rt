@@ -1,4 +1,5 @@
 //! A listener of the system as a door, and a connection of it as a link.
+use edge_clock::Halt;
 use edge_kit::{Door, Failed, Link};
 use edge_system::{Peers, TcpConn, TcpDoor, TcpLink};
 use std::alloc::{AllocError, Global};
@@ -8,6 +9,7 @@ use std::process::Abort;
 use std::rt::Clock;
 use std::sync::Arc;
 use std::test::Fail;
+use std::thread::join;
 use std::time::{Duration, Instant};
 use std::{io, thread};
 
@@ -24,6 +26,15 @@ enum Step {
 
 /// Nothing is sent before the link is connected.
 const BEGUN: [Step; 2] = [Step::Send(Err(Failed)), Step::Connect(Ok(()))];
+
+/// A peer that has said a byte is refused.
+const REFUSED: [Step; 5] = [
+    Step::Recv(Ok(1), b'a'),
+    Step::Send(Ok(1)),
+    Step::Send(Ok(1)),
+    Step::Send(Ok(1)),
+    Step::HangUp,
+];
 
 /// A peer says two bytes, and ends.
 const HEARD: [Step; 4] = [
@@ -85,13 +96,15 @@ fn speak<T: Abort, L: Link, S: Read>(rt: &T, link: &mut L, peer: &mut S) -> io::
 }
 
 /// A door at a port of this machine, which can't be opened while another listener has the port.
-fn shut_door<N: Net + Eprint + Clock + Abort + Copy + Drop>(
+fn shut_door<'a, N: Net + Eprint + Clock + Abort + Copy + Drop>(
     rt: N,
     alloc: Global,
-) -> Result<(TcpDoor<N>, u16), Fail> {
+    halt: &'a Halt,
+) -> Result<(TcpDoor<'a, N>, u16), Fail> {
     let free = TcpListener::bind(&rt, "127.0.0.1:0")?;
     let port = free.local_addr()?.port();
-    let mut door = TcpDoor::new(alloc, rt, String::from_str(alloc, "127.0.0.1")?, port);
+    let host = String::from_str(alloc, "127.0.0.1")?;
+    let mut door = TcpDoor::new(alloc, rt, host, port, halt);
     assert!(rt; door.accept().is_err());
     Ok((door, port))
 }
@@ -117,7 +130,7 @@ fn talk<T: Abort, S: Read + Write + OpenStream + Drop, C: Clock + Copy + Drop>(
 fn serve<N: Net + Eprint + Clock + Abort + Copy + Drop>(
     rt: N,
     alloc: Global,
-    door: &mut TcpDoor<N>,
+    door: &mut TcpDoor<'_, N>,
     port: u16,
 ) -> Result<(), Fail> {
     let mut peer = TcpStream::connect(&rt, ("127.0.0.1", port))?;
@@ -132,11 +145,76 @@ fn serve<N: Net + Eprint + Clock + Abort + Copy + Drop>(
 
 #[test]
 fn a_listener_is_a_door(rt: HostRuntime) -> Result<(), Fail> {
-    let (mut door, port) = shut_door(&rt, rt.alloc())?;
+    let halt = Halt::new();
+    let (mut door, port) = shut_door(&rt, rt.alloc(), &halt)?;
     assert_eq!(rt; door.listen(), Ok(()));
     serve(&rt, rt.alloc(), &mut door, port)?;
     assert_eq!(rt; door.faults(), 1);
     Ok(())
+}
+
+#[test]
+fn a_door_that_is_halted_accepts_none(rt: HostRuntime) -> Result<(), Fail> {
+    let halt = Halt::new();
+    let (mut door, _port) = shut_door(&rt, rt.alloc(), &halt)?;
+    halt.raise();
+    assert!(rt; matches!(door.accept(), Ok(None)));
+    Ok(())
+}
+
+/// Raises a halt after 200 milliseconds.
+fn raise_later<C: Clock>(rt: &C, halt: &Halt) {
+    thread::sleep(rt, Duration::from_millis(200));
+    halt.raise();
+}
+
+#[test]
+fn a_halt_ends_the_wait_of_a_door(rt: HostRuntime) -> Result<(), Fail> {
+    let halt = Halt::new();
+    let (mut door, _port) = shut_door(&rt, rt.alloc(), &halt)?;
+    let begun = Instant::now(&rt)?;
+    let ((), accepted) = join(&rt, || raise_later(&rt, &halt), || door.accept());
+    assert!(rt; matches!(accepted, Ok(None)));
+    assert!(rt; begun.elapsed(&rt)? < Duration::from_millis(1_200));
+    Ok(())
+}
+
+/// Connects to a port, says 8 megabytes, and answers whether a reply of three bytes `z` comes then, and the end.
+fn is_answered<N: Net>(rt: &N, port: u16) -> io::Result<bool> {
+    let mut peer = TcpStream::connect(rt, ("127.0.0.1", port))?;
+    for _ in 0..2_000 {
+        peer.write_all(&[b'a'; 4096])?;
+    }
+    let mut reply = [0; 3];
+    peer.read_exact(&mut reply)?;
+    Ok(reply == *b"zzz" && peer.read(&mut reply)? == 0)
+}
+
+/// Refuses the peer of the connection that a door accepts next.
+fn refuse<N: Net + Eprint + Clock + Abort + Copy + Drop>(
+    rt: N,
+    door: &mut TcpDoor<'_, N>,
+) -> Result<(), Fail> {
+    let Ok(Some(mut conn)) = door.accept() else {
+        return Err(Fail::new("a door accepts none"));
+    };
+    play(&rt, &mut conn, &REFUSED);
+    door.finish(conn);
+    Ok(())
+}
+
+#[test]
+fn a_peer_that_is_refused_gets_its_reply_whole(rt: HostRuntime) -> Result<(), Fail> {
+    let halt = Halt::new();
+    let (mut door, port) = shut_door(&rt, rt.alloc(), &halt)?;
+    assert_eq!(rt; door.listen(), Ok(()));
+    let (answered, refused) = join(
+        &rt,
+        || is_answered(&rt, port).unwrap_or(false),
+        || refuse(&rt, &mut door),
+    );
+    assert!(rt; answered);
+    refused
 }
 
 /// A link to a listener at a free port of this machine, whose exchanges may last that many milliseconds.

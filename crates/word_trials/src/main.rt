@@ -1,6 +1,6 @@
-//! What words and lines come to: plans of the command line, requests and answers of a session, lines of keys, and
-//! journals that are merged into and shown. Standard input has the cases, one a line, and standard output each of them
-//! with what came of it below.
+//! What words and lines come to: plans of the command line, words with a token in them, requests and answers of a session,
+//! lines of keys, and journals that are merged into and shown. Standard input has the cases, one a line, and standard output
+//! each of them with what came of it below.
 #![tactic(auto)]
 
 mod answers;
@@ -13,7 +13,7 @@ mod requests;
 
 use crate::answers::push_line_of;
 use crate::journals::{push_journal, push_keys, push_reading};
-use crate::plans::{push_debug_of, push_plan_of};
+use crate::plans::{push_debug_of, push_plan_of, push_token_of};
 use crate::reading::Stop;
 use crate::requests::push_request_of;
 use std::alloc::{AllocError, Global};
@@ -31,6 +31,7 @@ fn push_outcome(
     match subject {
         "plan" => push_plan_of(alloc, arguments, out),
         "plan-debug" => push_debug_of(alloc, arguments, out),
+        "token-file" => push_token_of(alloc, arguments, out),
         "request" => push_request_of(alloc, arguments, out),
         "answer" => push_line_of(alloc, arguments, out),
         "merge-and-show" => push_journal(alloc, arguments, out),

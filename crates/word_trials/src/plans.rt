@@ -2,6 +2,7 @@
 use crate::reading::{Stop, push_digits, push_ended};
 use command_line::{PathText, Plan, ServeOptions, Usage, plan};
 use edge_kit::{Root, push_hex};
+use plan_places::{token_path, with_token, without_line_end};
 use service_url::ServiceUrl;
 use sign_roots::Fork;
 use std::alloc::{AllocError, Global};
@@ -17,12 +18,18 @@ fn with_root(alloc: Global, marked: &str) -> Result<String, AllocError> {
     }
 }
 
-/// The plan of words, the first of which is the program's name. Each word ends at a `|` or with the line.
-fn plan_of(alloc: Global, line: &str) -> Result<Result<Plan, Usage>, AllocError> {
+/// Words, the first of which is the program's name. Each word ends at a `|` or with the line.
+fn words_of(alloc: Global, line: &str) -> Result<Vec<String>, AllocError> {
     let mut words = Vec::new(alloc);
     for word in line.split_terminator('|') {
         words.push(with_root(alloc, word)?)?;
     }
+    Ok(words)
+}
+
+/// The plan of words.
+fn plan_of(alloc: Global, line: &str) -> Result<Result<Plan, Usage>, AllocError> {
+    let words = words_of(alloc, line)?;
     plan(alloc, words.as_slice())
 }
 
@@ -39,6 +46,25 @@ pub(crate) fn push_plan_of(alloc: Global, line: &str, out: &mut String) -> Resul
 pub(crate) fn push_debug_of(alloc: Global, line: &str, out: &mut String) -> Result<(), Stop> {
     let planned = plan_of(alloc, line)?;
     write!(out, "{planned:?}")?;
+    Ok(())
+}
+
+/// Appends the path of the file of the token that words name, and the words with the line `read` of such a file.
+pub(crate) fn push_token_of(alloc: Global, line: &str, out: &mut String) -> Result<(), Stop> {
+    let words = words_of(alloc, line)?;
+    match token_path(words.as_slice()) {
+        Some(path) => writeln!(out, "path {path}")?,
+        None => writeln!(out, "no path")?,
+    }
+    push_words(&with_token(alloc, words, without_line_end("read\r\n"))?, out)?;
+    Ok(())
+}
+
+/// Appends words, each with a `|` behind it.
+fn push_words(words: &[String], out: &mut String) -> Result<(), AllocError> {
+    for word in words {
+        write!(out, "{word}|")?;
+    }
     Ok(())
 }
 
