@@ -31,8 +31,10 @@ impl Heard {
         self.answered.clear();
     }
 
-    // Holds the front of the request, of which this is one piece more. Where memory is wanted it holds less.
+    // Holds the front of the request, of which this is one piece more. Where memory is wanted it holds less. What was
+    // answered before was no answer to all of it, and is forgotten.
     pub(crate) fn ask(&mut self, piece: &[u8]) {
+        self.answered.clear();
         hold(&mut self.asked, piece);
     }
 

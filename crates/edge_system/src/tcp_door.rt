@@ -82,7 +82,8 @@ pub struct TcpDoor<'a, N: Net + Eprint + Clock + Drop> {
 }
 
 /// A connection that was accepted, with a count of its failures. A single read has a limit of time (`READ_SECONDS`), and so
-/// have the whole request and the whole reply (`LIMIT_SECONDS`), the reply's from its first byte on. It was begun by its
+/// have the whole request and the whole reply (`LIMIT_SECONDS`), the reply's from its first byte on; what is read after a
+/// response of status 100 has as long from that one on. It was begun by its
 /// peer, so `connect` begins no other, and fails. `hang_up` says to the peer that nothing further comes, and hears out what
 /// the peer still sends, for `HEARD_OUT_SECONDS` at most, so that the system does not take the reply back. It reports on
 /// standard error a request that changes something and one that is refused: the method, the target, the status and the first
@@ -335,6 +336,9 @@ impl<S: Read + Write + OpenStream + Drop, C: Eprint + Clock + Copy + Drop> Link 
     }
 
     fn recv(&mut self, buf: &mut [u8]) -> Result<usize, Failed> {
+        if let Some(stream) = &mut self.stream {
+            stream.await_reply();
+        }
         let read = recv_over(&mut self.stream, &self.clock, buf);
         if let Ok(count) = &read {
             self.heard.ask(buf.get(..*count).unwrap_or(&[]));

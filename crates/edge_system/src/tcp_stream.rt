@@ -79,6 +79,11 @@ impl<S: Read + Write + OpenStream + Drop> Timed<S> {
         Ok(())
     }
 
+    // Says that what is sent next is another reply, which has a limit of its own.
+    pub(crate) fn await_reply(&mut self) {
+        self.is_begun = false;
+    }
+
     // How long the next read may last.
     fn read_limit<C: Clock>(&self, clock: &C) -> io::Result<Duration> {
         let left = self.span.left(clock)?;
