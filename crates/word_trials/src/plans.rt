@@ -2,7 +2,7 @@
 use crate::reading::{Stop, push_digits, push_ended};
 use command_line::{PathText, Plan, ServeOptions, Usage, plan};
 use edge_kit::{Root, push_hex};
-use plan_places::{token_path, with_token, without_line_end};
+use plan_places::{token_path, with_token};
 use service_url::ServiceUrl;
 use sign_roots::Fork;
 use std::alloc::{AllocError, Global};
@@ -49,15 +49,21 @@ pub(crate) fn push_debug_of(alloc: Global, line: &str, out: &mut String) -> Resu
     Ok(())
 }
 
-/// Appends the path of the file of the token that words name, and the words with the line `read` of such a file.
+/// Appends the path of the file of the token that words name, and the words with the token `read`.
 pub(crate) fn push_token_of(alloc: Global, line: &str, out: &mut String) -> Result<(), Stop> {
     let words = words_of(alloc, line)?;
-    match token_path(words.as_slice()) {
-        Some(path) => writeln!(out, "path {path}")?,
-        None => writeln!(out, "no path")?,
-    }
-    push_words(&with_token(alloc, words, without_line_end("read\r\n"))?, out)?;
+    push_path(token_path(words.as_slice()), out)?;
+    let words = with_token(alloc, words, "read")?;
+    push_words(words.as_slice(), out)?;
     Ok(())
+}
+
+/// Appends a path, or that there is none.
+fn push_path(path: Option<&str>, out: &mut String) -> Result<(), AllocError> {
+    match path {
+        Some(path) => writeln!(out, "path {path}"),
+        None => out.push_str("no path\n"),
+    }
 }
 
 /// Appends words, each with a `|` behind it.
