@@ -110,7 +110,7 @@ fn shut_door<'a, N: Net + Eprint + Clock + Abort + Copy + Drop>(
 }
 
 /// Talks with a peer that has said a byte, over a connection, and ends it. Each call of a twin of it fails.
-fn talk<T: Abort, S: Read + Write + OpenStream + Drop, C: Clock + Copy + Drop>(
+fn talk<T: Abort, S: Read + Write + OpenStream + Drop, C: Eprint + Clock + Copy + Drop>(
     rt: &T,
     alloc: Global,
     conn: &mut TcpConn<S, C>,

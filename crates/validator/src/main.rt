@@ -5,6 +5,7 @@ ghost use Rattle.std.specs.Prelude.{◌≡◌, [], IfOk};
 ghost use Rattle.edge_kit.specs.OnMemDisks.{disk_bytes};
 
 mod announce;
+mod secret_file;
 mod token;
 
 use crate::announce::announce;

@@ -1,6 +1,6 @@
 //! The token of the Keymanager API, where the words name a file that holds it.
 
-use edge_system::SecretFile;
+use crate::secret_file::SecretFile;
 use plan_places::{token_path, with_token, without_line_end};
 use std::alloc::{AllocError, Global};
 use std::fs::{File, Files};
