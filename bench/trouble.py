@@ -198,6 +198,12 @@ def full_disk(name):
         while count < KEYS or os.path.getsize(os.path.join(place, 'journal.a')) < 3950:
             sessions(os.path.join(name, 'journal'), [{'op': 'activate', 'pubkey': key(count)}])
             count += 1
+        try:
+            with open(os.path.join(place, 'rest'), 'wb', buffering=0) as rest:
+                while rest.write(bytes(4096)):
+                    pass
+        except OSError:
+            pass
         genesis = int(time.time()) - 2
         node.set(genesis_time=genesis, blocks={1: 0, 2: 1}, votes={n: 1 for n in range(KEYS)})
         child = serve(os.path.join(name, 'journal'), 1000, 1000)
