@@ -42,7 +42,7 @@ impl<L: Link + Drop> BeaconNode<L> {
         }
     }
 
-    /// Likewise, and it tells each call with its reply, which it keeps: a list that grows with each call.
+    /// A client of the same kind that tells each call with its reply, which it keeps: a list that grows with each call.
     pub fn telling(link: L, url: ServiceUrl) -> Self
         ensures link { result.link ≡ link }
         ensures url { result.url ≡ url }

@@ -11,12 +11,12 @@ abbrev pub Path : {D : Type 0} → (D → ℕ) → (D → ℕ → List ℕ → T
 Path moment leaves faults d [] e = e ≡ d
 Path {D} moment leaves faults d (x ∷ xs) e = (m : Seen D) × IsCallOf moment leaves faults d m x.0 x.1 × Path moment leaves faults m xs e
 
--- the moments of both disks behind each of these calls
+-- the moments of both disks after each of these calls
 abbrev pub moments_behind : {D : Type 0} (moment : D → ℕ) (leaves : D → ℕ → List ℕ → Type 0) (faults : D → ℕ) (d : Seen D) (made : List (DeskCall × DeskReply)) (e : Seen D) → Path moment leaves faults d made e → List Moments
 moments_behind moment leaves faults d [] e path = []
 moments_behind moment leaves faults d (x ∷ xs) e path = now_of moment (disks_in path.0) ∷ moments_behind moment leaves faults path.0 xs e path.2
 
--- a moment of each disk, both within one of these calls or behind the last
+-- a moment of each disk, both within one of these calls or after the last
 abbrev pub IsDuring : {D : Type 0} (moment : D → ℕ) (leaves : D → ℕ → List ℕ → Type 0) (faults : D → ℕ) (d : Seen D) (made : List (DeskCall × DeskReply)) (e : Seen D) → Path moment leaves faults d made e → Moments → Type 0
 IsDuring moment leaves faults d [] e path k = NotAfter (now_of moment (disks_in d)) k × NotAfter k (now_of moment (disks_in e))
 IsDuring moment leaves faults d (x ∷ xs) e path k = (NotAfter (now_of moment (disks_in d)) k × NotAfter k (now_of moment (disks_in path.0))) ⊎ IsDuring moment leaves faults path.0 xs e path.2 k

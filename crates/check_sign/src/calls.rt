@@ -117,7 +117,7 @@ impl<D: Disk> Desk<D> {
         self.call(DeskCall::Keys)
     }
 
-    /// Compacts the journal: writes what is kept behind the next generation into the file that isn't current, and
+    /// Compacts the journal: writes what is kept after the next generation into the file that isn't current, and
     /// makes it current. Tells the sizes in bytes of the file that was current and of the one that is now. At each
     /// moment a stop leaves what is kept. Refused by `Disk` where the disk failed, by `LastGeneration` exactly where
     /// the current file has the generation 2^64 - 1, and by `OutOfMemory`, `Full` with a size of 0 exactly where the

@@ -27,7 +27,7 @@ use std::alloc::{AllocError, Global};
 use std::collections::BTreeMap;
 
 impl<D: Disk> Desk<D> {
-    /// Writes what is kept behind the next generation into the file that isn't current, and makes it current.
+    /// Writes what is kept after the next generation into the file that isn't current, and makes it current.
     pub(crate) fn compact_journal(&mut self) -> DeskReply
         ensures machine { IsStep self.old.contents (DeskCall.Compact) result self.new.contents }
         ensures counted { Counted self.old.contents (DeskCall.Compact) result self.new.contents }

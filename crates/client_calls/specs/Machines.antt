@@ -12,7 +12,7 @@ abbrev pub CanMake : State → List (DeskCall × DeskReply) → Type 0
 CanMake state [] = Unit {0}
 CanMake state (x ∷ made) = Reply state x.0 x.1 × CanMake (after state x.0 x.1) made
 
--- the state behind them
+-- the state after them
 abbrev pub state_after : State → List (DeskCall × DeskReply) → State
 state_after state [] = state
 state_after state (x ∷ made) = state_after (after state x.0 x.1) made

@@ -6,7 +6,7 @@ use Rattle.protect_record.proofs.MemberLemmas.{contains_cases, contains_none}
 use Rattle.desk_lock.specs.declared.types.Entry.{Entry}
 use Rattle.desk_lock.specs.Histories.{entry, own, Legal}
 
--- what stands before a member of a list and behind it
+-- what stands before a member of a list and after it
 pub record Splits {X : Type 0} (xs : List X) (x : X) : Type 0 where
   pub front : List X
   pub behind : List X
@@ -20,7 +20,7 @@ splits {X} (y ∷ ys) x has = ⊎_elim
     (contains_cases y ys x has)
 
 module _ {C R : Type 0} where
-  -- the turn of a pass's call, where its own calls are those before it, the call, and those behind
+  -- the turn of a pass's call, where its own calls are those before it, the call, and those after
   pub record Place (by : ℕ) (log : List (Entry C R)) (xs : List (C × R)) (c : C) (r : R) (ys : List (C × R)) : Type 0 where
     pub before : List (Entry C R)
     pub later : List (Entry C R)
@@ -34,7 +34,7 @@ module _ {C R : Type 0} where
   own_other : (by : ℕ) (e : Entry C R) (es : List (Entry C R)) → e.by ≢ by → own by (e ∷ es) ≡ own by es
   own_other by e es other = ap (λ (b : Bool). cond b ((e.call, e.reply) ∷ own by es) (own by es)) (ne_eqb e.by by other)
 
-  -- by the first turn, or by one behind it
+  -- by the first turn, or by one after it
   place_first : (by : ℕ) (e : Entry C R) (es : List (Entry C R)) (xs : List (C × R)) (c : C) (r : R) (ys : List (C × R)) → e.by ≡ by
       → ((us : List (C × R)) → own by es ≡ us ++ (c, r) ∷ ys → Place by es us c r ys) → (e.call, e.reply) ∷ own by es ≡ xs ++ (c, r) ∷ ys → Place by (e ∷ es) xs c r ys
   place_first by e es [] c r ys same more is =
@@ -75,7 +75,7 @@ module _ {C R : Type 0} where
       })
 
 module _ {S C R : Type 0} (steps : S → C → R → S → Type 0) (may : List (C × R) → C → Type 0) where
-  -- a turn of a legal history: the turns before it led here, and those behind it lead on from next
+  -- a turn of a legal history: the turns before it led here, and those after it lead on from next
   pub record Turn (before : List (Entry C R)) (s : S) (front : List (Entry C R)) (e : Entry C R) (behind : List (Entry C R)) (t : S) : Type 0 where
     pub here : S
     pub next : S
@@ -106,7 +106,7 @@ module _ {S C R : Type 0} (steps : S → C → R → S → Type 0) (may : List (
         rest = subst (λ (x : List (Entry C R)). Legal steps may (x ++ e ∷ []) more.next behind t) same more.rest;
       }
 
-  -- one legal history behind another
+  -- one legal history after another
   pub legal_joined : (before : List (Entry C R)) (s : S) (xs ys : List (Entry C R)) (m t : S)
       → Legal steps may before s xs m → Legal steps may (before ++ xs) m ys t → Legal steps may before s (xs ++ ys) t
   legal_joined before s [] ys m t a b = subst (λ (x : List (Entry C R) × S). Legal steps may x.0 x.1 ys t) (λ i. (append-nil before i, a i)) b

@@ -90,7 +90,7 @@ idle_at grants key turn closes idle = subst (λ (x : DeskCall × DeskReply). IsI
 
 -- ---- the calls of a pass
 
--- a grant of an earlier number that is in hand behind a turn was in hand before it
+-- a grant of an earlier number that is in hand after a turn was in hand before it
 in_hand_push : (k : ℕ) (before : History) (turn : Entry DeskCall DeskReply) (next : ℕ) (g : OpenGrant) → IsNumbered next turn.call turn.reply → g.number < next
     → Contains (hand k (before ++ turn ∷ [])) g → Contains (hand k before) g
 in_hand_push k before turn next g is low has = dite (ℕ_discrete turn.by k)
@@ -125,7 +125,7 @@ module _ {D : Type 0} (moment : D → ℕ) (leaves : D → ℕ → List ℕ → 
       let more : l.0.contents.next ≤ t.contents.next = next_later (before ++ e ∷ []) l.0 es t l.3 in
       omega (arith, next, one, more)
 
-  -- a grant of an earlier number that is in hand behind these turns was in hand before them
+  -- a grant of an earlier number that is in hand after these turns was in hand before them
   in_hand_earlier : (k : ℕ) (g : OpenGrant) (before : History) (s : Seen D) (turns : History) (t : Seen D) → Leads before s turns t → g.number < s.contents.next
       → Contains (hand k (before ++ turns)) g → Contains (hand k before) g
   in_hand_earlier k g before s [] t l low has = subst (λ (x : History). Contains (hand k x) g) (append-nil before) has
@@ -139,7 +139,7 @@ module _ {D : Type 0} (moment : D → ℕ) (leaves : D → ℕ → List ℕ → 
   open_at : (opened : Seen D) (turns : History) (s : Seen D) (k : ℕ) (g : OpenGrant) → Leads [] opened turns s → Contains (hand k turns) g → Contains s.contents.grants g
   open_at opened turns s k g l has = admitted moment leaves faults opened s turns k (call.Settle g outcome.Sent) l has
 
-  -- a key is not closed by turns behind which a grant of it is in hand that was given before them
+  -- a key is not closed by turns after which a grant of it is in hand that was given before them
   stays_unclosed : (opened : Seen D) (before : History) (s : Seen D) (turns : History) (t : Seen D) (k : ℕ) (g : OpenGrant) → Leads [] opened before s → Leads before s turns t
       → g.number < s.contents.next → Contains (hand k (before ++ turns)) g → NoneCloses g.key turns
   stays_unclosed opened before s turns t k g begun led low has e in_turns closes =

@@ -38,6 +38,6 @@ pub record Spans (log : History) (k : ℕ) (grant : OpenGrant) (outcome : Outcom
   pub granted : IsGrantFor asked (reply.Granted grant)
   pub unclosed : NoneCloses grant.key between
 
--- behind these turns no pass has a grant of this key in hand: each that it was given it has settled
+-- after these turns no pass has a grant of this key in hand: each that it was given it has settled
 abbrev pub NoneInHand : History → PubKey → Type 0
 NoneInHand turns key = (k : ℕ) (grant : OpenGrant) → grant.key ≡ key → Contains (given [] (own k turns)) grant → ⊥

@@ -11,7 +11,7 @@ use Rattle.call_plans.specs.Plans.{Done}
 use Rattle.call_plans.specs.Paths.{Carries, Comes}
 use Rattle.call_plans.proofs.PathLemmas.{comes_none, comes_on, comes_run, comes_end}
 use Rattle.duty_turns.specs.Standing.{Standing, indices_of, with_indices}
-use Rattle.duty_turns.specs.Turns.{PartPlan, by_32, index_plan, on_standing, renewing_plan, then_on}
+use Rattle.duty_turns.specs.Turns.{PartPlan, ask_plan, by_32, index_plan, on_standing, then_on, to_renew}
 use Rattle.duty_turns.specs.TurnSteps.{Fits}
 use Rattle.duty_asks.specs.Found.{with_index}
 use Rattle.duty_asks.specs.Quiet.{Outside, Parts, QuietDoes, done_value, stop_value}
@@ -59,7 +59,7 @@ next_of (suc less) (k ∷ keys) h l = record { less = less; enough = omega (arit
 
 module _ (P Q : Standing → Type 0) (plan : PartPlan) (a b c : Outside) (left asked rest : List PubKey) where
   at_next : (w : Asking P plan a b left) (h : 0 < length left) → asked ≡ take (min (length left) 32) left
-      → Comes Fits QuietDoes plan (then_on (renewing_plan (ask.Validators asked) with_indices w.after) (index_plan (by_32 (next_of w.room left h w.enough).less (drop 32 left)))) a b
+      → Comes Fits QuietDoes plan (then_on (ask_plan (ask.Validators asked) with_indices (to_renew w.after) w.after) (index_plan (by_32 (next_of w.room left h w.enough).less (drop 32 left)))) a b
   at_next w h is =
       let n = next_of w.room left h w.enough in
       let same : take 32 left ≡ asked = sym (take_least 32 left) ∙ sym is in
@@ -67,26 +67,26 @@ module _ (P Q : Standing → Type 0) (plan : PartPlan) (a b c : Outside) (left a
       (subst (λ (l : List (List PubKey)). Comes Fits QuietDoes plan (index_plan l w.after) a b) n.is w.comes)
 
   pub asking_next : (result : Result (Unit {0}) Stop) → result ≡ Ok tt → (length left == 0) ≡ false → asked ≡ take (min (length left) 32) left → rest ≡ drop (min (length left) 32) left → (w : Asking P plan a b left)
-      → Parts Q (renewing_plan (ask.Validators asked) with_indices w.after) b c result → Asking Q plan a c rest
+      → Parts Q (ask_plan (ask.Validators asked) with_indices (to_renew w.after) w.after) b c result → Asking Q plan a c rest
   asking_next result e some is other w part =
       let h = some_left left some in
       let n = next_of w.room left h w.enough in
       let same : drop 32 left ≡ rest = sym (drop_least 32 left) ∙ sym other in
-      let run = subst (λ (r : Result (Unit {0}) Stop). Carries Fits QuietDoes (renewing_plan (ask.Validators asked) with_indices w.after) b c (done_value part.after r)) e part.runs in
+      let run = subst (λ (r : Result (Unit {0}) Stop). Carries Fits QuietDoes (ask_plan (ask.Validators asked) with_indices (to_renew w.after) w.after) b c (done_value part.after r)) e part.runs in
       subst (λ (l : List PubKey). Asking Q plan a c l) same (record {
         after = part.after;
         held = subst (λ (r : Result (Unit {0}) Stop). OnOk r (Q part.after)) e part.held;
         room = n.less;
         enough = n.enough;
-        comes = comes_on Fits QuietDoes a b c plan (renewing_plan (ask.Validators asked) with_indices w.after) (on_standing (index_plan (by_32 n.less (drop 32 left)))) (Some part.after) (at_next w h is) run;
+        comes = comes_on Fits QuietDoes a b c plan (ask_plan (ask.Validators asked) with_indices (to_renew w.after) w.after) (on_standing (index_plan (by_32 n.less (drop 32 left)))) (Some part.after) (at_next w h is) run;
       })
 
   pub asking_stop : (why : Stop) (result : Result (Unit {0}) Stop) → result ≡ Err why → (length left == 0) ≡ false → asked ≡ take (min (length left) 32) left → (w : Asking P plan a b left)
-      → Parts Q (renewing_plan (ask.Validators asked) with_indices w.after) b c result → Parts Q plan a c (Err why)
+      → Parts Q (ask_plan (ask.Validators asked) with_indices (to_renew w.after) w.after) b c result → Parts Q plan a c (Err why)
   asking_stop why result e some is w part =
       let h = some_left left some in
       let n = next_of w.room left h w.enough in
-      let p : PartPlan = renewing_plan (ask.Validators asked) with_indices w.after in
+      let p : PartPlan = ask_plan (ask.Validators asked) with_indices (to_renew w.after) w.after in
       let next : Standing → PartPlan = index_plan (by_32 n.less (drop 32 left)) in
       let run = subst (λ (r : Result (Unit {0}) Stop). Carries Fits QuietDoes p b c (done_value part.after r)) e part.runs in
       record { after = part.after; held = tt; runs = comes_run Fits QuietDoes a b c plan (then_on p next) (stop_value why) (at_next w h is) (stopped_runs p next b c why run) }

@@ -21,9 +21,9 @@ use Rattle.duty_plans.specs.Seats.{AreTriedIn}
 use Rattle.duty_plans.specs.Steps.{Tried, Asks, Answered, came_of}
 use Rattle.duty_turns.specs.Lines.{none_line}
 use Rattle.duty_turns.specs.Standing.{Standing, with_attesters}
-use Rattle.duty_turns.specs.Turns.{PartPlan, answered_plan, ask_plan, asks, attesters_plan, on_standing, renewing_answered, renewing_plan, then_on, to_renew, writes}
+use Rattle.duty_turns.specs.Turns.{PartPlan, answered_plan, ask_plan, asks, attesters_plan, on_standing, then_on, writes}
 use Rattle.duty_turns.specs.TurnSteps.{Fits, HasTaken, Own, Owned, SinkSeen, Writes, Wrote}
-use Rattle.duty_asks.specs.Quiet.{CameFit, CameSo, Outside, Parts, QuietDoes, TellsNone, Took, TookToRenew, WritesText, done_value, outside, part_value, renewing_value, stop_value}
+use Rattle.duty_asks.specs.Quiet.{CameFit, CameSo, Outside, Parts, QuietDoes, TellsNone, Took, WritesText, done_value, outside, part_value, stop_value}
 use Rattle.duty_asks.specs.declared.ask.Asked.{Asked}
 use Rattle.duty_asks.specs.declared.ask.Asked.TheVariants as asked
 use Rattle.duty_asks.specs.declared.ask.Stop.{Stop}
@@ -85,29 +85,19 @@ pub came_at : (q r : Ask) (k : Result Answer NoAnswer → PartPlan) (s : Standin
 came_at q r k s a b came e c = subst (λ (x : Ask). CameSo x k s a b came) e c
 
 -- an answer that is taken in
-pub tells_none : (take_in : Answer → Standing → Standing) (s : Standing) → TellsNone (answered_plan take_in s) s
-tells_none take_in s = λ causes. refl
-
--- one that is asked once more where no node answered
-pub tells_to_renew : (take_in : Answer → Standing → Standing) (s : Standing) → TellsNone (renewing_answered take_in s) (to_renew s)
-tells_to_renew take_in s = λ causes. refl
+pub tells_none : (take_in : Answer → Standing → Standing) (without s : Standing) → s.slot ≡ without.slot → TellsNone (answered_plan take_in without s) without
+tells_none take_in without s e = λ causes. ap (λ (n : ℕ). writes (none_line n) (Done (Some without))) e
 
 pub came_fit : (q : Ask) (k : Result Answer NoAnswer → PartPlan) (s : Standing) (a b : Outside) (came : Asked) → CameSo q k s a b came → CameFit q came
 came_fit q k s a b (asked.Given x) c = c.0
 came_fit q k s a b asked.Nothing c = tt
 came_fit q k s a b (asked.Stopped why) c = tt
 
-came_value : (q : Ask) (take_in : Answer → Standing → Standing) (s : Standing) (a b : Outside) (came : Asked) → CameSo q (answered_plan take_in s) s a b came
-    → Carries Fits QuietDoes (ask_plan q take_in s) a b (part_value take_in s came)
-came_value q take_in s a b (asked.Given x) c = comes_end Fits QuietDoes a b (ask_plan q take_in s) (Done (Some (take_in x s))) (Some (Some (take_in x s))) c.1 refl
-came_value q take_in s a b asked.Nothing c = c
-came_value q take_in s a b (asked.Stopped why) c = c
-
-came_to_renew : (q : Ask) (take_in : Answer → Standing → Standing) (s : Standing) (a b : Outside) (came : Asked) → CameSo q (renewing_answered take_in s) (to_renew s) a b came
-    → Carries Fits QuietDoes (renewing_plan q take_in s) a b (renewing_value take_in s came)
-came_to_renew q take_in s a b (asked.Given x) c = comes_end Fits QuietDoes a b (renewing_plan q take_in s) (Done (Some (take_in x s))) (Some (Some (take_in x s))) c.1 refl
-came_to_renew q take_in s a b asked.Nothing c = c
-came_to_renew q take_in s a b (asked.Stopped why) c = c
+came_value : (q : Ask) (take_in : Answer → Standing → Standing) (without s : Standing) (a b : Outside) (came : Asked) → CameSo q (answered_plan take_in without s) without a b came
+    → Carries Fits QuietDoes (ask_plan q take_in without s) a b (part_value take_in without s came)
+came_value q take_in without s a b (asked.Given x) c = comes_end Fits QuietDoes a b (ask_plan q take_in without s) (Done (Some (take_in x s))) (Some (Some (take_in x s))) c.1 refl
+came_value q take_in without s a b asked.Nothing c = c
+came_value q take_in without s a b (asked.Stopped why) c = c
 
 -- ---- a text
 
@@ -135,12 +125,12 @@ tells_so ns o p s slot text result so at is e w =
 -- ---- parts of a turn
 
 -- a question was asked, and what came of it was taken in
-pub parts_asked : (P : Standing → Type 0) (q : Ask) (take_in : Answer → Standing → Standing) (s : Standing) (a b : Outside) (came : Asked) (result : Result (Unit {0}) Stop)
-    → CameSo q (answered_plan take_in s) s a b came → Took take_in s P came result → Parts P (ask_plan q take_in s) a b result
-parts_asked P q take_in s a b came result c t = record {
+pub parts_asked : (P : Standing → Type 0) (q : Ask) (take_in : Answer → Standing → Standing) (without s : Standing) (a b : Outside) (came : Asked) (result : Result (Unit {0}) Stop)
+    → CameSo q (answered_plan take_in without s) without a b came → Took take_in without s P came result → Parts P (ask_plan q take_in without s) a b result
+parts_asked P q take_in without s a b came result c t = record {
   after = t.after;
   held = t.held;
-  runs = subst (λ (v : Option (Option Standing)). Carries Fits QuietDoes (ask_plan q take_in s) a b v) t.value (came_value q take_in s a b came c);
+  runs = subst (λ (v : Option (Option Standing)). Carries Fits QuietDoes (ask_plan q take_in without s) a b v) t.value (came_value q take_in without s a b came c);
 }
 
 follows_none : {C R X : Type 0} (fit : C → R → Type 0) (plan : Plan C R X) (steps : List (C × R)) (v : Option X) → Follows fit plan steps v → Follows fit plan steps None
@@ -151,24 +141,15 @@ follows_none fit Cut (s ∷ steps) v f = absurd f
 follows_none fit (Step c k) [] v f = tt
 follows_none fit (Step c k) (s ∷ steps) v f = (f.0, f.1, follows_none fit (k s.1) steps v f.2)
 
--- the same of one that is asked once more where no node answered
-pub parts_renewed : (P : Standing → Type 0) (q : Ask) (take_in : Answer → Standing → Standing) (s : Standing) (a b : Outside) (came : Asked) (result : Result (Unit {0}) Stop)
-    → CameSo q (renewing_answered take_in s) (to_renew s) a b came → TookToRenew take_in s P came result → Parts P (renewing_plan q take_in s) a b result
-parts_renewed P q take_in s a b came result c t = record {
-  after = t.after;
-  held = t.held;
-  runs = subst (λ (v : Option (Option Standing)). Carries Fits QuietDoes (renewing_plan q take_in s) a b v) t.value (came_to_renew q take_in s a b came c);
-}
-
 -- or memory ran out while it was taken in
-pub parts_renewed_or_cut : (P : Standing → Type 0) (q : Ask) (take_in : Answer → Standing → Standing) (s : Standing) (a b : Outside) (came : Asked) (result : Result (Unit {0}) Stop)
-    → CameSo q (renewing_answered take_in s) (to_renew s) a b came → (result ≡ Err stop.OutOfMemory) ⊎ TookToRenew take_in s P came result → Parts P (renewing_plan q take_in s) a b result
-parts_renewed_or_cut P q take_in s a b came result c x =
-    let run = came_to_renew q take_in s a b came c in
+pub parts_asked_or_cut : (P : Standing → Type 0) (q : Ask) (take_in : Answer → Standing → Standing) (without s : Standing) (a b : Outside) (came : Asked) (result : Result (Unit {0}) Stop)
+    → CameSo q (answered_plan take_in without s) without a b came → (result ≡ Err stop.OutOfMemory) ⊎ Took take_in without s P came result → Parts P (ask_plan q take_in without s) a b result
+parts_asked_or_cut P q take_in without s a b came result c x =
+    let run = came_value q take_in without s a b came c in
     ⊎_elim
-    (λ e. subst (λ (r : Result (Unit {0}) Stop). Parts P (renewing_plan q take_in s) a b r) (sym e)
-    (record { after = s; held = tt; runs = record { steps = run.steps; path = run.path; follows = follows_none Fits (renewing_plan q take_in s) run.steps (renewing_value take_in s came) run.follows } }))
-    (λ t. parts_renewed P q take_in s a b came result c t) x
+    (λ e. subst (λ (r : Result (Unit {0}) Stop). Parts P (ask_plan q take_in without s) a b r) (sym e)
+    (record { after = s; held = tt; runs = record { steps = run.steps; path = run.path; follows = follows_none Fits (ask_plan q take_in without s) run.steps (part_value take_in without s came) run.follows } }))
+    (λ t. parts_asked P q take_in without s a b came result c t) x
 
 -- nothing is done, or memory ran out before anything
 pub parts_none : (P : Standing → Type 0) (s : Standing) (a : Outside) → P s → Parts P (Done (Some s)) a a (Ok tt)
@@ -207,6 +188,6 @@ parts_at P plan a b result m n e p = subst (λ (k : ℕ). Parts P (plan k) a b r
 
 -- where some index is held, attesters are asked for
 pub attesters_asked : (P : Standing → Type 0) (epoch : ℕ) (indices : List ℕ) (s : Standing) (a b : Outside) (result : Result (Unit {0}) Stop) → (length indices == 0) ≡ false
-    → Parts P (ask_plan (ask.Attester epoch indices) (with_attesters epoch indices) s) a b result → Parts P (attesters_plan epoch indices s) a b result
+    → Parts P (ask_plan (ask.Attester epoch indices) (with_attesters epoch indices) s s) a b result → Parts P (attesters_plan epoch indices s) a b result
 attesters_asked P epoch [] s a b result h p = absurd cc
 attesters_asked P epoch (i ∷ indices) s a b result h p = p

@@ -14,7 +14,7 @@ use Rattle.duty_plans.specs.Seats.{NodesDo}
 use Rattle.duty_plans.specs.Steps.{Asks}
 use Rattle.duty_turns.specs.Standing.{Standing}
 use Rattle.duty_turns.specs.Lines.{none_line}
-use Rattle.duty_turns.specs.Turns.{PartPlan, asks, to_renew, writes}
+use Rattle.duty_turns.specs.Turns.{PartPlan, asks, writes}
 use Rattle.duty_turns.specs.TurnSteps.{Fits, HasTaken, IsPiece, Own, Owned, SinkSeen, TurnStep, Writes, Wrote}
 use Rattle.duty_asks.specs.declared.ask.Asked.{Asked}
 use Rattle.duty_asks.specs.declared.ask.Asked.TheVariants as asked
@@ -39,11 +39,11 @@ abbrev pub stop_value : Stop → Option (Option Standing)
 stop_value stop.Write = Some None
 stop_value stop.OutOfMemory = None
 
--- what it gives where an answer is taken in so
-abbrev pub part_value : (Answer → Standing → Standing) → Standing → Asked → Option (Option Standing)
-part_value take_in s (asked.Given a) = Some (Some (take_in a s))
-part_value take_in s asked.Nothing = Some (Some s)
-part_value take_in s (asked.Stopped why) = stop_value why
+-- what it gives where an answer is taken in so; where no node gave one, the first of these two stands
+abbrev pub part_value : (Answer → Standing → Standing) → Standing → Standing → Asked → Option (Option Standing)
+part_value take_in without s (asked.Given a) = Some (Some (take_in a s))
+part_value take_in without s asked.Nothing = Some (Some without)
+part_value take_in without s (asked.Stopped why) = stop_value why
 
 abbrev pub done_value : Standing → Result (Unit {0}) Stop → Option (Option Standing)
 done_value s (Ok done) = Some (Some s)
@@ -65,21 +65,10 @@ CameFit q (asked.Given answer) = fits q answer ≡ true
 CameFit q came = Unit {0}
 
 -- what came of a question was taken in: this stands then
-pub record Took (take_in : Answer → Standing → Standing) (s : Standing) (Holds : Standing → Type 0) (came : Asked) (result : Result (Unit {0}) Stop) : Type 0 where
+pub record Took (take_in : Answer → Standing → Standing) (without s : Standing) (Holds : Standing → Type 0) (came : Asked) (result : Result (Unit {0}) Stop) : Type 0 where
   pub after : Standing
   pub held : OnOk result (Holds after)
-  pub value : part_value take_in s came ≡ done_value after result
-
--- the same where a question that had no answer is asked once more at the next turn
-abbrev pub renewing_value : (Answer → Standing → Standing) → Standing → Asked → Option (Option Standing)
-renewing_value take_in s (asked.Given a) = Some (Some (take_in a s))
-renewing_value take_in s asked.Nothing = Some (Some (to_renew s))
-renewing_value take_in s (asked.Stopped why) = stop_value why
-
-pub record TookToRenew (take_in : Answer → Standing → Standing) (s : Standing) (Holds : Standing → Type 0) (came : Asked) (result : Result (Unit {0}) Stop) : Type 0 where
-  pub after : Standing
-  pub held : OnOk result (Holds after)
-  pub value : renewing_value take_in s came ≡ done_value after result
+  pub value : part_value take_in without s came ≡ done_value after result
 
 -- a part of a turn was carried out: this stands then
 pub record Parts (Holds : Standing → Type 0) (plan : PartPlan) (a b : Outside) (result : Result (Unit {0}) Stop) : Type 0 where

@@ -3,7 +3,7 @@ ghost use Rattle.std.specs.Prelude.{◌≡◌, [], IfOk};
 ghost use Rattle.duty_plans.specs.Seats.{nodes_seen};
 ghost use Rattle.duty_turns.specs.Standing.{IsHeld, Standing, with_attesters, with_fork, with_proposers};
 ghost use Rattle.duty_turns.specs.Times.{epoch_of};
-ghost use Rattle.duty_turns.specs.Turns.{ask_plan, attesters_plan, duties_plan, renew_plan, renewed_plan, renewing_plan, renews, same_keys, then_on, voters_plan};
+ghost use Rattle.duty_turns.specs.Turns.{ask_plan, attesters_plan, duties_plan, renew_plan, renewed_plan, renews, same_keys, then_on, to_renew, voters_plan};
 ghost use Rattle.duty_turns.specs.TurnSteps.{sink_seen};
 ghost use Rattle.duty_asks.specs.Placed.{HoldsPlaced};
 ghost use Rattle.duty_asks.specs.Quiet.{Parts, outside};
@@ -94,7 +94,7 @@ fn ask_fork<N: Node + Drop, O: Sink>(
     nodes: &mut Nodes<N>,
     out: &mut O,
 ) -> Result<(), Stop>
-    ensures { (s : Standing) → HoldsPlaced held.old s → Parts (HoldsPlaced held.new) (renewing_plan question.Fork with_fork s)
+    ensures { (s : Standing) → HoldsPlaced held.old s → Parts (HoldsPlaced held.new) (ask_plan question.Fork with_fork (to_renew s) s)
         (outside (nodes_seen N.told N.faults nodes.old) (sink_seen O.held O.faults out.old))
         (outside (nodes_seen N.told N.faults nodes.new) (sink_seen O.held O.faults out.new)) result }
 {
@@ -126,7 +126,7 @@ fn ask_proposers<N: Node + Drop, O: Sink>(
     nodes: &mut Nodes<N>,
     out: &mut O,
 ) -> Result<(), Stop>
-    ensures { (s : Standing) → HoldsPlaced held.old s → Parts (HoldsPlaced held.new) (ask_plan (question.Proposer (epoch_of s.slot)) (with_proposers (epoch_of s.slot)) s)
+    ensures { (s : Standing) → HoldsPlaced held.old s → Parts (HoldsPlaced held.new) (ask_plan (question.Proposer (epoch_of s.slot)) (with_proposers (epoch_of s.slot)) s s)
         (outside (nodes_seen N.told N.faults nodes.old) (sink_seen O.held O.faults out.old))
         (outside (nodes_seen N.told N.faults nodes.new) (sink_seen O.held O.faults out.new)) result }
 {

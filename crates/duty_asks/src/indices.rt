@@ -3,7 +3,7 @@ ghost use Rattle.std.specs.Prelude.{◌≡◌, IfOk, OnOk, length};
 ghost use Rattle.record_join.specs.Keys.{kept_of};
 ghost use Rattle.duty_plans.specs.Seats.{nodes_seen};
 ghost use Rattle.duty_turns.specs.Standing.{Standing, indices_of, with_indices};
-ghost use Rattle.duty_turns.specs.Turns.{by_32, index_plan, renewing_plan};
+ghost use Rattle.duty_turns.specs.Turns.{ask_plan, by_32, index_plan, to_renew};
 ghost use Rattle.duty_turns.specs.TurnSteps.{sink_seen};
 ghost use Rattle.duty_asks.specs.Found.{with_index};
 ghost use Rattle.duty_asks.specs.Placed.{HoldsPlaced};
@@ -39,7 +39,7 @@ pub fn indices_of(
     Ok(Items::from_vec(found))
 }
 
-/// Puts an index, if there is one, behind others. The error is want of memory.
+/// Puts an index, if there is one, after others. The error is want of memory.
 fn push_index(found: &mut Vec<u64>, index: Option<u64>) -> Result<(), AllocError>
     ensures { OnOk result (found.new.items ≡ with_index found.old.items index) }
 {
@@ -87,7 +87,7 @@ fn ask_some<N: Node + Drop, O: Sink>(
     nodes: &mut Nodes<N>,
     out: &mut O,
 ) -> Result<(), Stop>
-    ensures { (s : Standing) → HoldsPlaced held.old s → Parts (HoldsPlaced held.new) (renewing_plan (Validators keys.now) with_indices s)
+    ensures { (s : Standing) → HoldsPlaced held.old s → Parts (HoldsPlaced held.new) (ask_plan (Validators keys.now) with_indices (to_renew s) s)
         (outside (nodes_seen N.told N.faults nodes.old) (sink_seen O.held O.faults out.old))
         (outside (nodes_seen N.told N.faults nodes.new) (sink_seen O.held O.faults out.new)) result }
 {

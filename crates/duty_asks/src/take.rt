@@ -1,8 +1,9 @@
 //! What an answer makes of what is held.
 ghost use Rattle.std.specs.Prelude.{◌≡◌, ◌⊎◌, true, Err, OnOk, OnErr};
 ghost use Rattle.duty_turns.specs.Standing.{Standing, with_attesters, with_fork, with_indices, with_proposers, with_rows};
+ghost use Rattle.duty_turns.specs.Turns.{to_renew};
 ghost use Rattle.duty_asks.specs.Placed.{HoldsPlaced};
-ghost use Rattle.duty_asks.specs.Quiet.{CameFit, Took, TookToRenew};
+ghost use Rattle.duty_asks.specs.Quiet.{CameFit, Took};
 ghost use Rattle.node_calls.specs.Fitting.{fits};
 ghost use Rattle.node_calls.specs.declared.ask.Ask.TheVariants as question;
 
@@ -16,7 +17,7 @@ use std::collections::BTreeMap;
 
 /// Takes the fork. Where no node answered, it is asked for once more at the next turn.
 pub(crate) fn take_fork(held: &mut Held, asked: Asked) -> Result<(), Stop>
-    ensures { (s : Standing) → HoldsPlaced held.old s → TookToRenew with_fork s (HoldsPlaced held.new) asked result }
+    ensures { (s : Standing) → HoldsPlaced held.old s → Took with_fork (to_renew s) s (HoldsPlaced held.new) asked result }
 {
     match asked {
         Asked::Given(answer) => {
@@ -43,7 +44,7 @@ fn set_fork(held: &mut Held, answer: Answer)
 /// Takes the indices of keys. Where no node answered, all are asked for once more at the next turn. Memory may run out
 /// meanwhile.
 pub(crate) fn take_indices(held: &mut Held, asked: Asked) -> Result<(), Stop>
-    ensures { (s : Standing) → HoldsPlaced held.old s → (result ≡ Err Stop.OutOfMemory) ⊎ TookToRenew with_indices s (HoldsPlaced held.new) asked result }
+    ensures { (s : Standing) → HoldsPlaced held.old s → (result ≡ Err Stop.OutOfMemory) ⊎ Took with_indices (to_renew s) s (HoldsPlaced held.new) asked result }
 {
     match asked {
         Asked::Given(answer) => set_indices(held, answer),
@@ -87,7 +88,7 @@ pub(crate) fn take_proposers(
     epoch: u64,
     asked: Asked,
 ) -> Result<(), Stop>
-    ensures { (s : Standing) → HoldsPlaced held.old s → Took (with_proposers epoch) s (HoldsPlaced held.new) asked result }
+    ensures { (s : Standing) → HoldsPlaced held.old s → Took (with_proposers epoch) s s (HoldsPlaced held.new) asked result }
 {
     match asked {
         Asked::Given(answer) => {
@@ -121,7 +122,7 @@ pub(crate) fn take_attesters(
     indices: Items<u64>,
     asked: Asked,
 ) -> Result<(), Stop>
-    ensures { (s : Standing) → HoldsPlaced held.old s → CameFit (question.Attester epoch indices) asked → Took (with_attesters epoch indices) s (HoldsPlaced held.new) asked result }
+    ensures { (s : Standing) → HoldsPlaced held.old s → CameFit (question.Attester epoch indices) asked → Took (with_attesters epoch indices) s s (HoldsPlaced held.new) asked result }
 {
     match asked {
         Asked::Given(answer) => {

@@ -33,7 +33,7 @@ use Rattle.duty_asks.specs.declared.ask.Stop.TheVariants as stop
 use Rattle.duty_plans.specs.Hands.{Free, hand_given}
 use Rattle.duty_plans.specs.Seats.{Seat}
 use Rattle.duty_work.specs.Houses.{house}
-use Rattle.duty_loop.specs.Missing.{is_missed, missing_from}
+use Rattle.duty_loop.specs.Missing.{some_misses, missing_from}
 use Rattle.duty_loop.proofs.MissingLemmas.{missing_all, missing_here, missing_skip}
 use Rattle.duty_loop.specs.Noting.{IsNoted, NotedOn, NotedSo, noted_by}
 use Rattle.duty_work.proofs.HouseLemmas.{comes_more, quiet_comes, quiet_runs, turn_calls, turn_comes}
@@ -173,13 +173,13 @@ module _ {K : Type 0} (leads : Leads K) (none : NoneLed leads) (start : Option �
   pub unwatched : (watches : Bool) (listed : List (PubKey × KeyStanding)) (s : Standing) (a : House K) → watches ≡ false → Carries Fits (Does leads start) (watch_plan watches listed s) a a (Some (Some s))
   unwatched watches listed s a off = subst (λ (t : Bool). Carries Fits (Does leads start) (watch_plan t listed s) a a (Some (Some s))) (sym off) (carries_end Fits (Does leads start) (Done (Some s)) a (Some (Some s)) refl)
 
-  pub epochs_begun : (now first : ℕ) (listed : List (PubKey × KeyStanding)) (s : Standing) (a : House K) → first ≤ now → ((epoch : ℕ) → 0 ≤ epoch → epoch < first → is_missed epoch listed ≡ false)
+  pub epochs_begun : (now first : ℕ) (listed : List (PubKey × KeyStanding)) (s : Standing) (a : House K) → first ≤ now → ((epoch : ℕ) → 0 ≤ epoch → epoch < first → some_misses epoch listed ≡ false)
       → Comes Fits (Does leads start) (epochs_plan now listed (missing_epochs now listed) s) (epochs_plan now listed (missing_from first now listed) s) a a
   epochs_begun now first listed s a within before =
       subst (λ (l : List ℕ). Comes Fits (Does leads start) (epochs_plan now listed (missing_epochs now listed) s) (epochs_plan now listed l s) a a) (missing_all listed now ∙ missing_skip listed 0 first now (omega arith) within before)
       (comes_none Fits (Does leads start) (epochs_plan now listed (missing_epochs now listed) s) a)
 
-  pub epochs_next : (now epoch next : ℕ) (listed : List (PubKey × KeyStanding)) (s : Standing) (p : PartPlan) (a b c : House K) → epoch < now → is_missed epoch listed ≡ true → epoch + 1 ≤ next → next ≤ now → ((e : ℕ) → epoch + 1 ≤ e → e < next → is_missed e listed ≡ false)
+  pub epochs_next : (now epoch next : ℕ) (listed : List (PubKey × KeyStanding)) (s : Standing) (p : PartPlan) (a b c : House K) → epoch < now → some_misses epoch listed ≡ true → epoch + 1 ≤ next → next ≤ now → ((e : ℕ) → epoch + 1 ≤ e → e < next → some_misses e listed ≡ false)
       → Comes Fits (Does leads start) p (epochs_plan now listed (missing_from epoch now listed) s) a b → Carries Fits (Does leads start) (epoch_plan now listed epoch s) b c (Some (Some s))
       → Comes Fits (Does leads start) p (epochs_plan now listed (missing_from next now listed) s) a c
   epochs_next now epoch next listed s p a b c lt present begun within before g run =

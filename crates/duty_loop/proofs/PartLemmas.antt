@@ -17,7 +17,7 @@ use Rattle.duty_turns.specs.Lines.{none_line}
 use Rattle.duty_turns.specs.Standing.{Standing, indices_of, with_attesters, with_fork, with_indices, with_proposers}
 use Rattle.duty_turns.specs.Times.{epoch_of}
 use Rattle.duty_turns.specs.TurnSteps.{TurnReply, TurnStep, Fits, Writes, Wrote}
-use Rattle.duty_turns.specs.Turns.{PartPlan, answered_plan, ask_plan, asked_plan, attesters_plan, by_32, duties_plan, epoch_plan, epochs_plan, index_plan, lived_plan, liveness_plan, missing_epochs, missing_keys, noted, notes_of, notes_plan, on_standing, renew_plan, renewed_now, renewed_plan, renewing_answered, renewing_plan, renews, then_on, to_renew, voters_plan, watch_plan, writes, written}
+use Rattle.duty_turns.specs.Turns.{PartPlan, answered_plan, ask_plan, asked_plan, attesters_plan, by_32, duties_plan, epoch_plan, epochs_plan, index_plan, lived_plan, liveness_plan, missing_epochs, missing_keys, noted, notes_of, notes_plan, on_standing, renew_plan, renewed_now, renewed_plan, renews, then_on, to_renew, voters_plan, watch_plan, writes, written}
 use Rattle.duty_loop.proofs.GivesLemmas.{Always, Gives, Said, asks_always, calls_always, gives_ask, gives_bind, gives_done, if_always, stop_always}
 
 -- with the last of these steps a text was cut short
@@ -51,41 +51,32 @@ on_part next h mid None w = gives_done WhyNone mid None w
 then_part : (p : PartPlan) (next : Standing → PartPlan) → IsPart p → ((s : Standing) → IsPart (next s)) → IsPart (then_on p next)
 then_part p next h on front = gives_bind WhyNone WhyNone front p (on_standing next) (h front) (on_part next on)
 
-answered_part : (take_in : Answer → Standing → Standing) (s : Standing) (r : Result Answer NoAnswer) → IsPart (answered_plan take_in s r)
-answered_part take_in s (Ok a) = done_part (take_in a s)
-answered_part take_in s (Err (none.NoNode causes)) = line_part (none_line s.slot) s
-answered_part take_in s (Err none.OutOfMemory) = stop_always WhyNone
+answered_part : (take_in : Answer → Standing → Standing) (without s : Standing) (r : Result Answer NoAnswer) → IsPart (answered_plan take_in without s r)
+answered_part take_in without s (Ok a) = done_part (take_in a s)
+answered_part take_in without s (Err (none.NoNode causes)) = line_part (none_line s.slot) without
+answered_part take_in without s (Err none.OutOfMemory) = stop_always WhyNone
 
-ask_part : (a : Ask) (take_in : Answer → Standing → Standing) (s : Standing) → IsPart (ask_plan a take_in s)
-ask_part a take_in s = asks_always WhyNone a (answered_plan take_in s) (answered_part take_in s)
-
--- the same of one that is asked once more where no node answered
-renewing_answered_part : (take_in : Answer → Standing → Standing) (s : Standing) (r : Result Answer NoAnswer) → IsPart (renewing_answered take_in s r)
-renewing_answered_part take_in s (Ok a) = done_part (take_in a s)
-renewing_answered_part take_in s (Err (none.NoNode causes)) = line_part (none_line s.slot) (to_renew s)
-renewing_answered_part take_in s (Err none.OutOfMemory) = stop_always WhyNone
-
-renewing_part : (a : Ask) (take_in : Answer → Standing → Standing) (s : Standing) → IsPart (renewing_plan a take_in s)
-renewing_part a take_in s = asks_always WhyNone a (renewing_answered take_in s) (renewing_answered_part take_in s)
+ask_part : (a : Ask) (take_in : Answer → Standing → Standing) (without s : Standing) → IsPart (ask_plan a take_in without s)
+ask_part a take_in without s = asks_always WhyNone a (answered_plan take_in without s) (answered_part take_in without s)
 
 index_part : (groups : List (List PubKey)) (s : Standing) → IsPart (index_plan groups s)
 index_part [] s = done_part s
-index_part (keys ∷ more) s = then_part (renewing_plan (ask.Validators keys) with_indices s) (index_plan more) (renewing_part (ask.Validators keys) with_indices s) (index_part more)
+index_part (keys ∷ more) s = then_part (ask_plan (ask.Validators keys) with_indices (to_renew s) s) (index_plan more) (ask_part (ask.Validators keys) with_indices (to_renew s) s) (index_part more)
 
 renewed_part : (active : List PubKey) (s : Standing) → IsPart (renewed_plan active s)
 renewed_part active s =
     let groups = by_32 (length active) active in
     if_always WhyNone (renews active s) (renew_plan active s) (Done (Some s))
-    (then_part (renewing_plan ask.Fork with_fork (renewed_now s)) (index_plan groups) (renewing_part ask.Fork with_fork (renewed_now s)) (index_part groups)) (done_part s)
+    (then_part (ask_plan ask.Fork with_fork (to_renew s) (renewed_now s)) (index_plan groups) (ask_part ask.Fork with_fork (to_renew s) (renewed_now s)) (index_part groups)) (done_part s)
 
 attesters_part : (epoch : ℕ) (indices : List ℕ) (s : Standing) → IsPart (attesters_plan epoch indices s)
 attesters_part epoch [] s = done_part s
-attesters_part epoch (i ∷ indices) s = ask_part (ask.Attester epoch (i ∷ indices)) (with_attesters epoch (i ∷ indices)) s
+attesters_part epoch (i ∷ indices) s = ask_part (ask.Attester epoch (i ∷ indices)) (with_attesters epoch (i ∷ indices)) s s
 
 duties_part : (active : List PubKey) (s : Standing) → IsPart (duties_plan active s)
 duties_part active s =
     let epoch = epoch_of s.slot in
-    then_part (ask_plan (ask.Proposer epoch) (with_proposers epoch) s) (voters_plan active) (ask_part (ask.Proposer epoch) (with_proposers epoch) s)
+    then_part (ask_plan (ask.Proposer epoch) (with_proposers epoch) s s) (voters_plan active) (ask_part (ask.Proposer epoch) (with_proposers epoch) s s)
     (λ t. attesters_part (epoch_of t.slot) (indices_of t.indices active) t)
 
 noted_part : (p : PartPlan) → IsPart p → (r : DeskReply) → IsPart (noted r p)

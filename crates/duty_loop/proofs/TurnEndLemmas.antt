@@ -16,9 +16,9 @@ use Rattle.duty_turns.specs.declared.held.DutyEnd.TheVariants as end
 use Rattle.duty_turns.specs.Lines.{duty_lines}
 use Rattle.duty_turns.specs.Standing.{Standing}
 use Rattle.duty_pruning.specs.Pruning.{pruning_file}
-use Rattle.duty_turns.specs.Times.{epoch_of, is_first_slot, is_missed, next_slot, slot_of, slot_start, votes_start}
+use Rattle.duty_turns.specs.Times.{epoch_of, is_first_slot, is_missed, next_slot, slot_start, votes_start}
 use Rattle.duty_turns.specs.TurnSteps.{TurnPlan, TurnReply, TurnStep, Fits, Own, Owned, Writes, Wrote}
-use Rattle.duty_turns.specs.Turns.{Next, NextPlan, active_of, asked_plan, at_slot, blocks_in, calls, close_plan, closed_plan, due_plan, exported, exports, failed_plan, keys_of_turn, merges, listed_plan, next_turn, own_reply, prunes, ready_plan, refreshes, refreshes_lanes, is_worth_compacting, shortens, sized, turn_plan, turns_plan, unless_short, votes_in, votes_plan, waits, with_active, woken_plan, work_of, works}
+use Rattle.duty_turns.specs.Turns.{Next, NextPlan, active_of, asked_plan, at_moment, at_slot, blocks_in, calls, close_plan, closed_plan, due_plan, exported, exports, failed_plan, keys_of_turn, merges, listed_plan, next_turn, own_reply, prunes, ready_plan, refreshes, refreshes_lanes, is_worth_compacting, shortens, sized, turn_plan, turns_plan, unless_short, votes_in, votes_plan, waits, with_active, woken_plan, work_of, works}
 use Rattle.duty_loop.proofs.GivesLemmas.{Always, Gives, Said, calls_always, gives_ask, gives_bind, gives_done, if_always, looks_up_always, refreshes_always, refreshes_lanes_always, stop_always, waits_always, works_always}
 use Rattle.duty_loop.proofs.PartLemmas.{EndInCut, WhyNone, asked_part}
 
@@ -95,12 +95,12 @@ shortens_turn s p h = if_always (Why Standing) (is_first_slot s.slot) (calls cal
 
 votes_turn : (setup : DutySetup) (s : Standing) (ds : List Duty) (proposed : List DutyResult) (reached : ℕ) → IsTurn (votes_plan setup s ds proposed reached)
 votes_turn setup s ds proposed reached =
-    let now = slot_of setup.genesis_time reached in
+    let next = at_moment setup.genesis_time (votes_start setup.genesis_time s.slot) reached s in
     let place = length (blocks_in ds) in
     let all : List Duty = blocks_in ds ++ votes_in ds in
     let behind : List DutyResult → NextPlan = λ cast. close_plan setup s.slot all (proposed ++ cast) (at_slot (next_slot s.slot) s) in
-    if_always (Why Standing) (is_missed setup.genesis_time s.slot (votes_start setup.genesis_time s.slot) reached) (close_plan setup s.slot (blocks_in ds) proposed (at_slot now s)) (works (work_of setup s) place (votes_in ds) behind)
-    (close_turn setup s.slot (blocks_in ds) proposed (at_slot now s))
+    if_always (Why Standing) (is_missed setup.genesis_time s.slot (votes_start setup.genesis_time s.slot) reached) (close_plan setup s.slot (blocks_in ds) proposed next) (works (work_of setup s) place (votes_in ds) behind)
+    (close_turn setup s.slot (blocks_in ds) proposed next)
     (works_always (Why Standing) (work_of setup s) place (votes_in ds) behind (λ cast. close_turn setup s.slot all (proposed ++ cast) (at_slot (next_slot s.slot) s)))
 
 due_turn : (setup : DutySetup) (s : Standing) (ds : List Duty) → IsTurn (due_plan setup s ds)
@@ -123,11 +123,11 @@ listed_turn setup s r front = stop_always (Why Standing) front
 
 woken_turn : (setup : DutySetup) (s : Standing) (reached : ℕ) → IsTurn (woken_plan setup s reached)
 woken_turn setup s reached =
-    let now = slot_of setup.genesis_time reached in
+    let next = at_moment setup.genesis_time (slot_start setup.genesis_time s.slot) reached s in
     let keys = calls call.Keys (listed_plan setup s) in
     let part = shortens s keys in
-    if_always (Why Standing) (is_missed setup.genesis_time s.slot (slot_start setup.genesis_time s.slot) reached) (close_plan setup s.slot [] [] (at_slot now s)) (refreshes (refreshes_lanes part))
-    (close_turn setup s.slot [] [] (at_slot now s))
+    if_always (Why Standing) (is_missed setup.genesis_time s.slot (slot_start setup.genesis_time s.slot) reached) (close_plan setup s.slot [] [] next) (refreshes (refreshes_lanes part))
+    (close_turn setup s.slot [] [] next)
     (refreshes_always (Why Standing) (refreshes_lanes part) (refreshes_lanes_always (Why Standing) part
     (shortens_turn s keys (calls_always (Why Standing) call.Keys (listed_plan setup s) (listed_turn setup s)))))
 

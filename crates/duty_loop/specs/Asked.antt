@@ -15,7 +15,7 @@ abbrev pub with_index : PubKey → Option ℕ → Option AskedKey
 with_index key None = None
 with_index key (Some index) = Some (index, key)
 
--- with one more behind them, if there is one
+-- with one more after them, if there is one
 abbrev pub with_asked : List AskedKey → Option AskedKey → List AskedKey
 with_asked asked None = asked
 with_asked asked (Some one) = asked ++ one ∷ []

@@ -1,4 +1,4 @@
--- What turns call of the desk, the signing services and the nodes: the loop of its own, and each lane duty behind duty.
+-- What turns call of the desk, the signing services and the nodes: the loop of its own, and each lane duty after duty.
 use Rattle.std.specs.Prelude.{◌≡◌, ℕ, zero, suc, List, [], ◌∷◌, length, slice_get, Some, flat_map}
 use Rattle.desk_machine.specs.declared.call.DeskCall.{DeskCall}
 use Rattle.desk_machine.specs.declared.call.DeskReply.{DeskReply}
@@ -16,7 +16,7 @@ own_steps s = []
 abbrev pub loop_steps : List TurnStep → List DutyStep
 loop_steps steps = flat_map own_steps steps
 
--- the steps at a place, none behind the last
+-- the steps at a place, none after the last
 abbrev pub steps_at : ℕ → List (List DutyStep) → List DutyStep
 steps_at place [] = []
 steps_at zero (steps ∷ others) = steps

@@ -6,9 +6,9 @@ use Rattle.desk_machine.specs.declared.call.KeyStanding.{KeyStanding}
 use Rattle.duty_turns.specs.Turns.{counted, misses}
 
 -- some key misses it
-abbrev pub is_missed : ℕ → List (PubKey × KeyStanding) → Bool
-is_missed epoch listed = list_any (misses epoch) listed
+abbrev pub some_misses : ℕ → List (PubKey × KeyStanding) → Bool
+some_misses epoch listed = list_any (misses epoch) listed
 
 -- those from one on and below another, the lesser first
 abbrev pub missing_from : ℕ → ℕ → List (PubKey × KeyStanding) → List ℕ
-missing_from from now listed = filter (λ epoch. is_missed epoch listed) (counted from (now - from))
+missing_from from now listed = filter (λ epoch. some_misses epoch listed) (counted from (now - from))

@@ -3,7 +3,7 @@ ghost use Rattle.std.specs.Prelude.{◌≡◌, ◌<◌, ◌≤◌, ℕ, IfOk, tr
 ghost use Rattle.std.specs.List.{list_any};
 ghost use Rattle.desk_machine.specs.States.{is_active, state_in};
 ghost use Rattle.duty_turns.specs.Turns.{active_of, missed, misses, missing_keys};
-ghost use Rattle.duty_loop.specs.Missing.{is_missed};
+ghost use Rattle.duty_loop.specs.Missing.{some_misses};
 
 use desk_machine::KeyStanding;
 use doppel_watch::WatchState;
@@ -78,8 +78,8 @@ pub(crate) fn next_missed(listed: &[(PubKey, KeyStanding)], from: u64, until: u6
     requires { from ≤ until }
     ensures begun { from ≤ result }
     ensures within { result ≤ until }
-    ensures none_before { (epoch : ℕ) → from ≤ epoch → epoch < result → is_missed epoch listed.now ≡ false }
-    ensures missed { result < until → is_missed result listed.now ≡ true }
+    ensures none_before { (epoch : ℕ) → from ≤ epoch → epoch < result → some_misses epoch listed.now ≡ false }
+    ensures missed { result < until → some_misses result listed.now ≡ true }
 {
     let mut next = until;
     'keys: for row in listed {

@@ -1,4 +1,4 @@
-//! The duty loop of a validator client: slot behind slot, what is due is learnt from the nodes, and done in lanes.
+//! The duty loop of a validator client: slot after slot, what is due is learnt from the nodes, and done in lanes.
 #![tactic(auto)]
 
 mod ends;

@@ -30,7 +30,7 @@ pub(crate) fn notes_of(
     Ok(notes)
 }
 
-/// Puts a note of each of these keys behind others. The error is want of memory.
+/// Puts a note of each of these keys after others. The error is want of memory.
 fn push_notes(
     notes: &mut Vec<(PubKey, bool)>,
     asked: &[(u64, PubKey)],
@@ -82,7 +82,7 @@ fn asked_key(indices: &BTreeMap<PubKey, u64>, key: &PubKey) -> Option<(u64, PubK
     }
 }
 
-/// Puts a key with its index, if it has one, behind others. The error is want of memory.
+/// Puts a key with its index, if it has one, after others. The error is want of memory.
 fn push_asked(asked: &mut Vec<(u64, PubKey)>, one: Option<(u64, PubKey)>) -> Result<(), AllocError>
     ensures { OnOk result (asked.new.items ≡ with_asked asked.old.items one) }
 {

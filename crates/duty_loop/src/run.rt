@@ -1,4 +1,4 @@
-//! Turn behind turn.
+//! Turn after turn.
 ghost use Rattle.std.specs.Prelude.{◌≡◌, ◌<◌, ℕ, All, length};
 ghost use Rattle.edge_clock.specs.Clocks.{IsNow};
 ghost use Rattle.call_plans.specs.Paths.{Carries};

@@ -17,10 +17,8 @@ use crate::watch::watch;
 use desk_machine::{DeskCall, DeskCalls, DeskReply, KeyStanding};
 use duty_asks::{Stop, ask_duties};
 use duty_plans::DutySetup;
-use duty_turns::{
-    DutyEnd, Held, is_first_slot, is_missed, is_worth_compacting, slot_of, slot_start,
-};
-use duty_work::{close, do_due};
+use duty_turns::{DutyEnd, Held, is_first_slot, is_missed, is_worth_compacting, slot_start};
+use duty_work::{close, do_due, go_to};
 use duty_workers::{Lane, refresh_lanes};
 use edge_clock::Clock;
 use edge_kit::{Items, PubKey, Sink};
@@ -33,14 +31,16 @@ use std::thread::Threads;
 
 /// Takes one turn: waits for the start of the held slot, asks the nodes what is due for the desk's active keys, and
 /// has it done in the lanes, blocks at once and votes a third into the slot (consensus-specs, `SECONDS_PER_SLOT`,
-/// `INTERVALS_PER_SLOT`). What became of each duty is a line of the output, which is written behind the last of them.
+/// `INTERVALS_PER_SLOT`). What became of each duty is a line of the output, which is written after the last of them.
 /// Then the next turn is the next slot's. Where a wait is over in a later slot, or before its moment, since the clock was
-/// set back, the duties that are left are dropped, and the next turn is that of the slot that was reached. At an epoch's
-/// first slot, before the desk is asked for its keys, a journal is compacted that has 16,777,216 bytes at least, half of
-/// which or more that frees, or more than 1,073,741,824, of which it frees a quarter or more. Behind the lines, where not
-/// all is kept, the desk is asked to export a part of the active keys, which in 32 slots come each once, and a file is
-/// merged by which it forgets what is old of them, if there is anything. Whatever the desk replies, the turn goes on, but
-/// for want of memory.
+/// set back, the duties that are left are dropped, and the next turn is that of the slot that was reached; where the clock
+/// was set back, what was answered before stands no more.
+///
+/// At an epoch's first slot, before the desk is asked for its keys, a journal is compacted that has 16,777,216 bytes at
+/// least, half of which or more that frees, or more than 1,073,741,824, of which it frees a quarter or more. After the
+/// lines, where not all is kept, the desk is asked to export a part of the active keys, which in 32 slots come each once,
+/// and a file is merged by which it forgets what is old of them, if there is anything. Whatever the desk replies, the turn
+/// goes on, but for want of memory.
 ///
 /// A lane does duties with a desk, a signing service and nodes of its own, beside the others. The duties of a slot have
 /// places, its blocks and then its votes, from 0 on; the one at a place goes to the lane that the place is modulo the
@@ -120,7 +120,7 @@ fn begin<
     let slot = held.slot;
     let moment = slot_start(setup.genesis_time, slot);
     if is_missed(setup.genesis_time, slot, moment, reached) {
-        held.slot = slot_of(setup.genesis_time, reached);
+        go_to(alloc, setup.genesis_time, moment, reached, held);
         return close(alloc, setup, slot, &[], &[], held, desk, out);
     }
     let Ok(()) = nodes.refresh() else {

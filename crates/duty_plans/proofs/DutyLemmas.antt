@@ -181,7 +181,7 @@ first_on : {A : Type 0} (a b c : Option A) → first_of (first_of a b) c ≡ fir
 first_on None b c = refl
 first_on (Some x) b c = refl
 
--- behind steps of which the first failure is this, the plan gives what the first failure of all says
+-- after steps of which the first failure is this, the plan gives what the first failure of all says
 abbrev pub Gives : Duty → Option DutyResult → DutyPlan DutyResult → Type 0
 Gives d so (Done x) = x ≡ unwrap_or so ended.Sent
 Gives d so Stop = Unit {0}

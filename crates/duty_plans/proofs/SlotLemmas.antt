@@ -10,7 +10,7 @@ use Rattle.duty_plans.specs.Plans.{duty_plan, slot_plan}
 use Rattle.duty_plans.specs.Slots.{EachDone}
 use Rattle.duty_plans.specs.Steps.{DutyStep, Fits}
 
--- behind these results come those of the duties
+-- after these results come those of the duties
 record DoneBehind (work : SlotWork) (got : List DutyResult) (ds : List Duty) (steps : List DutyStep) (rs : List DutyResult) : Type 0 where
   own : List DutyResult
   are : rs ≡ got ++ own

@@ -49,7 +49,7 @@ of_safe list safe x y in_x in_y un = by_order (cases_order in_x.0 in_y.0) where
 to_safe : (list : Sent) → AreSafe list → SafeList list
 to_safe list are i j d less within = are (get_or list i d) (get_or list j d) (Contains-get_or list i d (omega arith)) (Contains-get_or list j d within)
 
--- some of the messages that come behind are safe as all are
+-- some of the messages that come after are safe as all are
 pub safe_within : (before all some : Sent) → SafeList (before ++ all) → ((x : PubKey × Message) → Contains some x → Contains all x) → SafeList (before ++ some)
 safe_within before all some safe within = to_safe (before ++ some) (λ x y in_x in_y. of_safe (before ++ all) safe x y (into x in_x) (into y in_y)) where
   into : (x : PubKey × Message) → Contains (before ++ some) x → Contains (before ++ all) x

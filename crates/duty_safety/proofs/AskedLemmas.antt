@@ -19,14 +19,14 @@ use Rattle.duty_turns.specs.Lines.{none_line}
 use Rattle.duty_turns.specs.Standing.{Standing, indices_of, with_attesters, with_fork, with_indices, with_proposers}
 use Rattle.duty_turns.specs.Times.{epoch_of}
 use Rattle.duty_turns.specs.TurnSteps.{Own, Writes}
-use Rattle.duty_turns.specs.Turns.{PartPlan, answered_plan, ask_plan, asked_plan, attesters_plan, by_32, duties_plan, epoch_plan, epochs_plan, index_plan, lived_plan, liveness_plan, missing_epochs, missing_keys, noted, notes_of, notes_plan, on_standing, own_answer, own_reply, renew_plan, renewed_now, renewed_plan, renewing_answered, renewing_plan, renews, then_on, to_renew, voters_plan, watch_plan, writes, written}
+use Rattle.duty_turns.specs.Turns.{PartPlan, answered_plan, ask_plan, asked_plan, attesters_plan, by_32, duties_plan, epoch_plan, epochs_plan, index_plan, lived_plan, liveness_plan, missing_epochs, missing_keys, noted, notes_of, notes_plan, on_standing, own_answer, own_reply, renew_plan, renewed_now, renewed_plan, renews, then_on, to_renew, voters_plan, watch_plan, writes, written}
 use Rattle.duty_safety.specs.OnTime.{Wait}
 use Rattle.duty_safety.proofs.KeepLemmas.{Keeps, keeps_ask, keeps_bind, keeps_done, keeps_if, keeps_stop, written_keeps}
 
 abbrev pub At : ℕ → Option Standing → Type 0
 At slot o = IfSome o (λ s. s.slot ≡ slot)
 
--- of this slot before and behind
+-- of this slot before and after
 abbrev pub Stays : Wait → ℕ → PartPlan → Type 0
 Stays W slot p = Keeps W (At slot) p p
 
@@ -48,24 +48,14 @@ line_stays W slot text s e = keeps_ask W (At slot) (Writes text) (λ r. written 
 abbrev TakesIn : (Answer → Standing → Standing) → Type 0
 TakesIn take_in = (a : Answer) (s : Standing) → (take_in a s).slot ≡ s.slot
 
-answered_stays : (W : Wait) (slot : ℕ) (take_in : Answer → Standing → Standing) (s : Standing) (r : Result Answer NoAnswer) → TakesIn take_in → s.slot ≡ slot → Stays W slot (answered_plan take_in s r)
-answered_stays W slot take_in s (Ok a) takes e = done_stays W slot (take_in a s) (takes a s ∙ e)
-answered_stays W slot take_in s (Err (none.NoNode causes)) takes e = line_stays W slot (none_line s.slot) s e
-answered_stays W slot take_in s (Err none.OutOfMemory) takes e = keeps_stop W (At slot)
+answered_stays : (W : Wait) (slot : ℕ) (take_in : Answer → Standing → Standing) (without s : Standing) (r : Result Answer NoAnswer) → TakesIn take_in → without.slot ≡ slot → s.slot ≡ slot → Stays W slot (answered_plan take_in without s r)
+answered_stays W slot take_in without s (Ok a) takes e f = done_stays W slot (take_in a s) (takes a s ∙ f)
+answered_stays W slot take_in without s (Err (none.NoNode causes)) takes e f = line_stays W slot (none_line s.slot) without e
+answered_stays W slot take_in without s (Err none.OutOfMemory) takes e f = keeps_stop W (At slot)
 
-ask_stays : (W : Wait) (slot : ℕ) (a : Ask) (take_in : Answer → Standing → Standing) (s : Standing) → TakesIn take_in → s.slot ≡ slot → Stays W slot (ask_plan a take_in s)
-ask_stays W slot a take_in s takes e =
-    keeps_ask W (At slot) (Own (Asks a)) (λ r. answered_plan take_in s (own_answer r)) (λ r. answered_plan take_in s (own_answer r)) (λ r w. answered_stays W slot take_in s (own_answer r) takes e)
-
--- the same of one that is asked once more where no node answered
-renewing_answered_stays : (W : Wait) (slot : ℕ) (take_in : Answer → Standing → Standing) (s : Standing) (r : Result Answer NoAnswer) → TakesIn take_in → s.slot ≡ slot → Stays W slot (renewing_answered take_in s r)
-renewing_answered_stays W slot take_in s (Ok a) takes e = done_stays W slot (take_in a s) (takes a s ∙ e)
-renewing_answered_stays W slot take_in s (Err (none.NoNode causes)) takes e = line_stays W slot (none_line s.slot) (to_renew s) e
-renewing_answered_stays W slot take_in s (Err none.OutOfMemory) takes e = keeps_stop W (At slot)
-
-renewing_stays : (W : Wait) (slot : ℕ) (a : Ask) (take_in : Answer → Standing → Standing) (s : Standing) → TakesIn take_in → s.slot ≡ slot → Stays W slot (renewing_plan a take_in s)
-renewing_stays W slot a take_in s takes e =
-    keeps_ask W (At slot) (Own (Asks a)) (λ r. renewing_answered take_in s (own_answer r)) (λ r. renewing_answered take_in s (own_answer r)) (λ r w. renewing_answered_stays W slot take_in s (own_answer r) takes e)
+ask_stays : (W : Wait) (slot : ℕ) (a : Ask) (take_in : Answer → Standing → Standing) (without s : Standing) → TakesIn take_in → without.slot ≡ slot → s.slot ≡ slot → Stays W slot (ask_plan a take_in without s)
+ask_stays W slot a take_in without s takes e f =
+    keeps_ask W (At slot) (Own (Asks a)) (λ r. answered_plan take_in without s (own_answer r)) (λ r. answered_plan take_in without s (own_answer r)) (λ r w. answered_stays W slot take_in without s (own_answer r) takes e f)
 
 takes_fork : TakesIn with_fork
 takes_fork (answer.Fork fork) s = refl
@@ -85,20 +75,20 @@ takes_attesters epoch asked a s = refl
 
 index_stays : (W : Wait) (slot : ℕ) (groups : List (List PubKey)) (s : Standing) → s.slot ≡ slot → Stays W slot (index_plan groups s)
 index_stays W slot [] s e = done_stays W slot s e
-index_stays W slot (keys ∷ more) s e = then_stays W slot (renewing_plan (ask.Validators keys) with_indices s) (index_plan more) (renewing_stays W slot (ask.Validators keys) with_indices s takes_indices e) (index_stays W slot more)
+index_stays W slot (keys ∷ more) s e = then_stays W slot (ask_plan (ask.Validators keys) with_indices (to_renew s) s) (index_plan more) (ask_stays W slot (ask.Validators keys) with_indices (to_renew s) s takes_indices e e) (index_stays W slot more)
 
 renewed_stays : (W : Wait) (slot : ℕ) (active : List PubKey) (s : Standing) → s.slot ≡ slot → Stays W slot (renewed_plan active s)
 renewed_stays W slot active s e = keeps_if W (At slot) (renews active s) (renew_plan active s) (Done (Some s)) (renew_plan active s) (Done (Some s))
-    (then_stays W slot (renewing_plan ask.Fork with_fork (renewed_now s)) (index_plan (by_32 (length active) active)) (renewing_stays W slot ask.Fork with_fork (renewed_now s) takes_fork e) (index_stays W slot (by_32 (length active) active)))
+    (then_stays W slot (ask_plan ask.Fork with_fork (to_renew s) (renewed_now s)) (index_plan (by_32 (length active) active)) (ask_stays W slot ask.Fork with_fork (to_renew s) (renewed_now s) takes_fork e e) (index_stays W slot (by_32 (length active) active)))
     (done_stays W slot s e)
 
 attesters_stay : (W : Wait) (slot epoch : ℕ) (indices : List ℕ) (s : Standing) → s.slot ≡ slot → Stays W slot (attesters_plan epoch indices s)
 attesters_stay W slot epoch [] s e = done_stays W slot s e
-attesters_stay W slot epoch (i ∷ indices) s e = ask_stays W slot (ask.Attester epoch (i ∷ indices)) (with_attesters epoch (i ∷ indices)) s (takes_attesters epoch (i ∷ indices)) e
+attesters_stay W slot epoch (i ∷ indices) s e = ask_stays W slot (ask.Attester epoch (i ∷ indices)) (with_attesters epoch (i ∷ indices)) s s (takes_attesters epoch (i ∷ indices)) e e
 
 duties_stay : (W : Wait) (slot : ℕ) (active : List PubKey) (s : Standing) → s.slot ≡ slot → Stays W slot (duties_plan active s)
-duties_stay W slot active s e = then_stays W slot (ask_plan (ask.Proposer (epoch_of s.slot)) (with_proposers (epoch_of s.slot)) s) (voters_plan active)
-    (ask_stays W slot (ask.Proposer (epoch_of s.slot)) (with_proposers (epoch_of s.slot)) s (takes_proposers (epoch_of s.slot)) e)
+duties_stay W slot active s e = then_stays W slot (ask_plan (ask.Proposer (epoch_of s.slot)) (with_proposers (epoch_of s.slot)) s s) (voters_plan active)
+    (ask_stays W slot (ask.Proposer (epoch_of s.slot)) (with_proposers (epoch_of s.slot)) s s (takes_proposers (epoch_of s.slot)) e e)
     (λ t et. attesters_stay W slot (epoch_of t.slot) (indices_of t.indices active) t et)
 
 noted_stays : (W : Wait) (slot : ℕ) (r : DeskReply) (p : PartPlan) → Stays W slot p → Stays W slot (noted r p)

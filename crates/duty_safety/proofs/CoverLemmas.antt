@@ -40,7 +40,7 @@ covered_at true (Some p) m later h k = k h
 covered_at true None m later h k = h
 covered_at false o m later h k = h
 
--- behind a call it is covered as before it
+-- after a call it is covered as before it
 pub covered_call : (state : State) (c : DeskCall × DeskReply) (xs : List (DeskCall × DeskReply)) (x : PubKey × Message) → CoveredOnceActive state (c ∷ xs) x → CoveredOnceActive (after state c.0 c.1) xs x
 covered_call state c xs x h =
     covered_at (is_active (key_state state.states x.0)) (past_of state x.0) x.1 (CoveredOnceActive (after state c.0 c.1) xs x) h

@@ -26,9 +26,9 @@ use Rattle.duty_plans.specs.declared.setup.DutySetup.{DutySetup}
 use Rattle.duty_plans.specs.declared.work.SlotWork.{SlotWork}
 use Rattle.duty_turns.specs.Lines.{duty_lines, none_line}
 use Rattle.duty_turns.specs.Standing.{Standing, indices_of, with_attesters, with_fork, with_indices, with_proposers}
-use Rattle.duty_turns.specs.Times.{epoch_of, is_first_slot, is_missed, next_slot, slot_of, slot_start, votes_start}
+use Rattle.duty_turns.specs.Times.{epoch_of, is_first_slot, is_missed, next_slot, slot_start, votes_start}
 use Rattle.duty_turns.specs.TurnSteps.{TurnCall, TurnPlan, TurnReply, TurnStep, Fits, Due, LanesRefreshed, LooksUp, Own, Owned, Refreshed, Refreshes, RefreshesLanes, Waits, Woke, Worked, Works, Writes, Wrote}
-use Rattle.duty_turns.specs.Turns.{NextPlan, PartPlan, active_of, answered_plan, ask_plan, asked_plan, asks, at_slot, attesters_plan, blocks_in, by_32, calls, close_plan, closed_plan, due_plan, duties_plan, epoch_plan, epochs_plan, exported, exports, failed_plan, found, index_plan, is_worth_compacting, keys_of_turn, lanes_refreshed, listed_plan, lived_plan, liveness_plan, looks_up, merges, missing_epochs, missing_keys, noted, notes_of, notes_plan, on_standing, own_answer, own_reply, prunes, ready_plan, refreshed, refreshes, refreshes_lanes, renew_plan, renewed_now, renewed_plan, renewing_answered, renewing_plan, renews, shortens, sized, then_on, to_renew, turn_plan, unless_short, voters_plan, votes_in, votes_plan, waits, watch_plan, with_active, woken, woken_plan, work_of, worked, works, writes, written}
+use Rattle.duty_turns.specs.Turns.{NextPlan, PartPlan, active_of, answered_plan, ask_plan, asked_plan, asks, at_moment, at_slot, attesters_plan, blocks_in, by_32, calls, close_plan, closed_plan, due_plan, duties_plan, epoch_plan, epochs_plan, exported, exports, failed_plan, found, index_plan, is_worth_compacting, keys_of_turn, lanes_refreshed, listed_plan, lived_plan, liveness_plan, looks_up, merges, missing_epochs, missing_keys, noted, notes_of, notes_plan, on_standing, own_answer, own_reply, prunes, ready_plan, refreshed, refreshes, refreshes_lanes, renew_plan, renewed_now, renewed_plan, renews, shortens, sized, then_on, to_renew, turn_plan, unless_short, voters_plan, votes_in, votes_plan, waits, watch_plan, with_active, woken, woken_plan, work_of, worked, works, writes, written}
 use Rattle.duty_turns.specs.declared.held.DutyEnd.{DutyEnd}
 use Rattle.duty_turns.specs.declared.held.DutyEnd.TheVariants as end
 use Rattle.duty_safety.proofs.AskedLemmas.{At, asked_stays}
@@ -36,11 +36,11 @@ use Rattle.duty_safety.specs.OnTime.{AllWaits, IsWait}
 use Rattle.duty_safety.specs.Merging.{MayMerge, MergesOnly, exported_by}
 
 module _ (keep_epochs : Option ℕ) (epoch : ℕ) where
-  -- whatever steps of the plan are taken, behind a step that exported this file, if it did
+  -- whatever steps of the plan are taken, after a step that exported this file, if it did
   abbrev Merging : {X : Type 0} → Option File → TurnPlan X → Type 0
   Merging {X} from p = (steps : List TurnStep) (v : Option X) → Follows Fits p steps v → MergesOnly keep_epochs epoch from steps
 
-  -- behind any step
+  -- after any step
   abbrev Quiet : {X : Type 0} → TurnPlan X → Type 0
   Quiet p = (from : Option File) → Merging from p
 
@@ -139,41 +139,32 @@ module _ (keep_epochs : Option ℕ) (epoch : ℕ) where
   then_part : (p : PartPlan) (next : Standing → PartPlan) → Quiet p → ((s : Standing) → Quiet (next s)) → Quiet (then_on p next)
   then_part p next h on from = bind_merging p (on_standing next) from (h from) (λ mid o f. on_part next on o)
 
-  answered_part : (take_in : Answer → Standing → Standing) (s : Standing) (r : Result Answer NoAnswer) → Quiet (answered_plan take_in s r)
-  answered_part take_in s (Ok a) = done_quiet (Some (take_in a s))
-  answered_part take_in s (Err (none.NoNode causes)) = line_part (none_line s.slot) s
-  answered_part take_in s (Err none.OutOfMemory) = stop_quiet
+  answered_part : (take_in : Answer → Standing → Standing) (without s : Standing) (r : Result Answer NoAnswer) → Quiet (answered_plan take_in without s r)
+  answered_part take_in without s (Ok a) = done_quiet (Some (take_in a s))
+  answered_part take_in without s (Err (none.NoNode causes)) = line_part (none_line s.slot) without
+  answered_part take_in without s (Err none.OutOfMemory) = stop_quiet
 
-  ask_part : (a : Ask) (take_in : Answer → Standing → Standing) (s : Standing) → Quiet (ask_plan a take_in s)
-  ask_part a take_in s = asks_quiet a (answered_plan take_in s) (answered_part take_in s)
-
-  -- the same of one that is asked once more where no node answered
-  renewing_answered_part : (take_in : Answer → Standing → Standing) (s : Standing) (r : Result Answer NoAnswer) → Quiet (renewing_answered take_in s r)
-  renewing_answered_part take_in s (Ok a) = done_quiet (Some (take_in a s))
-  renewing_answered_part take_in s (Err (none.NoNode causes)) = line_part (none_line s.slot) (to_renew s)
-  renewing_answered_part take_in s (Err none.OutOfMemory) = stop_quiet
-
-  renewing_part : (a : Ask) (take_in : Answer → Standing → Standing) (s : Standing) → Quiet (renewing_plan a take_in s)
-  renewing_part a take_in s = asks_quiet a (renewing_answered take_in s) (renewing_answered_part take_in s)
+  ask_part : (a : Ask) (take_in : Answer → Standing → Standing) (without s : Standing) → Quiet (ask_plan a take_in without s)
+  ask_part a take_in without s = asks_quiet a (answered_plan take_in without s) (answered_part take_in without s)
 
   index_part : (groups : List (List PubKey)) (s : Standing) → Quiet (index_plan groups s)
   index_part [] s = done_quiet (Some s)
-  index_part (keys ∷ more) s = then_part (renewing_plan (ask.Validators keys) with_indices s) (index_plan more) (renewing_part (ask.Validators keys) with_indices s) (index_part more)
+  index_part (keys ∷ more) s = then_part (ask_plan (ask.Validators keys) with_indices (to_renew s) s) (index_plan more) (ask_part (ask.Validators keys) with_indices (to_renew s) s) (index_part more)
 
   renewed_part : (active : List PubKey) (s : Standing) → Quiet (renewed_plan active s)
   renewed_part active s =
       let groups = by_32 (length active) active in
       if_quiet (renews active s) (renew_plan active s) (Done (Some s))
-      (then_part (renewing_plan ask.Fork with_fork (renewed_now s)) (index_plan groups) (renewing_part ask.Fork with_fork (renewed_now s)) (index_part groups)) (done_quiet (Some s))
+      (then_part (ask_plan ask.Fork with_fork (to_renew s) (renewed_now s)) (index_plan groups) (ask_part ask.Fork with_fork (to_renew s) (renewed_now s)) (index_part groups)) (done_quiet (Some s))
 
   attesters_part : (at : ℕ) (indices : List ℕ) (s : Standing) → Quiet (attesters_plan at indices s)
   attesters_part at [] s = done_quiet (Some s)
-  attesters_part at (i ∷ indices) s = ask_part (ask.Attester at (i ∷ indices)) (with_attesters at (i ∷ indices)) s
+  attesters_part at (i ∷ indices) s = ask_part (ask.Attester at (i ∷ indices)) (with_attesters at (i ∷ indices)) s s
 
   duties_part : (active : List PubKey) (s : Standing) → Quiet (duties_plan active s)
   duties_part active s =
       let at = epoch_of s.slot in
-      then_part (ask_plan (ask.Proposer at) (with_proposers at) s) (voters_plan active) (ask_part (ask.Proposer at) (with_proposers at) s)
+      then_part (ask_plan (ask.Proposer at) (with_proposers at) s s) (voters_plan active) (ask_part (ask.Proposer at) (with_proposers at) s s)
       (λ t. attesters_part (epoch_of t.slot) (indices_of t.indices active) t)
 
   noted_part : (p : PartPlan) → Quiet p → (r : DeskReply) → Quiet (noted r p)
@@ -269,12 +260,12 @@ close_quiet setup slot ds results s = ask_quiet setup.keep_epochs (epoch_of slot
 
 votes_quiet : (setup : DutySetup) (s : Standing) (ds : List Duty) (proposed : List DutyResult) (reached : ℕ) → Quiet setup.keep_epochs (epoch_of s.slot) (votes_plan setup s ds proposed reached)
 votes_quiet setup s ds proposed reached =
-    let now = slot_of setup.genesis_time reached in
+    let next = at_moment setup.genesis_time (votes_start setup.genesis_time s.slot) reached s in
     let place = length (blocks_in ds) in
     let all : List Duty = blocks_in ds ++ votes_in ds in
     let behind : List DutyResult → NextPlan = λ cast. close_plan setup s.slot all (proposed ++ cast) (at_slot (next_slot s.slot) s) in
-    if_quiet setup.keep_epochs (epoch_of s.slot) (is_missed setup.genesis_time s.slot (votes_start setup.genesis_time s.slot) reached) (close_plan setup s.slot (blocks_in ds) proposed (at_slot now s)) (works (work_of setup s) place (votes_in ds) behind)
-    (close_quiet setup s.slot (blocks_in ds) proposed (at_slot now s))
+    if_quiet setup.keep_epochs (epoch_of s.slot) (is_missed setup.genesis_time s.slot (votes_start setup.genesis_time s.slot) reached) (close_plan setup s.slot (blocks_in ds) proposed next) (works (work_of setup s) place (votes_in ds) behind)
+    (close_quiet setup s.slot (blocks_in ds) proposed next)
     (works_quiet setup.keep_epochs (epoch_of s.slot) (work_of setup s) place (votes_in ds) behind (λ cast. close_quiet setup s.slot all (proposed ++ cast) (at_slot (next_slot s.slot) s)))
 
 due_quiet : (setup : DutySetup) (s : Standing) (ds : List Duty) → Quiet setup.keep_epochs (epoch_of s.slot) (due_plan setup s ds)
@@ -307,11 +298,11 @@ listed_quiet setup s r from = stop_quiet setup.keep_epochs (epoch_of s.slot) fro
 
 woken_turn : (setup : DutySetup) (s : Standing) (reached : ℕ) → Quiet setup.keep_epochs (epoch_of s.slot) (woken_plan setup s reached)
 woken_turn setup s reached =
-    let now = slot_of setup.genesis_time reached in
+    let next = at_moment setup.genesis_time (slot_start setup.genesis_time s.slot) reached s in
     let keys = calls call.Keys (listed_plan setup s) in
     let part = shortens s keys in
-    if_quiet setup.keep_epochs (epoch_of s.slot) (is_missed setup.genesis_time s.slot (slot_start setup.genesis_time s.slot) reached) (close_plan setup s.slot [] [] (at_slot now s)) (refreshes (refreshes_lanes part))
-    (close_quiet setup s.slot [] [] (at_slot now s))
+    if_quiet setup.keep_epochs (epoch_of s.slot) (is_missed setup.genesis_time s.slot (slot_start setup.genesis_time s.slot) reached) (close_plan setup s.slot [] [] next) (refreshes (refreshes_lanes part))
+    (close_quiet setup s.slot [] [] next)
     (refreshes_quiet setup.keep_epochs (epoch_of s.slot) (refreshes_lanes part) (refreshes_lanes_quiet setup.keep_epochs (epoch_of s.slot) part
     (shortens_quiet setup.keep_epochs (epoch_of s.slot) s keys (calls_quiet setup.keep_epochs (epoch_of s.slot) call.Keys (listed_plan setup s) (λ from. tt) (listed_quiet setup s)))))
 

@@ -46,7 +46,7 @@ pushed state c xs key m past before is passes safe covered =
     let here : active_past state x.0 ≡ Some past = ap (active_past state) un.0 ∙ is in
     covered_now (active_past state x.0) x.1 (CoveredOnceActive (after state c.0 c.1) xs x) past here (covered i d lt) m passes (Slashable-sym _ _ un.1))
 
--- behind one call all is safe, and what the desk gave leave for is covered
+-- after one call all is safe, and what the desk gave leave for is covered
 abbrev Outcomes : State → DeskCall → DeskReply → Sent → Sent → Type 0
 Outcomes state c r before more = SafeList (before ++ more) × All (λ (x : PubKey × Message). CoversKey (after state c r).keys x.0 x.1) more
 

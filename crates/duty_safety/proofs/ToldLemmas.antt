@@ -97,7 +97,7 @@ as_many ds proposed cast left right all =
 
 -- ---- from the look-up on
 
--- steps behind one another
+-- steps after one another
 in_order : (o a b c : TurnStep) (p q r s t : List TurnStep) → p ≡ a ∷ q → q ≡ b ∷ r → r ≡ c ∷ s → s ≡ t → o ∷ p ≡ o ∷ a ∷ b ∷ c ∷ t
 in_order o a b c p q r s t e f g h = cc
 

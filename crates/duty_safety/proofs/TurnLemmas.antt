@@ -23,7 +23,7 @@ use Rattle.duty_turns.specs.Standing.{Standing}
 use Rattle.duty_pruning.specs.Pruning.{pruning_file}
 use Rattle.duty_turns.specs.Times.{epoch_of, is_first_slot, is_missed, next_slot, slot_of, slot_start, votes_start}
 use Rattle.duty_turns.specs.TurnSteps.{Does, Fits, House, TurnCall, TurnPlan, TurnReply, TurnStep, LooksUp, Own, Refreshes, RefreshesLanes, Waits, Works, Writes, Woke, Wrote}
-use Rattle.duty_turns.specs.Turns.{Next, NextPlan, active_of, asked_plan, at_slot, blocks_in, calls, close_plan, closed_plan, due_plan, exported, exports, failed_plan, found, keys_of_turn, lanes_refreshed, listed_plan, merges, next_turn, own_reply, prunes, ready_plan, refreshed, refreshes, refreshes_lanes, is_worth_compacting, shortens, sized, turn_plan, turns_plan, unless_short, votes_in, votes_plan, waits, with_active, woken, woken_plan, work_of, worked}
+use Rattle.duty_turns.specs.Turns.{Next, NextPlan, active_of, asked_plan, at_moment, at_slot, blocks_in, calls, close_plan, closed_plan, due_plan, exported, exports, failed_plan, found, keys_of_turn, lanes_refreshed, listed_plan, merges, next_turn, own_reply, prunes, ready_plan, refreshed, refreshes, refreshes_lanes, is_worth_compacting, shortens, sized, turn_plan, turns_plan, unless_short, votes_in, votes_plan, waits, with_active, woken, woken_plan, work_of, worked}
 use Rattle.duty_safety.specs.OnTime.{AllWaits, AreOnTime, IsWait, Wait, WakesInSlot, cast_plan, done_plan, listed_on_time, on_time_turn, on_time_turns, ready_on_time}
 use Rattle.duty_safety.proofs.KeepLemmas.{Keeps, found_keeps, keeps_ask, keeps_bind, keeps_done, keeps_else, keeps_if, keeps_stop, lanes_refreshed_keeps, refreshed_keeps, woken_keeps, worked_keeps}
 use Rattle.duty_safety.proofs.AskedLemmas.{At, asked_stays}
@@ -118,9 +118,8 @@ module _ (setup : DutySetup) (W : Wait) (first : ℕ) (cap : first < 2 ^ 64) (bo
   votes_keep : (s : Standing) (ds : List Duty) (proposed : List DutyResult) (reached : ℕ) → first ≤ s.slot → W (votes_start setup.genesis_time s.slot) reached
       → Keeps W (From first) (votes_plan setup s ds proposed reached) (cast_plan setup s ds proposed)
   votes_keep s ds proposed reached h w =
-      let now = slot_of setup.genesis_time reached in
       let moment = votes_start setup.genesis_time s.slot in
-      keeps_else W (From first) (is_missed setup.genesis_time s.slot moment reached) (close_plan setup s.slot (blocks_in ds) proposed (at_slot now s)) (cast_plan setup s ds proposed) (cast_plan setup s ds proposed)
+      keeps_else W (From first) (is_missed setup.genesis_time s.slot moment reached) (close_plan setup s.slot (blocks_in ds) proposed (at_moment setup.genesis_time moment reached s)) (cast_plan setup s ds proposed) (cast_plan setup s ds proposed)
       (bounds s.slot moment reached h (votes_slot setup.genesis_time s.slot) w) (cast_keeps s ds proposed h)
 
   due_keeps : (s : Standing) (ds : List Duty) → first ≤ s.slot → Keeps W (From first) (due_plan setup s ds) (done_plan setup s ds)
@@ -151,11 +150,10 @@ module _ (setup : DutySetup) (W : Wait) (first : ℕ) (cap : first < 2 ^ 64) (bo
   woken_late : (s : Standing) (reached : ℕ) → first ≤ s.slot → W (slot_start setup.genesis_time s.slot) reached
       → Keeps W (From first) (woken_plan setup s reached) (refreshes (refreshes_lanes (shortens s (calls call.Keys (listed_on_time setup s)))))
   woken_late s reached h w =
-      let now = slot_of setup.genesis_time reached in
       let old = shortens s (calls call.Keys (listed_plan setup s)) in
       let new = shortens s (calls call.Keys (listed_on_time setup s)) in
       let moment = slot_start setup.genesis_time s.slot in
-      keeps_else W (From first) (is_missed setup.genesis_time s.slot moment reached) (close_plan setup s.slot [] [] (at_slot now s)) (refreshes (refreshes_lanes old)) (refreshes (refreshes_lanes new))
+      keeps_else W (From first) (is_missed setup.genesis_time s.slot moment reached) (close_plan setup s.slot [] [] (at_moment setup.genesis_time moment reached s)) (refreshes (refreshes_lanes old)) (refreshes (refreshes_lanes new))
       (bounds s.slot moment reached h (start_slot setup.genesis_time s.slot) w)
       (keeps_ask W (From first) Refreshes (λ r. refreshed r (refreshes_lanes old)) (λ r. refreshed r (refreshes_lanes new)) (λ r is. refreshed_keeps W (From first) r (refreshes_lanes old) (refreshes_lanes new)
       (keeps_ask W (From first) RefreshesLanes (λ r. lanes_refreshed r old) (λ r. lanes_refreshed r new) (λ r is. lanes_refreshed_keeps W (From first) r old new
@@ -169,7 +167,7 @@ module _ (setup : DutySetup) (W : Wait) (first : ℕ) (cap : first < 2 ^ 64) (bo
       keeps_ask W (From first) (Waits moment) (λ r. woken r (woken_plan setup s)) (λ r. woken r new)
       (λ r is. woken_keeps W (From first) moment r (woken_plan setup s) new is (λ reached w. woken_late s reached h w))
 
-  -- ---- turn behind turn
+  -- ---- turn after turn
 
   abbrev Any : Result (Unit {0}) DutyEnd → Type 0
   Any r = Unit {0}

@@ -39,15 +39,15 @@ pub fn safe_law()
 {}
 
 /// The calls of a desk over a journal are such calls: from whatever state it stood for its machine can make them, and
-/// it stands for the state behind them.
+/// it stands for the state after them.
 pub fn desk_law<D: Disk>()
     ensures { (old new : Seen D) (calls : List (DeskCall × DeskReply)) (state : State) → CallsOf D.moment D.leaves D.faults old calls new → DeskStands old.contents state
         → CanMake state calls × DeskStands new.contents (state_after state calls) }
 {}
 
 /// Over a clock on time no duty is dropped. Turns each of whose waits is over in the slot for which it was, and not before
-/// its moment, are turns that drop nothing, whatever moment is reached; so are all turns over a clock that is told on
-/// time, from a slot that is not before the clock's start. In such a turn, where it goes on to the next, each duty that was
+/// its moment, are turns that drop nothing, whatever moment is reached. Over a clock that is told on time, from a slot
+/// that is not before the clock's start, no turn drops anything. In such a turn, where it goes on to the next, each duty that was
 /// found due was done, and a line was written of each. `K` takes the desk's calls.
 pub fn on_time_law<K: DeskCalls>()
     ensures turn { (setup : DutySetup) (s : Standing) (steps : List TurnStep) (v : Option Next) → Follows Fits (turn_plan setup s) steps v

@@ -1,4 +1,4 @@
--- The grant in hand behind a call for leave, and what may be done with it.
+-- The grant in hand after a call for leave, and what may be done with it.
 use Rattle.std.specs.Prelude.{IsSome}
 use Rattle.desk_machine.specs.declared.open_grant.OpenGrant.{OpenGrant}
 use Rattle.desk_machine.specs.declared.call.DeskCall.{DeskCall}

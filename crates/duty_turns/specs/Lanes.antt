@@ -56,7 +56,7 @@ abbrev pub IsRefreshed : {K : Type 0} → Bool → Seat K → List (Result Answe
 IsRefreshed true a replies b = (nodes : List Seen) × AreFlagged a.nodes replies nodes × (b ≡ with_nodes a nodes)
 IsRefreshed false a replies b = (nodes : List Seen) × AreAskedFirst a.nodes replies nodes × (b ≡ with_nodes a nodes)
 
--- so those of each lane, in the order of the lanes: all of them; or all of the first few lanes, and the first few of the one behind them,
+-- so those of each lane, in the order of the lanes: all of them; or all of the first few lanes, and the first few of the one after them,
 -- and the others were not touched
 abbrev pub AreRefreshed : {K : Type 0} → Bool → List (Seat K) → List (List (Result Answer NodeFault)) → List (Seat K) → Type 0
 AreRefreshed true [] [] [] = Unit {0}

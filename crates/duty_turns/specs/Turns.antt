@@ -41,7 +41,7 @@ use Rattle.duty_turns.specs.Standing.{Standing, indices_of, with_attesters, with
 use Rattle.duty_turns.specs.Times.{epoch_of, is_first_slot, is_missed, next_slot, slot_of, slot_start, votes_start}
 use Rattle.duty_turns.specs.TurnSteps.{TurnPlan, TurnReply, Waits, Refreshes, RefreshesLanes, Own, LooksUp, Works, Writes, Woke, Refreshed, LanesRefreshed, Owned, Due, Worked, Wrote}
 
--- what stands behind a part of a turn; None: the output failed
+-- what stands after a part of a turn; None: the output failed
 abbrev pub PartPlan : Type 0
 PartPlan = TurnPlan (Option Standing)
 
@@ -114,27 +114,18 @@ then_on part next = bind part (on_standing next)
 
 -- ---- what is asked of the nodes, outside the duties
 
--- the answer is taken in; where no node gave one, a line says so and what stands stays
-abbrev pub answered_plan : (Answer → Standing → Standing) → Standing → Result Answer NoAnswer → PartPlan
-answered_plan take_in s (Ok a) = Done (Some (take_in a s))
-answered_plan take_in s (Err (none.NoNode causes)) = writes (none_line s.slot) (Done (Some s))
-answered_plan take_in s (Err none.OutOfMemory) = Stop
+-- the answer is taken in; where no node gave one, a line says so, and the first of these two stands
+abbrev pub answered_plan : (Answer → Standing → Standing) → Standing → Standing → Result Answer NoAnswer → PartPlan
+answered_plan take_in without s (Ok a) = Done (Some (take_in a s))
+answered_plan take_in without s (Err (none.NoNode causes)) = writes (none_line s.slot) (Done (Some without))
+answered_plan take_in without s (Err none.OutOfMemory) = Stop
 
-abbrev pub ask_plan : Ask → (Answer → Standing → Standing) → Standing → PartPlan
-ask_plan a take_in s = asks a (answered_plan take_in s)
+abbrev pub ask_plan : Ask → (Answer → Standing → Standing) → Standing → Standing → PartPlan
+ask_plan a take_in without s = asks a (answered_plan take_in without s)
 
 -- fork and indices are asked for once more at the next turn
 abbrev pub to_renew : Standing → Standing
 to_renew s = record s { renewed = None }
-
--- the same of a question after the fork or after indices, which is asked once more at the next turn where no node answered
-abbrev pub renewing_answered : (Answer → Standing → Standing) → Standing → Result Answer NoAnswer → PartPlan
-renewing_answered take_in s (Ok a) = Done (Some (take_in a s))
-renewing_answered take_in s (Err (none.NoNode causes)) = writes (none_line s.slot) (Done (Some (to_renew s)))
-renewing_answered take_in s (Err none.OutOfMemory) = Stop
-
-abbrev pub renewing_plan : Ask → (Answer → Standing → Standing) → Standing → PartPlan
-renewing_plan a take_in s = asks a (renewing_answered take_in s)
 
 -- keys by 32, the rest in the last; the number is as many as there may be
 abbrev pub by_32 : ℕ → List PubKey → List (List PubKey)
@@ -144,15 +135,15 @@ by_32 (suc n) (k ∷ keys) = take 32 (k ∷ keys) ∷ by_32 n (drop 32 (k ∷ ke
 
 abbrev pub index_plan : List (List PubKey) → Standing → PartPlan
 index_plan [] s = Done (Some s)
-index_plan (keys ∷ more) s = then_on (renewing_plan (ask.Validators keys) with_indices s) (index_plan more)
+index_plan (keys ∷ more) s = then_on (ask_plan (ask.Validators keys) with_indices (to_renew s) s) (index_plan more)
 
 -- they are asked for in this epoch
 abbrev pub renewed_now : Standing → Standing
 renewed_now s = record s { renewed = Some (epoch_of s.slot) }
 
--- the fork, then the indices of the active keys
+-- the fork, then the indices of the active keys; where a question had no answer, all are asked once more at the next turn
 abbrev pub renew_plan : List PubKey → Standing → PartPlan
-renew_plan active s = then_on (renewing_plan ask.Fork with_fork (renewed_now s)) (index_plan (by_32 (length active) active))
+renew_plan active s = then_on (ask_plan ask.Fork with_fork (to_renew s) (renewed_now s)) (index_plan (by_32 (length active) active))
 
 abbrev pub same_keys : List PubKey → Option (List PubKey) → Bool
 same_keys active None = false
@@ -172,13 +163,13 @@ renewed_plan active s = if renews active s then renew_plan active s else Done (S
 -- where no index is held, attesters are not asked for
 abbrev pub attesters_plan : ℕ → List ℕ → Standing → PartPlan
 attesters_plan epoch [] s = Done (Some s)
-attesters_plan epoch (i ∷ indices) s = ask_plan (ask.Attester epoch (i ∷ indices)) (with_attesters epoch (i ∷ indices)) s
+attesters_plan epoch (i ∷ indices) s = ask_plan (ask.Attester epoch (i ∷ indices)) (with_attesters epoch (i ∷ indices)) s s
 
 abbrev pub voters_plan : List PubKey → Standing → PartPlan
 voters_plan active s = attesters_plan (epoch_of s.slot) (indices_of s.indices active) s
 
 abbrev pub duties_plan : List PubKey → Standing → PartPlan
-duties_plan active s = then_on (ask_plan (ask.Proposer (epoch_of s.slot)) (with_proposers (epoch_of s.slot)) s) (voters_plan active)
+duties_plan active s = then_on (ask_plan (ask.Proposer (epoch_of s.slot)) (with_proposers (epoch_of s.slot)) s s) (voters_plan active)
 
 -- ---- the watch
 
@@ -251,7 +242,7 @@ watch_plan watches listed s = if watches then epochs_plan (epoch_of s.slot) list
 
 -- ---- a turn, from its end
 
--- what comes behind a turn: the next, or the end of the loop
+-- what comes after a turn: the next, or the end of the loop
 abbrev pub Next : Type 0
 Next = Result Standing DutyEnd
 
@@ -316,12 +307,17 @@ at_slot slot s = record s { slot = slot }
 abbrev pub work_of : DutySetup → Standing → SlotWork
 work_of setup s = slot_work setup.genesis (record { fork = s.fork; genesis = setup.genesis }) s.slot (epoch_of s.slot)
 
--- a third into the slot the votes are cast, whose places are behind those of the blocks; at another moment they are dropped, and the
+-- the next turn is of the slot of a moment at which a wait for another was over; where it is before that, since the clock was set back,
+-- no answer of before stands, as one of a later epoch would bar those of this one
+abbrev pub at_moment : ℕ → ℕ → ℕ → Standing → Standing
+at_moment genesis_time moment reached s = at_slot (slot_of genesis_time reached) (record s { answers = if nat_lt reached moment then [] else s.answers })
+
+-- a third into the slot the votes are cast, whose places are after those of the blocks; at another moment they are dropped, and the
 -- next turn is of the slot of that moment
 abbrev pub votes_plan : DutySetup → Standing → List Duty → List DutyResult → ℕ → NextPlan
 votes_plan setup s ds proposed reached =
     if is_missed setup.genesis_time s.slot (votes_start setup.genesis_time s.slot) reached
-    then close_plan setup s.slot (blocks_in ds) proposed (at_slot (slot_of setup.genesis_time reached) s)
+    then close_plan setup s.slot (blocks_in ds) proposed (at_moment setup.genesis_time (votes_start setup.genesis_time s.slot) reached s)
     else works (work_of setup s) (length (blocks_in ds)) (votes_in ds) (λ cast. close_plan setup s.slot (blocks_in ds ++ votes_in ds) (proposed ++ cast) (at_slot (next_slot s.slot) s))
 
 -- what is due is done: blocks at once, votes a third into the slot
@@ -378,13 +374,13 @@ shortens s next = if is_first_slot s.slot then calls call.Size (λ r. sized r ne
 abbrev pub woken_plan : DutySetup → Standing → ℕ → NextPlan
 woken_plan setup s reached =
     if is_missed setup.genesis_time s.slot (slot_start setup.genesis_time s.slot) reached
-    then close_plan setup s.slot [] [] (at_slot (slot_of setup.genesis_time reached) s)
+    then close_plan setup s.slot [] [] (at_moment setup.genesis_time (slot_start setup.genesis_time s.slot) reached s)
     else refreshes (refreshes_lanes (shortens s (calls call.Keys (listed_plan setup s))))
 
 abbrev pub turn_plan : DutySetup → Standing → NextPlan
 turn_plan setup s = waits (slot_start setup.genesis_time s.slot) (woken_plan setup s)
 
--- ---- turn behind turn
+-- ---- turn after turn
 
 abbrev pub next_turn : (Standing → TurnPlan (Result (Unit {0}) DutyEnd)) → Next → TurnPlan (Result (Unit {0}) DutyEnd)
 next_turn turns (Ok s) = turns s

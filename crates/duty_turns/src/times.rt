@@ -34,7 +34,7 @@ pub fn votes_start(genesis_time: u64, slot: u64) -> u64
     slot_start(genesis_time, slot).saturating_add(SECONDS_TO_VOTE)
 }
 
-/// The slot behind a slot. Takes no memory.
+/// The slot after a slot. Takes no memory.
 pub fn next_slot(slot: u64) -> u64
     ensures { result ≡ next_slot slot }
 {

@@ -1,4 +1,4 @@
--- Late, or in time; and turn behind turn.
+-- Late, or in time; and turn after turn.
 use Rattle.std.proofs.Common.{◌≡◌, ℕ, suc, ◌+◌, ◌-◌, ◌<◌, ◌≤◌, Bool, true, false, List, [], ◌++◌, length, Option, Some, None, Result, Ok, Err, refl, sym, ◌∙◌, ap, subst, arith}
 use Rattle.client_calls.proofs.SeatLemmas.{Leads}
 use Rattle.edge_clock.specs.Clocks.{IsHalted, IsNow}
@@ -10,8 +10,8 @@ use Rattle.duty_schedule.specs.declared.rows.Duty.{Duty}
 use Rattle.duty_plans.specs.declared.result.DutyResult.{DutyResult}
 use Rattle.duty_plans.specs.declared.setup.DutySetup.{DutySetup}
 use Rattle.duty_turns.specs.Standing.{Standing}
-use Rattle.duty_turns.specs.Times.{is_missed, next_slot, slot_of, slot_start, votes_start}
-use Rattle.duty_turns.specs.Turns.{at_slot, blocks_in, calls, close_plan, first_standing, listed_plan, next_turn, refreshes, refreshes_lanes, shortens, turn_plan, turns_plan, votes_in, votes_plan, woken_plan, work_of, works}
+use Rattle.duty_turns.specs.Times.{is_missed, next_slot, slot_start, votes_start}
+use Rattle.duty_turns.specs.Turns.{at_moment, at_slot, blocks_in, calls, close_plan, first_standing, listed_plan, next_turn, refreshes, refreshes_lanes, shortens, turn_plan, turns_plan, votes_in, votes_plan, woken_plan, work_of, works}
 use Rattle.duty_turns.specs.TurnSteps.{Does, Fits, House, TurnPlan}
 use Rattle.duty_turns.specs.declared.held.DutyEnd.{DutyEnd}
 use Rattle.duty_turns.specs.declared.held.DutyEnd.TheVariants as end
@@ -22,23 +22,28 @@ pub missed_so : (genesis slot moment held reached : ℕ) (start : ℕ → ℕ �
 missed_so genesis slot moment held reached start said is says e of at =
     subst (λ n. is_missed genesis n (start genesis n) reached ≡ is) at (subst (λ n. is_missed genesis slot n reached ≡ is) of (sym says ∙ e))
 
-pub woken_late : (setup : DutySetup) (s : Standing) (reached later : ℕ) → is_missed setup.genesis_time s.slot (slot_start setup.genesis_time s.slot) reached ≡ true → later ≡ slot_of setup.genesis_time reached
-    → woken_plan setup s reached ≡ close_plan setup s.slot [] [] (at_slot later s)
-woken_late setup s reached later late e = rw (late, e) refl
+-- what stands at another moment is said of the slot and the moment that are held
+pub moved_so : (Holds : Standing → Type 0) (genesis slot moment reached : ℕ) (s : Standing) (start : ℕ → ℕ → ℕ) → moment ≡ start genesis slot → slot ≡ s.slot → Holds (at_moment genesis moment reached s) → Holds (at_moment genesis (start genesis s.slot) reached s)
+moved_so Holds genesis slot moment reached s start of at h =
+    subst (λ n. Holds (at_moment genesis (start genesis n) reached s)) at (subst (λ m. Holds (at_moment genesis m reached s)) of h)
+
+pub woken_late : (setup : DutySetup) (s : Standing) (reached : ℕ) → is_missed setup.genesis_time s.slot (slot_start setup.genesis_time s.slot) reached ≡ true
+    → woken_plan setup s reached ≡ close_plan setup s.slot [] [] (at_moment setup.genesis_time (slot_start setup.genesis_time s.slot) reached s)
+woken_late setup s reached late = rw late refl
 
 pub woken_now : (setup : DutySetup) (s : Standing) (reached : ℕ) → is_missed setup.genesis_time s.slot (slot_start setup.genesis_time s.slot) reached ≡ false
     → woken_plan setup s reached ≡ refreshes (refreshes_lanes (shortens s (calls call.Keys (listed_plan setup s))))
 woken_now setup s reached now = rw now refl
 
-pub votes_late : (setup : DutySetup) (s : Standing) (ds : List Duty) (rs : List DutyResult) (reached later : ℕ) → is_missed setup.genesis_time s.slot (votes_start setup.genesis_time s.slot) reached ≡ true → later ≡ slot_of setup.genesis_time reached
-    → votes_plan setup s ds rs reached ≡ close_plan setup s.slot (blocks_in ds) rs (at_slot later s)
-votes_late setup s ds rs reached later late e = rw (late, e) refl
+pub votes_late : (setup : DutySetup) (s : Standing) (ds : List Duty) (rs : List DutyResult) (reached : ℕ) → is_missed setup.genesis_time s.slot (votes_start setup.genesis_time s.slot) reached ≡ true
+    → votes_plan setup s ds rs reached ≡ close_plan setup s.slot (blocks_in ds) rs (at_moment setup.genesis_time (votes_start setup.genesis_time s.slot) reached s)
+votes_late setup s ds rs reached late = rw late refl
 
 pub votes_now : (setup : DutySetup) (s : Standing) (ds : List Duty) (rs : List DutyResult) (reached : ℕ) → is_missed setup.genesis_time s.slot (votes_start setup.genesis_time s.slot) reached ≡ false
     → votes_plan setup s ds rs reached ≡ works (work_of setup s) (length (blocks_in ds)) (votes_in ds) (λ cast. close_plan setup s.slot (blocks_in ds ++ votes_in ds) (rs ++ cast) (at_slot (next_slot s.slot) s))
 votes_now setup s ds rs reached now = rw now refl
 
--- ---- turn behind turn
+-- ---- turn after turn
 
 turns_next : (setup : DutySetup) (n i : ℕ) (s : Standing) → i < n → turns_plan setup (n - i) s ≡ bind (turn_plan setup s) (next_turn (turns_plan setup (n - (i + 1))))
 turns_next setup n i s h =

@@ -4,4 +4,4 @@
 mod prune;
 mod work;
 
-pub use work::{close, do_due};
+pub use work::{close, do_due, go_to};

@@ -7,7 +7,7 @@ ghost use Rattle.duty_plans.specs.Seats.{Seat};
 ghost use Rattle.duty_workers.specs.Working.{IsReady, WorksDone, lanes_seen};
 ghost use Rattle.duty_workers.specs.Places.{are_placed};
 ghost use Rattle.duty_turns.specs.Standing.{Standing};
-ghost use Rattle.duty_turns.specs.Turns.{blocks_in, calls, close_plan, due_plan, failed_plan, is_block, votes_in, votes_plan, work_of};
+ghost use Rattle.duty_turns.specs.Turns.{at_moment, blocks_in, calls, close_plan, due_plan, failed_plan, is_block, votes_in, votes_plan, work_of};
 ghost use Rattle.duty_turns.specs.TurnSteps.{Does, Fits, SinkSeen, sink_seen};
 ghost use Rattle.duty_asks.specs.Placed.{HoldsPlaced};
 ghost use Rattle.desk_machine.specs.declared.call.DeskCall.TheVariants as call;
@@ -17,7 +17,7 @@ use crate::prune::prune_old;
 use desk_machine::{DeskCall, DeskCalls, DeskReply};
 use duty_asks::write_text;
 use duty_plans::{DutyResult, DutySetup};
-use duty_schedule::Duty;
+use duty_schedule::{Duty, Schedule};
 use duty_turns::{DutyEnd, Held, duty_lines, epoch_of, is_missed, next_slot, slot_of, votes_start};
 use duty_workers::{Lane, run_lanes};
 use edge_clock::Clock;
@@ -104,7 +104,7 @@ fn do_duties<T: Threads + Sync, K: DeskCalls + Send, S: Signer + Send, N: Node +
     )
 }
 
-/// Has the votes cast, whose places are behind those of the blocks, unless the moment that was reached is of a later slot,
+/// Has the votes cast, whose places are after those of the blocks, unless the moment that was reached is of a later slot,
 /// or before that at which votes are cast. Then the next turn is that of the slot that was reached.
 fn cast_votes<
     T: Threads + Sync,
@@ -139,7 +139,7 @@ fn cast_votes<
     let slot = held.slot;
     let moment = votes_start(setup.genesis_time, slot);
     if is_missed(setup.genesis_time, slot, moment, reached) {
-        held.slot = slot_of(setup.genesis_time, reached);
+        go_to(alloc, setup.genesis_time, moment, reached, held);
         return close(alloc, setup, slot, blocks, proposed, held, desk, out);
     }
     let Ok(votes) = votes_in(alloc, due) else {
@@ -154,6 +154,17 @@ fn cast_votes<
     close_both(
         alloc, setup, slot, blocks, votes, proposed, cast, held, desk, out,
     )
+}
+
+/// Has the next turn be of the slot of a moment at which a wait for another was over. Where it is before that, since the
+/// clock was set back, no answer of before stands: one of a later epoch would bar those of this one. Takes no memory.
+pub fn go_to(alloc: Global, genesis_time: u64, moment: u64, reached: u64, held: &mut Held)
+    ensures { (s : Standing) → HoldsPlaced held.old s → HoldsPlaced held.new (at_moment genesis_time moment reached s) }
+{
+    if reached < moment {
+        held.schedule = Schedule::new(alloc);
+    }
+    held.slot = slot_of(genesis_time, reached);
 }
 
 /// Closes a slot in which blocks were proposed and votes were cast, with these results.
@@ -260,7 +271,7 @@ fn is_block(duty: &Duty) -> bool
     matches!(duty, Duty::Block(_))
 }
 
-/// Both, one behind the other. The error is want of memory.
+/// Both, one after the other. The error is want of memory.
 fn joined<T: Copy>(alloc: Global, first: &[T], second: &[T]) -> Result<Vec<T>, AllocError>
     ensures { IfOk result (λ both. both.items ≡ first.now ++ second.now) }
 {

@@ -74,7 +74,7 @@ fn new_piece(alloc: Global) -> Result<Vec<u8>, AllocError>
     vec![in alloc; 0u8; PIECE]
 }
 
-/// Reads one piece more behind the bytes, and answers how many. 0 is the end. Where it fails nothing was read.
+/// Reads one piece more after the bytes, and answers how many. 0 is the end. Where it fails nothing was read.
 fn read_more<I: Source>(
     input: &mut I,
     piece: &mut Vec<u8>,

@@ -368,7 +368,7 @@ deletes_once keys a b c d first second between deletion v whole up p f fine way 
       again.same,
       again.told,
       λ kept. same_file keys b c deletion.file v (genesis_between b c between way)
-          (λ k h. (past_between b c k (past_of b k) between way (never k h) kept (done.rest k h) (refl, past_torn b k (past_of b k) done.torn)).0) done.genesis done.books again.file,
+          (λ k h. (past_between b c k (past_of b k) between way (never k h) (kept k h) (done.rest k h) (refl, past_torn b k (past_of b k) done.torn)).0) done.genesis done.books again.file,
     )
   where
     past_torn : (b : State) (k : PubKey) (o : Option Past) → b.torn ≡ None → PastTorn k o b.torn

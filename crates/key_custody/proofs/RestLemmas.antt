@@ -1,19 +1,21 @@
--- A key that is neither active nor being closed stays so until it is activated, and its past stays but for merges and prunes.
+-- A key that is neither active nor being closed stays so until it is activated, and its past stays but for merges and prunes of it.
 use Rattle.std.proofs.Common.{◌≡◌, ◌≢◌, ◌⊎◌, inl, inr, Bool, true, false, cond, List, [], ◌∷◌, Option, Some, None, refl, sym, ◌∙◌, ap, subst}
 use Rattle.std.specs.Prelude.{IsSome, is_some, option_map}
 use Rattle.std.specs.BTreeMap.{is_at}
 use Rattle.std.proofs.lemmas.Map.Made.{lookup-map_values}
 use Rattle.edge_kit.specs.declared.bytes.PubKey.{PubKey}
+use Rattle.slash_defs.specs.declared.book.Book.{Book}
 use Rattle.slash_defs.specs.declared.message.Message.{Message}
-use Rattle.protect_record.specs.Pasts.{Past, no_past, with_own}
+use Rattle.protect_record.specs.Pasts.{Past, no_past, with_book, with_own}
 use Rattle.record_join.specs.Keys.{key_cmp, kept_of, with_key, with_kept}
-use Rattle.record_join.specs.BooksPasts.{own_grown_from}
-use Rattle.record_join.specs.KeyLaws.{same_key, kept_apart, changed}
+use Rattle.record_join.specs.BooksPasts.{known_past, own_grown_from, with_file, with_file_book}
+use Rattle.record_join.specs.KeyLaws.{same_key, apart_back, kept_apart, changed}
+use Rattle.record_replay.specs.Pruning.{pruning_of}
 use Rattle.record_replay.specs.Replaying.{lasting_state, lasting_states, with_known}
 use Rattle.record_replay.specs.declared.state.KeyState.{KeyState}
 use Rattle.record_replay.specs.declared.state.KeyState.TheVariants.{Known, Active, Closing, Closed}
 use Rattle.desk_machine.specs.States.{State, Lasting, past_of, IsActive, IsClosing}
-use Rattle.desk_machine.specs.Machine.{Reply, after, lasting_after, torn_first, Proceeds, MayFail}
+use Rattle.desk_machine.specs.Machine.{Reply, after, lasting_after, pruned_keys, torn_first, Proceeds, MayFail}
 use Rattle.desk_machine.specs.declared.call.DeskCall.{DeskCall}
 use Rattle.desk_machine.specs.declared.call.DeskCall.TheVariants as call
 use Rattle.desk_machine.specs.declared.call.DeskReply.{DeskReply}
@@ -174,9 +176,34 @@ failed_proceeds : (a : State) (c : DeskCall) → MayFail a c → a.torn ≡ None
 failed_proceeds a c (inl some) e = absurd (let bad : true ≡ false = sym some ∙ ap is_some e in cc)
 failed_proceeds a c (inr x) e = x.1
 
-pub past_after : (a : State) (key : PubKey) (o : Option Past) (c : DeskCall) (r : DeskReply) → Reply a c r → ¬ (Activates key (Made c r)) → ¬ (MergesOrPrunes (Made c r)) → Rests key a → PastIs key o a → PastIs key o (after a c r)
-past_after a key o (call.Merge file) r ok apart kept h p = absurd (kept tt)
-past_after a key o (call.Prune k) r ok apart kept h p = absurd (kept tt)
+-- a key that is not listed gains nothing
+listed_later : (key : PubKey) (o : Option Book) (b : Bool) (x : Book) → cond b (Some x) o ≡ None → (b ≡ false) × (o ≡ None)
+listed_later key o true x e = absurd cc
+listed_later key o false x e = (refl, e)
+
+file_apart : (key : PubKey) (pasts : List (PubKey × Past)) (books : List (PubKey × Book)) → kept_of books key ≡ None → kept_of (with_file pasts books) key ≡ kept_of pasts key
+file_apart key pasts [] none = refl
+file_apart key pasts (b ∷ books) none =
+    let apart = listed_later key (kept_of books key) (is_at (key_cmp key) b.0) b.1 none in
+    file_apart key (with_file_book pasts b) books apart.1 ∙ kept_apart pasts b.0 key (with_book (known_past (kept_of pasts b.0)) b.1) (apart_back key b.0 apart.0)
+
+not_listed : (o : Option Book) → ¬ (IsSome o) → o ≡ None
+not_listed None h = refl
+not_listed (Some x) h = absurd (h refl)
+
+pruned_apart : (key k : PubKey) (pasts : List (PubKey × Past)) (o : Option Past) → (k ≡ key → ⊥) → kept_of (pruned_keys pasts k o) key ≡ kept_of pasts key
+pruned_apart key k pasts None other = refl
+pruned_apart key k pasts (Some past) other = at (is_at (key_cmp key) k) refl where
+  at : (b : Bool) → is_at (key_cmp key) k ≡ b → kept_of (pruned_keys pasts k (Some past)) key ≡ kept_of pasts key
+  at true e = absurd (other (sym (same_key key k e)))
+  at false e = file_apart key pasts ((k, pruning_of past) ∷ []) (rw e refl)
+
+pub past_after : (a : State) (key : PubKey) (o : Option Past) (c : DeskCall) (r : DeskReply) → Reply a c r → ¬ (Activates key (Made c r)) → ¬ (MergesOrPrunes key (Made c r)) → Rests key a → PastIs key o a → PastIs key o (after a c r)
+past_after a key o (call.Merge file) (reply.Merged n) ok apart kept h p = (file_apart key a.keys file.books (not_listed (kept_of file.books key) kept) ∙ p.0, p.1)
+past_after a key o (call.Prune k) (reply.Pruned book) ok apart kept h p = (pruned_apart key k a.keys (past_of a k) kept ∙ p.0, p.1)
+past_after a key o (call.Merge file) reply.Disk ok apart kept h p =
+    (p.0, torn_past key o a.torn (lasting_after a (call.Merge file)) p.1 (λ e. file_apart key a.keys file.books (not_listed (kept_of file.books key) kept) ∙ p.0))
+past_after a key o (call.Prune k) reply.Disk ok apart kept h p = (p.0, torn_past key o a.torn (lasting_after a (call.Prune k)) p.1 (λ e. pruned_apart key k a.keys (past_of a k) kept ∙ p.0))
 past_after a key o (call.Activate k now) reply.Active ok apart kept h p = (known_same key k a.keys apart ∙ p.0, p.1)
 past_after a key o (call.Propose k m now) (reply.Granted g) ok apart kept h p = (grown_same a key k m h ok.0.1.0.0 ∙ p.0, p.1)
 past_after a key o (call.Allow k now) (reply.Granted g) ok apart kept h p = p
@@ -204,11 +231,11 @@ past_lasts : (a : State) (key : PubKey) (o : Option Past) (l : Lasting) → MayL
 past_lasts a key o l (inl e) p = ap (λ (x : Lasting). kept_of x.keys key) e ∙ p.0
 past_lasts a key o l (inr e) p = subst (PastTorn key o) e p.1
 
-past_change : (a b : State) (key : PubKey) (o : Option Past) (x : Change) → Changes a x b → ¬ (Activates key x) → ¬ (MergesOrPrunes x) → Rests key a → PastIs key o a → PastIs key o b
+past_change : (a b : State) (key : PubKey) (o : Option Past) (x : Change) → Changes a x b → ¬ (Activates key x) → ¬ (MergesOrPrunes key x) → Rests key a → PastIs key o a → PastIs key o b
 past_change a b key o (Made c r) moves apart kept h p = subst (PastIs key o) (sym moves.1) (past_after a key o c r moves.0 apart kept h p)
 past_change a b key o (Restarts watch now) opens apart kept h p = subst (PastIs key o) (sym opens.2) (past_lasts a key o opens.0 opens.1 p, tt)
 
-pub past_between : (a b : State) (key : PubKey) (o : Option Past) (between : List Change) → Path Changes a between b → Never (Activates key) between → Never MergesOrPrunes between → Rests key a → PastIs key o a → PastIs key o b
+pub past_between : (a b : State) (key : PubKey) (o : Option Past) (between : List Change) → Path Changes a between b → Never (Activates key) between → Never (MergesOrPrunes key) between → Rests key a → PastIs key o a → PastIs key o b
 past_between a b key o [] w apart kept h p = subst (PastIs key o) (sym w) p
 past_between a b key o (x ∷ xs) w apart kept h p =
     past_between w.0 b key o xs w.2 apart.1 kept.1 (rests_change a w.0 key x w.1 apart.0 h) (past_change a w.0 key o x w.1 apart.0 kept.0 h p)

@@ -1,5 +1,5 @@
 -- What a deletion or an import that comes again does to a desk.
-use Rattle.std.specs.Prelude.{◌≡◌, ◌↔◌, ◌⊎◌, ℕ, Bool, true, false, List, [], ◌∷◌, Contains, Option, Some, None, IfSome}
+use Rattle.std.specs.Prelude.{◌≡◌, ◌↔◌, ◌⊎◌, ℕ, Bool, true, false, List, [], ◌∷◌, Contains, Option, Some, None, IfSome, IsSome}
 use Rattle.std.specs.List.{list_all}
 use Rattle.edge_kit.specs.declared.bytes.PubKey.{PubKey}
 use Rattle.edge_kit.specs.declared.bytes.Root.{Root}
@@ -59,11 +59,11 @@ Activates key (Made (call.Activate k now) reply.Active) = k ≡ key
 Activates key (Made (call.Activate k now) reply.Disk) = k ≡ key
 Activates key x = ⊥
 
--- a file is merged, or a record pruned
-abbrev pub MergesOrPrunes : Change → Type 0
-MergesOrPrunes (Made (call.Merge file) r) = Unit {0}
-MergesOrPrunes (Made (call.Prune key) r) = Unit {0}
-MergesOrPrunes x = ⊥
+-- a file is merged that lists the key, or its record is pruned
+abbrev pub MergesOrPrunes : PubKey → Change → Type 0
+MergesOrPrunes key (Made (call.Merge file) r) = IsSome (kept_of file.books key)
+MergesOrPrunes key (Made (call.Prune k) r) = k ≡ key
+MergesOrPrunes key x = ⊥
 
 -- a key of which no past is kept has no state
 abbrev pub IsWhole : State → Type 0
@@ -82,13 +82,14 @@ abbrev pub AreFine : List KeyStatus → Type 0
 AreFine statuses = list_all is_fine statuses ≡ true
 
 -- ---- a deletion that was carried out without error and comes again, where no key of it became active between, changes nothing and
--- asks the signer nothing, also where memory runs out in it; and it hands out the same file, where nothing was merged or pruned between
+-- asks the signer nothing, also where memory runs out in it; and it hands out the same file, where between no file that lists a key of it
+-- was merged, and none of its keys pruned
 abbrev pub DeletesOnce : Type 0
 DeletesOnce = (keys : List PubKey) (a b c d : State) (first second : List ClientStep) (between : List Change) (deletion : Deletion) (v : Option Deletion)
     → IsWhole a → IsUp a → MachineRun a (desk_calls first) b → Follows Fits (deletion_plan keys) first (Some deletion) → AreFine deletion.statuses
     → Path Changes b between c → ((key : PubKey) → Contains keys key → Never (Activates key) between)
     → MachineRun c (desk_calls second) d → Follows Fits (deletion_plan keys) second v
-    → (d ≡ c) × (told_in second ≡ []) × (Never MergesOrPrunes between → IfSome v (λ again. again.file ≡ deletion.file))
+    → (d ≡ c) × (told_in second ≡ []) × (((key : PubKey) → Contains keys key → Never (MergesOrPrunes key) between) → IfSome v (λ again. again.file ≡ deletion.file))
 
 -- a deletion of the key is begun
 abbrev pub BeginsDeletion : PubKey → Change → Type 0

@@ -17,9 +17,9 @@ pub fn custody_law()
 
 /// A deletion that was carried out without error and comes again, where no key of it became active between, leaves
 /// every record, state and watch as it found them, and asks the signer nothing, also where memory runs out in it. It
-/// hands out the same file where nothing was merged or pruned between. An import that was carried out without error and
-/// comes again, where no deletion of a key of it was begun between, leaves every record, state and watch as it found
-/// them, and asks the signer nothing, also where the desk refuses it. Stops of the client may come between. Both are
+/// hands out the same file where between no file that lists a key of it was merged, and none of its keys was pruned. An
+/// import that was carried out without error and comes again, where no deletion of a key of it was begun between, leaves
+/// every record, state and watch as it found them, and asks the signer nothing, also where the desk refuses it. Stops of the client may come between. Both are
 /// said of states in which a key without a past has no state: each that an empty desk comes to is such.
 pub fn once_law()
     ensures whole { WholeFromEmpty }

@@ -92,7 +92,7 @@ counted_as : (a b : Option (List ℕ)) (f g h : ℕ) (said : Reply) (s : Served)
 counted_as a b f g h said (served.Replied status) l s = s
 counted_as a b f g h said served.Dropped l s = (s.0, rose_after f g h l s.1)
 
--- behind a call that sent nothing
+-- after a call that sent nothing
 pub sends_later : (a b : Option (List ℕ)) (f g h : ℕ) (reply : Option Reply) (s : Served) → f ≤ g → Sends a b g h reply s → Sends a b f h reply s
 sends_later a b f g h reply s l p = record { said = p.said; may = p.may; sent = counted_as a b f g h p.said s l p.sent }
 

@@ -18,7 +18,7 @@ use Rattle.keymanager_api.specs.Handling.{Handles}
 use Rattle.keymanager_api.specs.Visits.{AllUp, DoorFailed, GivesNone, ServesAll, Visit, Visits, asks_failed, calls_in}
 use Rattle.keymanager_api.specs.declared.connections.ConnectionsEnd.TheVariants as end
 
--- ---- what is told, behind what stays and before it
+-- ---- what is told, after what stays and before it
 
 accepts_stays : {C : Type 0} (a b c : Option (List C)) (conn : Option C) → Accepts a b conn → Stays b c → Accepts a c conn
 accepts_stays None b c conn p q = tt
@@ -33,7 +33,7 @@ stays_tells (Some x) None c more p q = absurd p
 stays_tells (Some x) (Some y) None more p q = absurd q
 stays_tells (Some x) (Some y) (Some z) more p q = q ∙ ap (λ l. l ++ more) p
 
--- the hall with its door as it is behind an `accept`
+-- the hall with its door as it is after an `accept`
 abbrev pub with_door : {K C : Type 0} → Hall K C → DoorSeen C → Hall K C
 with_door a door = record { seat = a.seat; door = door }
 
@@ -83,7 +83,7 @@ module _ {K C : Type 0} (leads : Leads K) (see : C → LinkSeen) (start : Option
     pub visits_begun : (a : Hall K C) → VisitedSoFar leads see start token genesis_time 0 a a
     visits_begun a = record { visits = []; path = refl; up = All-nil IsUp; count = refl; desk = none a.seat.desk }
 
-    -- one more behind those so far
+    -- one more after those so far
     path_more : (a b c : Hall K C) (vs : List (Visit C)) (v : Visit C) → Path (Visits leads see start token genesis_time) a vs b → Visits leads see start token genesis_time b v c
         → Path (Visits leads see start token genesis_time) a (vs ++ v ∷ []) c
     path_more a b c vs v p h = path_on (Visits leads see start token genesis_time) a b c vs (v ∷ []) p (c, h, refl)

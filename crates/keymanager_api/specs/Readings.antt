@@ -17,9 +17,9 @@ use Rattle.keymanager_routes.specs.declared.route.Action.{Action}
 pub data MessageStep (token : List ℕ) (left : Option (List ℕ)) (read : Result Request WireFault) (bytes : List ℕ) : Type 0 where
   -- No head, or why none was read to its end and checked. No more was taken than a head may have.
   headless : (f : WireFault) → read ≡ Err f → RequestHeadStep left (Err f) bytes → length bytes ≤ head_limit → MessageStep token left read bytes
-  -- a head that fails a check, and no byte behind it: it is refused, whatever its body
+  -- a head that fails a check, and no byte after it: it is refused, whatever its body
   refused : (head : Request) (r : Refusal) → read ≡ Ok head → IsRequestHead bytes head → head.body.items ≡ [] → action_for token head ≡ Err r → MessageStep token left read bytes
-  -- a head that passes the checks, and behind it the body, or why there is none
+  -- a head that passes the checks, and after it the body, or why there is none
   let_in : (head : Request) (what : Action) (front rest : List ℕ) → bytes ≡ front ++ rest → IsRequestHead front head → action_for token head ≡ Ok what → RequestBodyStep head left read rest → MessageStep token left read bytes
 
 -- a head that fails a check was read, and nothing else was taken
@@ -36,7 +36,7 @@ Asks false held_before held = Stays held_before held
 abbrev pub SaysContinue : Bool → Result Request WireFault → List ℕ → Option (List ℕ) → Option (List ℕ) → Type 0
 SaysContinue asked read rest held_before held = Asks asked held_before held ⊎ ((asked ≡ true) × (read ≡ Err fault.Link) × (rest ≡ []) × AppendsFront held_before held continue_text)
 
--- It is sent behind a head that passes its checks, and then only where that asks for it. Nothing else is sent before the reply.
+-- It is sent after a head that passes its checks, and then only where that asks for it. Nothing else is sent before the reply.
 abbrev pub Continues : (token : List ℕ) (left : Option (List ℕ)) (read : Result Request WireFault) (bytes : List ℕ) → MessageStep token left read bytes → Option (List ℕ) → Option (List ℕ) → Type 0
 Continues token left read bytes (headless f is none short) held_before held = Stays held_before held
 Continues token left read bytes (refused head r is text empty fails) held_before held = Stays held_before held

@@ -1,4 +1,4 @@
--- Connections that are served, one behind another.
+-- Connections that are served, one after another.
 use Rattle.std.specs.Prelude.{◌≡◌, ◌⊎◌, ◌≤◌, ◌<◌, ℕ, Bool, true, false, List, [], ◌∷◌, ◌++◌, All, flat_map, length, Option, Some, None, Result, Ok, Err}
 use Rattle.edge_kit.specs.Causes.{Rose}
 use Rattle.edge_kit.specs.Doors.{Accepts}
@@ -46,7 +46,7 @@ pub record Visits {K C : Type 0} (leads : K → List (DeskCall × DeskReply) →
   pub signer : now.seat.signer ≡ answered.signer
   pub made_are : v.made ≡ desk_calls serves.ran.steps ++ asks_failed v.failed
 
--- no disk has failed, by what the desk said behind each
+-- no disk has failed, by what the desk said after each
 abbrev pub AllUp : {C : Type 0} → List (Visit C) → Type 0
 AllUp visits = All (λ v. v.failed ≡ false) visits
 
@@ -83,7 +83,7 @@ EndsAt wanted visits last now (Err end.Disk) = FailedAtLast visits × (length vi
 abbrev pub calls_in : {C : Type 0} → List (Visit C) → List (DeskCall × DeskReply)
 calls_in visits = flat_map (λ v. v.made) visits
 
--- Connections were served, one behind another, up to why there is no further one.
+-- Connections were served, one after another, up to why there is no further one.
 pub record ServesAll {K C : Type 0} (leads : K → List (DeskCall × DeskReply) → K → Type 0) (see : C → LinkSeen) (start : Option ℕ) (token : List ℕ) (genesis_time wanted : ℕ) (before now : Hall K C) (result : Result (Unit {0}) ConnectionsEnd) : Type 0 where
   pub visits : List (Visit C)
   pub last : Hall K C

@@ -1,4 +1,4 @@
-//! Connection behind connection.
+//! Connection after connection.
 ghost use Rattle.edge_kit.specs.Doors.{IsLent};
 ghost use Rattle.duty_plans.specs.Seats.{signer_seen};
 ghost use Rattle.keymanager_api.specs.Doors.{door_seen, hall, link_seen};
@@ -33,14 +33,14 @@ pub enum ConnectionsEnd {
     Disk,
 }
 
-/// Serves the connections that come in at a door, one behind another, as many as are wanted or as come: the request of
+/// Serves the connections that come in at a door, one after another, as many as are wanted or as come: the request of
 /// each is answered (Keymanager API), and the connection is finished, one whose link fails as it is. Behind each the
 /// desk is asked whether its disk failed.
 ///
 /// # Errors
 ///
 /// `ConnectionsEnd::Door` only where the door's count of faults rose; `ConnectionsEnd::Disk` where the desk says that
-/// its disk failed, behind the connection at which it says so.
+/// its disk failed, after the connection at which it says so.
 pub fn serve_connections<K: DeskCalls, S: Signer, C: Clock, R: Door>(
     alloc: Global,
     wanted: Connections<'_>,

@@ -1,5 +1,5 @@
 //! The Keymanager API (ethereum/keymanager-APIs, local key manager) over any desk and any signer: a request is answered,
-//! a connection served, and the loop of a client serves connection behind connection.
+//! a connection served, and the loop of a client serves connection after connection.
 #![tactic(auto)]
 
 mod answering;

@@ -93,7 +93,7 @@ fn serve_head<L: Link, K: DeskCalls, S: Signer>(
     }
 }
 
-/// Serves a link of which a head was read that passes its checks and asks for this: reads on behind it.
+/// Serves a link of which a head was read that passes its checks and asks for this: reads on after it.
 fn serve_body<L: Link, K: DeskCalls, S: Signer>(
     alloc: Global,
     link: &mut L,
@@ -128,7 +128,7 @@ fn serve_body<L: Link, K: DeskCalls, S: Signer>(
     }
 }
 
-/// Asks for the body behind a head where its sender waits for that. `Failed` only where the link's count of faults rose; a
+/// Asks for the body after a head where its sender waits for that. `Failed` only where the link's count of faults rose; a
 /// front of what asks for it was sent then.
 fn ask_for_body<L: Link>(link: &mut L, head: &Request) -> Result<(), Failed>
     ensures ok { OnOk result (Asks (expects_continue head.now) (L.held link.old) (L.held link.new)) }

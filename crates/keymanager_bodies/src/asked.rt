@@ -19,7 +19,7 @@ use std::alloc::{AllocError, Global};
 pub enum Asked {
     /// The active keys.
     List,
-    /// To take keys in, behind the interchange file (EIP-3076), if there is one.
+    /// To take keys in, after the interchange file (EIP-3076), if there is one.
     Import {
         file: Option<File>,
         keystores: Keystores,

@@ -7,7 +7,7 @@ ghost use Rattle.keymanager_routes.specs.Bearers.{bearer_of, is_bearing};
 
 use http_wire::Field;
 
-/// The token that a request bears (RFC 6750, section 2.1): what stands behind `Bearer `, in letters of any case, in the
+/// The token that a request bears (RFC 6750, section 2.1): what stands after `Bearer `, in letters of any case, in the
 /// first field `Authorization` whose value begins so.
 pub(crate) fn bearer_of(fields: &[Field]) -> Option<&[u8]>
     ensures { option_map (λ token. token.now) result ≡ bearer_of (parts_of fields.now) }
@@ -43,7 +43,7 @@ fn front_of(value: &[u8]) -> &[u8]
     &value[..7]
 }
 
-/// What stands behind `Bearer `.
+/// What stands after `Bearer `.
 fn rest_of(field: &Field) -> &[u8]
     ensures { result.now ≡ drop 7 field.now.value.items }
 {

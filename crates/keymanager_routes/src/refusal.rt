@@ -89,7 +89,7 @@ fn lists_text(alloc: Global, keystores: usize, passwords: usize) -> Result<Strin
     with_count(alloc, text, passwords, " passwords")
 }
 
-/// The text with a number behind it, and a word behind that.
+/// The text with a number after it, and a word after that.
 fn with_count(alloc: Global, text: String, number: usize, word: &str) -> Result<String, AllocError>
     ensures { IfOk result (λ next. string_bytes next ≡ string_bytes text ++ decimal number ++ word.now) }
 {

@@ -29,7 +29,7 @@ impl Reply {
         })
     }
 
-    /// The same of a word behind a text. The error is want of memory.
+    /// The same of a word after a text. The error is want of memory.
     pub fn of_word(alloc: Global, status: u16, front: &str, word: &str) -> Result<Reply, AllocError>
         ensures { IfOk result (λ r. r ≡ message_reply status (front.now ++ word.now)) }
     {

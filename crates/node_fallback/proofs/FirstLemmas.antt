@@ -15,7 +15,7 @@ use Rattle.node_fallback.proofs.OrderLemmas.{GoesOn}
 
 -- ---- an answer
 
--- behind a node in front that gave nothing
+-- after a node in front that gave nothing
 ComesFrom-next : {A : Type 0} (told : Result A NodeFault → List NodeCall) (old new : List Seen) (o n : Seen) (value : A) (place : ℕ)
     → HadNothing told o n → ComesFrom told old new value place → ComesFrom told (o ∷ old) (n ∷ new) value (suc place)
 ComesFrom-next {A} told old new o n value place nothing c = record { before = c.before; now = c.now; was = c.was; is = c.is; gave = c.gave; front = front; behind = behind } where

@@ -62,7 +62,7 @@ EndsWith-all told (o ∷ old) [] (x ∷ rs) f on h = absurd f
 EndsWith-all {A} told (o ∷ old) (n ∷ new) (x ∷ rs) f on h =
     let P : Bool → Type 0 = λ b. EndsWith b old rs in subst P (sym on.0) (EndsWith-all told old new rs f.1 on.1 (omega arith))
 
--- what came behind replies that give nothing is given
+-- what came after replies that give nothing is given
 given_by-push : {A : Type 0} (why : List Cause) (rs : List (Option (Result A NodeFault))) (r : Option (Result A NodeFault)) → GoesOn rs → given_by why (rs ++ r ∷ []) ≡ given_by why (r ∷ [])
 given_by-push why [] r on = refl
 given_by-push why (None ∷ rs) r on = given_by-push why rs r on.1

@@ -26,7 +26,7 @@ pub record HadNothing {A : Type 0} (told : Result A NodeFault → List NodeCall)
   pub tried : IsTried told before reply now
 
 -- the value is what the node at this place gave and told, which was not syncing; each in front of it gave nothing, and
--- those behind it were not touched
+-- those after it were not touched
 pub record ComesFrom {A : Type 0} (told : Result A NodeFault → List NodeCall) (old new : List Seen) (value : A) (place : ℕ) : Type 0 where
   pub before : Seen
   pub now : Seen

@@ -10,7 +10,7 @@ ghost use Rattle.node_fallback.specs.InOrder.{TriedInOrder};
 ghost use Rattle.node_fallback.specs.Seen.{Seen};
 
 /// An answer of nodes that were tried in order is what one node gave and tells, which was not syncing: each node in
-/// front of it gave nothing, being syncing or telling its refusal, and those behind were not touched. Where no node
+/// front of it gave nothing, being syncing or telling its refusal, and those after it were not touched. Where no node
 /// gave anything there is one cause a node, which is what the node tells, and a node is named as syncing exactly
 /// where it was flagged so.
 pub fn first_answer_law<A>()

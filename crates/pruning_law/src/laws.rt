@@ -24,9 +24,10 @@ pub fn book_law()
     ensures nothing_more { (past : Past) (book : Book) (m : Message) → Passes (with_book past book) m → Passes past m }
 {}
 
-/// Likewise for a whole file that lists keys, each with what its record exports. The file that forgets what is old of it,
-/// at the epoch `epoch`, is merged into the pasts of the keys. Of each key, no message of the epoch `keep` epochs earlier
-/// or of a later one is refused by this that passed before; nor does one pass that did not pass before.
+/// What is said of one book holds of a whole file that lists keys, each with what its record exports. The file that
+/// forgets what is old of it, at the epoch `epoch`, is merged into the pasts of the keys. Of each key, no message of the
+/// epoch `keep` epochs earlier or of a later one is refused by this that passed before; nor does one pass that did not
+/// pass before.
 pub fn file_law()
     ensures kept { (pasts : List (PubKey × Past)) (keep epoch : ℕ) (file : File) (key : PubKey) (m : Message) → AreExports pasts file.books → IsOfKeptEpoch (kept_from keep epoch) m
         → PassesAt pasts key m → PassesAt (with_file pasts (pruning_file keep epoch file).books) key m }

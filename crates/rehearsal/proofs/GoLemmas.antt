@@ -44,13 +44,13 @@ over_both s (x ∷ xs) ys = over_both (state_after s x) xs ys
 pub goes_none : (d : Contents) → GoesBy [] d d
 goes_none d = record { goes = λ s h. (tt, h); genesis = refl }
 
--- a call, and what comes behind it
+-- a call, and what comes after it
 pub goes_call : (client : ℕ) (c : DeskCall) (r : DeskReply) (old mid new : Contents) (rest : List Event) → IsStep old c r mid → mid.genesis ≡ old.genesis → GoesBy rest mid new → GoesBy (Call client c r ∷ rest) old new
 goes_call client c r old mid new rest step same more = record { goes = goes; genesis = more.genesis ∙ same } where
   goes : (s : State) → DeskStands old s → RunsFrom s (Call client c r ∷ rest) × DeskStands new (state_over s (Call client c r ∷ rest))
   goes s h = let here = step s h in let there = more.goes (after s c r) here.1 in ((here.0, there.0), there.1)
 
--- a message that is sent under an open grant, and what comes behind it
+-- a message that is sent under an open grant, and what comes after it
 pub goes_send : (client : ℕ) (grant : OpenGrant) (m : Message) (old new : Contents) (rest : List Event) → Contains old.grants grant → grant.message ≡ Some m → GoesBy rest old new → GoesBy (Send client grant m ∷ rest) old new
 goes_send client grant m old new rest is_open says more = record { goes = goes; genesis = more.genesis } where
   goes : (s : State) → DeskStands old s → RunsFrom s (Send client grant m ∷ rest) × DeskStands new (state_over s (Send client grant m ∷ rest))

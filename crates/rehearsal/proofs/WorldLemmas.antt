@@ -81,7 +81,7 @@ pub inserted : {X E : Type 0} (r : Result (Unit {0}) E) (xs ys zs : List X) (i :
 inserted (Ok x) xs ys zs i y fine gone is within = is ∙ (ap (λ l. insert l i y) gone ∙ insert_remove xs i y within)
 inserted (Err e) xs ys zs i y fine gone is within = absurd (let bad : true ≡ false = fine in cc)
 
--- ---- events behind one another
+-- ---- events after one another
 
 pub run_both : (w : World) (xs ys : List Event) → run w (xs ++ ys) ≡ run (run w xs) ys
 run_both w [] ys = refl

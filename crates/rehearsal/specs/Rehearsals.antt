@@ -38,7 +38,7 @@ abbrev pub IsStep : ℕ → ℕ → Scene → List Event → ℕ → Type 0
 IsStep clients step scene es holder =
     Plays (scene.holder (place_drawn clients scene.state)) (key_of (place_drawn clients scene.state)) (epoch_of step) (act_drawn clients step scene.state) es holder
 
--- these are the events of each step, the latest first, and this is the scene behind them
+-- these are the events of each step, the latest first, and this is the scene after them
 abbrev pub IsPlayed : ℕ → ℕ → List (List Event) → Scene → Type 0
 IsPlayed number clients [] scene = scene ≡ first_scene number clients
 IsPlayed number clients (es ∷ earlier) scene = (before : Scene) × (holder : ℕ) × IsPlayed number clients earlier before

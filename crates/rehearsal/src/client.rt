@@ -141,7 +141,7 @@ impl Client {
         Ok(())
     }
 
-    /// Proposes a message, and where it is granted has it signed and sends it: it is put behind the others.
+    /// Proposes a message, and where it is granted has it signed and sends it: it is put after the others.
     pub(crate) fn propose(
         &mut self,
         key: PubKey,

@@ -30,7 +30,7 @@ module _ {X : Type 0} where
   get_push (x ∷ xs) zero a b e = inl e
   get_push (x ∷ xs) (suc k) a b e = ⊎_elim (λ t. inl t) (λ t. inr (ap suc t.0, t.1)) (get_push xs k a b e)
 
-  -- something is at the place, or it is behind the end
+  -- something is at the place, or it is after the end
   by_place : (xs : List X) (k : ℕ) → ((x : X) × (slice_get xs k ≡ Some x)) ⊎ (length xs ≤ k)
   by_place [] k = inr (omega arith)
   by_place (x ∷ xs) zero = inl (x, refl)
@@ -81,7 +81,7 @@ module _ {D : Type 0} (moment : D → ℕ) (leaves : D → ℕ → List ℕ → 
   pub one_made : (n : ℕ) (p q : DeskPass D) (xs : List (DeskCall × DeskReply)) → IsNew n p → Grows p xs q → (number q ≡ n) × (made q ≡ xs)
   one_made n p q xs new g = (g.number_is ∙ new.0, g.made_is ∙ ap (λ (l : List (DeskCall × DeskReply)). l ++ xs) new.2)
 
-  -- two passes, and those of the lanes behind them
+  -- two passes, and those of the lanes after them
   pub have_made : (shared : SharedDesk D) (mine answers : List (DeskCall × DeskReply)) (calls : List (List (DeskCall × DeskReply))) (p q : DeskPass D) (passes : List (DeskPass D))
       → length passes ≡ length calls
       → IsDeskPass moment leaves faults shared p × (number p ≡ 0) × (made p ≡ mine)

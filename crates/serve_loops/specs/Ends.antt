@@ -196,14 +196,14 @@ pub record OverJournal {D C : Type 0} (shows : D → List ℕ → Type 0) (momen
 abbrev pub with_nodes : {C : Type 0} → Parts C → List Asked → Parts C
 with_nodes parts nodes = record parts { nodes = nodes }
 
--- lanes were made, and behind that the journal was opened, or refused
+-- lanes were made, and after that the journal was opened, or refused
 pub record Equipped {D C : Type 0} (shows : D → List ℕ → Type 0) (moment : D → ℕ) (leaves : D → ℕ → List ℕ → Type 0) (faults : D → ℕ) (see : C → LinkSeen) (clock : Option ℕ) (options : ServeOptions) (start : Start)
     (disks_before disks_now : Disks D) (before now : Parts C) (events : List DeskEvent) (result : Status) : Type 0 where
   pub equipped : Parts C
   pub has : HasLanes before options.lanes equipped
   pub over : OverJournal shows moment leaves faults see clock options start disks_before disks_now equipped now events result
 
--- the nodes gave genesis and fork, and behind that the client was equipped
+-- the nodes gave genesis and fork, and after that the client was equipped
 pub record Started {D C : Type 0} (shows : D → List ℕ → Type 0) (moment : D → ℕ) (leaves : D → ℕ → List ℕ → Type 0) (faults : D → ℕ) (see : C → LinkSeen) (clock : Option ℕ) (options : ServeOptions)
     (disks_before disks_now : Disks D) (before now : Parts C) (events : List DeskEvent) (result : Status) : Type 0 where
   pub start : Start

@@ -49,7 +49,7 @@ abbrev pub ClosesMemory : Result (Unit {0}) ConnectionsEnd → Output → Output
 ClosesMemory (Err connections_end.Disk) before now result = ClosedBy (Some closing.DiskFault) before now result
 ClosesMemory ended before now result = (result ≡ status.OutOfMemory) × (now ≡ before)
 
--- How the output ends behind both loops: where both ended by a fault, by the lesser status. It has no line where it failed or memory
+-- How the output ends after both loops: where both ended by a fault, by the lesser status. It has no line where it failed or memory
 -- ran out.
 abbrev pub ClosesBoth : Result (Unit {0}) DutyEnd → Result (Unit {0}) ConnectionsEnd → Output → Output → Status → Type 0
 ClosesBoth (Ok done) ended before now result = ClosesConnections ended before now result
@@ -85,7 +85,7 @@ pub record Beside {C : Type 0} (see : C → LinkSeen) (clock : Option ℕ) (setu
   pub lanes_are : length lanes ≡ length now.lanes
   pub same_lanes : length now.lanes ≡ length before.lanes
 
--- so it was, and behind both loops the output was closed
+-- so it was, and after both loops the output was closed
 pub record Serves {C : Type 0} (see : C → LinkSeen) (clock : Option ℕ) (options : ServeOptions) (start : Start) (before now : Parts C) (loop answered : Calls) (lanes : List Calls) (result : Status) : Type 0 where
   pub duties_end : Result (Unit {0}) DutyEnd
   pub connections_end : Result (Unit {0}) ConnectionsEnd

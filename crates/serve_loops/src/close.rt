@@ -10,7 +10,7 @@ use keymanager_api::ConnectionsEnd;
 use program_end::{ClosingLine, Status, close};
 use std::alloc::Global;
 
-/// Closes the output behind both loops: where both ended by a fault, as the lesser status says.
+/// Closes the output after both loops: where both ended by a fault, as the lesser status says.
 pub(crate) fn close_both<O: Sink>(alloc: Global, out: &mut O, loops: LoopEnds) -> Status
     ensures closes { ClosesBoth loops.duties loops.connections (output_of O.held O.faults out.old) (output_of O.held O.faults out.new) result }
     ensures later { O.faults out.old ≤ O.faults out.new }

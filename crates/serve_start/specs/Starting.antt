@@ -55,7 +55,7 @@ pub record StartsBy (genesis : Root) (old new : List Seen) (result : Result Star
   pub asked : Asks ask.Genesis old given mid
   pub by : ByGenesis genesis mid new given result
 
--- a cause behind a comma
+-- a cause after a comma
 abbrev pub behind_comma : Cause → List ℕ
 behind_comma c = codes ", " ++ cause_text c
 

@@ -58,7 +58,7 @@ fn causes_text(alloc: Global, causes: &[Cause]) -> Result<String, AllocError>
     Ok(text)
 }
 
-/// Puts causes behind a text, each behind a comma. The error is want of memory.
+/// Puts causes after a text, each after a comma. The error is want of memory.
 fn push_causes(text: &mut String, causes: &[Cause]) -> Result<(), AllocError>
     ensures { OnOk result (string_bytes text.new ≡ string_bytes text.old ++ flat_map behind_comma causes.now) }
 {

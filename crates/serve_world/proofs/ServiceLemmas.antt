@@ -218,7 +218,7 @@ module _ {D C : Type 0} (moment : D → ℕ) (leaves : D → ℕ → List ℕ �
       let g = acts_go clock options start opened ended before now result s client (over ++ rest) are state stands in
       acts_stop moment leaves faults client opened here ended over rest g.calm state g.runs stands left path_over path_rest k files during is_left
 
-  -- ---- behind its start
+  -- ---- after its start
 
   module _ (shows : D → List ℕ → Type 0) (clock : Option ℕ) (options : ServeOptions) (start : Start) (disks_before disks_now : Disks D) (equipped now : Parts C) (noted : List DeskEvent) (ended : Status) (epoch : ℕ)
       (client : ℕ) (past : List Event) (files : Files) (visible : Show shows disks_before files) (stop : StopsIn options.genesis client (no_state options.genesis) past files)

@@ -39,7 +39,7 @@ abbrev pub lanes_events : ℕ → ℕ → ℕ → List TurnStep → List (List E
 lanes_events client lane zero steps = []
 lanes_events client lane (suc n) steps = duty_events client (lane_steps lane steps) ∷ lanes_events client (suc lane) n steps
 
--- of each thread, by its number in the history: the duty loop, the connections, one behind another, and each of so many lanes
+-- of each thread, by its number in the history: the duty loop, the connections, one after another, and each of so many lanes
 abbrev pub thread_events : {C : Type 0} → ℕ → ℕ → List TurnStep → List (Visit C) → ℕ → List Event
 thread_events client n steps visits k = slice_index_or (duty_events client (loop_steps steps) ∷ calls_of client (calls_in visits) ∷ lanes_events client 0 n steps) k []
 

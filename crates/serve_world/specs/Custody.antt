@@ -55,7 +55,7 @@ pub record ClosedThenHanded (key : PubKey) (handed : List PubKey) (file : File) 
   pub are : made ≡ front ++ (call.FinishClose key, reply.Closed book) ∷ (between ++ (call.Export handed, reply.Exported file) ∷ [])
   pub none_activates : NoneActivates made
 
--- A key that a deletion says is deleted was closed by its calls, and what the deletion hands out was exported behind that; none of its calls
+-- A key that a deletion says is deleted was closed by its calls, and what the deletion hands out was exported after that; none of its calls
 -- makes a key active.
 abbrev pub DeletionsInOrder : Type 0
 DeletionsInOrder = (keys : List PubKey) (steps : List ClientStep) (deletion : Deletion) → Follows Fits (deletion_plan keys) steps (Some deletion)
@@ -72,7 +72,7 @@ abbrev pub MadeActive : ℕ → List (DeskCall × DeskReply) → List ℕ × Lis
 MadeActive now made k = (key : PubKey) × (key_of_keystore k.0 ≡ Some key) × Contains made (call.Activate key now, reply.Active)
 
 -- The calls of an import, with what came of it; None: memory ran out. Where one of them makes a key active, whatever its reply, the file was
--- merged before all else. Where the keystores were treated it was, too, and the key of each that is imported was made active behind that.
+-- merged before all else. Where the keystores were treated it was, too, and the key of each that is imported was made active after that.
 pub record MergedFirst (file : Option File) (now : ℕ) (keystores : List (List ℕ × List ℕ)) (made : List (DeskCall × DeskReply)) (came : Option ImportEnd) : Type 0 where
   pub activates : (key : PubKey) (at : ℕ) (r : DeskReply) → Contains made (call.Activate key at, r) → (rest : List (DeskCall × DeskReply)) × BehindMerge file made rest
   pub treated : (got : List KeyStatus) → came ≡ Some (ending.Treated got)
@@ -84,9 +84,9 @@ abbrev pub ImportsInOrder : Type 0
 ImportsInOrder = (file : Option File) (now : ℕ) (keystores : List (List ℕ × List ℕ)) (steps : List ClientStep) (came : Option ImportEnd) → Follows Fits (import_plan file now keystores) steps came
     → MergedFirst file now keystores (desk_calls steps) came
 
--- Among these acts the connections closed the key, and behind that exported this file of these keys, both by these very calls, which the
--- connections made behind those earlier ones and before those later ones: what they did before the Close, between it and the Export, and
--- behind the Export is told whole. So no call of theirs between the two makes a key active.
+-- Among these acts the connections closed the key, and after that exported this file of these keys, both by these very calls, which the
+-- connections made after those earlier ones and before those later ones: what they did before the Close, between it and the Export, and
+-- after the Export is told whole. So no call of theirs between the two makes a key active.
 pub record ClosedAmong (client : ℕ) (acts : List (Act Event)) (earlier made later : List (DeskCall × DeskReply)) (key : PubKey) (handed : List PubKey) (file : File) : Type 0 where
   pub calls : ClosedThenHanded key handed file made
   pub front : List (Act Event)
@@ -102,7 +102,7 @@ abbrev pub deletes_plan : List PubKey → ClientPlan Reply
 deletes_plan keys = bind (deletion_plan keys) (λ deletion. Done (deletion_reply deletion))
 
 -- Where a connection asked for a deletion and had a reply of its plan, that is the deletion's; and each key that it says is deleted was
--- closed by an act of this connection's own visit, and what it hands out was exported behind that in the same visit, in which no call
+-- closed by an act of this connection's own visit, and what it hands out was exported after that in the same visit, in which no call
 -- makes a key active.
 abbrev pub DeletionsAnswered : {D C : Type 0} → (D → ℕ) → (D → ℕ → List ℕ → Type 0) → (D → ℕ) → (C → LinkSeen) → Type 0
 DeletionsAnswered {D} {C} moment leaves faults see = (clock : Option ℕ) (options : ServeOptions) (start : Start) (opened ended : Seen D) (before now : Parts C) (result : Status)

@@ -1,4 +1,4 @@
--- A run of the program as the validator client, as events of one client behind those of its earlier runs.
+-- A run of the program as the validator client, as events of one client after those of its earlier runs.
 use Rattle.std.specs.Prelude.{◌≡◌, ◌⊎◌, ◌≤◌, ℕ, Bool, List, [], ◌∷◌, ◌++◌, Contains, length, map, Option, Result, Ok}
 use Rattle.std.specs.List.{AllZip}
 use Rattle.std.proofs.Common.{inl, inr}
@@ -64,9 +64,9 @@ abbrev pub posted_of : {D C : Type 0} (moment : D → ℕ) (leaves : D → ℕ �
 posted_of moment leaves faults see clock options start opened closed before now result (inl s) = posted_in_lanes (length s.lanes) (steps_in s.serves)
 posted_of moment leaves faults see clock options start opened closed before now result (inr u) = []
 
--- Acts of a client behind its start: they are events of it that may happen there, whatever lanes posted is sent in them, and in the end
--- the desk stands for the state after them. A crash later than the opening leaves what a stop leaves behind the start and all of
--- these acts that were over by then, at moments within one of the calls that followed or behind the last.
+-- Acts of a client after its start: they are events of it that may happen there, whatever lanes posted is sent in them, and in the end
+-- the desk stands for the state after them. A crash later than the opening leaves what a stop leaves after the start and all of
+-- these acts that were over by then, at moments within one of the calls that followed or after the last.
 pub record Behind {D : Type 0} (moment : D → ℕ) (leaves : D → ℕ → List ℕ → Type 0) (faults : D → ℕ) (genesis : Root) (client : ℕ) (front : List Event) (acts : List (Act Event)) (posted : List (PubKey × Message)) (opened closed : Seen D) (last : Disks D) : Type 0 where
   pub at_client : own client (done_in acts) ≡ done_in acts
   pub runs : RunsFrom (no_state genesis) (front ++ done_in acts)
@@ -78,7 +78,7 @@ pub record Behind {D : Type 0} (moment : D → ℕ) (leaves : D → ℕ → List
 
 -- Over disks and with parts that were handed in, a desk was opened. Before that the nodes gave genesis and fork; then lanes were made, of
 -- the parts as they were then; and the epoch is that of a moment that the clock showed. The desk that was opened stands for what the client's
--- start leaves. There are acts that tell what was done from then on, and all such acts are those of the client behind its start. A crash up
+-- start leaves. There are acts that tell what was done from then on, and all such acts are those of the client after its start. A crash up
 -- to the opening's end leaves what a stop before the start leaves.
 pub record Serviced {D C : Type 0} (moment : D → ℕ) (leaves : D → ℕ → List ℕ → Type 0) (faults : D → ℕ) (see : C → LinkSeen) (clock : Option ℕ) (options : ServeOptions) (before now_parts : Parts C) (noted : List DeskEvent) (ended : Status) (client : ℕ) (past : List Event) (files : Files)
     (stop : StopsIn options.genesis client (no_state options.genesis) past files) (first last : Disks D) : Type 0 where

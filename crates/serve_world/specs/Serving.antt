@@ -45,9 +45,9 @@ ServeRuns {D} {C} moment leaves faults see = (clock : Option ℕ) (options : Ser
     (s : ServesDesk moment leaves faults see clock options start opened ended before now result) (client : ℕ) (acts : List (Act Event)) → AreActs client s acts
     → (state : State) → DeskStands opened.contents state → ActsRun client state acts (length s.lanes) (steps_in s.serves) ended.contents
 
--- A crash at any moment leaves what a stop leaves behind some of these acts, maybe within the next call: whichever of them were over by
--- then, calls and posts, there is one behind all of these. `here` is the desk behind their calls, and the moments of both disks lie within
--- the next call, or one behind it, or behind the last.
+-- A crash at any moment leaves what a stop leaves after some of these acts, maybe within the next call: whichever of them were over by
+-- then, calls and posts, there is one after all of these. `here` is the desk after their calls, and the moments of both disks lie within
+-- the next call, or one after it, or after the last.
 abbrev pub ServeStops : {D C : Type 0} → (D → ℕ) → (D → ℕ → List ℕ → Type 0) → (D → ℕ) → (C → LinkSeen) → Type 0
 ServeStops {D} {C} moment leaves faults see = (clock : Option ℕ) (options : ServeOptions) (start : Start) (opened ended : Seen D) (before now : Parts C) (result : Status)
     (s : ServesDesk moment leaves faults see clock options start opened ended before now result) (client : ℕ) (over rest : List (Act Event)) → AreActs client s (over ++ rest)
@@ -56,7 +56,7 @@ ServeStops {D} {C} moment leaves faults see = (clock : Option ℕ) (options : Se
     → (k : Moments) (files : Files) → IsDuring moment leaves faults here (calls_of (turns_in call_in rest)) ended path k → LeftAt leaves (disks_in ended) k files
     → StopsBehind opened.contents.genesis client state (done_in over) (done_in (over ++ rest)) files
 
--- What a thread did in its order stands so among the acts: what it did before it comes before it, and what it did later behind it.
+-- What a thread did in its order stands so among the acts: what it did before it comes before it, and what it did later after it.
 abbrev pub ActsKeepOrder : Type 0
 ActsKeepOrder = (acts : List (Act Event)) (k : ℕ) (xs ys : List Event) (e : Event) → of_thread k acts ≡ xs ++ e ∷ ys
     → (front : List (Act Event)) × (back : List (Act Event)) × (acts ≡ front ++ act k e ∷ back) × (of_thread k front ≡ xs) × (of_thread k back ≡ ys)

@@ -8,10 +8,10 @@ ghost use Rattle.serve_world.specs.Lives.{CommandLivesOn, Headline, ServiceLives
 use edge_kit::{Disk, Door};
 
 /// What a client did that served over its desk is a list of events of one client: the turns of its one history, each a
-/// call, and among them what its lanes posted, each message behind the turn that gave its grant and before the one that
+/// call, and among them what its lanes posted, each message after the turn that gave its grant and before the one that
 /// settled it. There is such a list. Each that keeps the order of each thread may happen from whichever state the desk
 /// stood for, whatever order the posts of several threads have among them, and leads to what the desk stands for in the
-/// end. A crash at any moment leaves what a stop leaves behind those acts that were over, maybe within the next call.
+/// end. A crash at any moment leaves what a stop leaves after those acts that were over, maybe within the next call.
 pub fn serve_law<D: Disk, R: Door>()
     ensures told { (see : R.Conn → LinkSeen) → ServeTold D.moment D.leaves D.faults see }
     ensures runs { (see : R.Conn → LinkSeen) → ServeRuns D.moment D.leaves D.faults see }
@@ -20,9 +20,9 @@ pub fn serve_law<D: Disk, R: Door>()
 {}
 
 /// A key that a deletion says is deleted was closed by the deletion's calls, and what the deletion hands out was exported
-/// behind that; none of these calls makes a key active. So it stands among the acts of a client too, where a connection
+/// after that; none of these calls makes a key active. So it stands among the acts of a client too, where a connection
 /// was answered so, by the calls of that very visit. An import, whatever comes of it, makes no key active before its file
-/// is merged, and each key that it says is imported it made active behind that.
+/// is merged, and each key that it says is imported it made active after that.
 pub fn custody_order_law<D: Disk, R: Door>()
     ensures deletions { DeletionsInOrder }
     ensures imports { ImportsInOrder }
@@ -32,13 +32,13 @@ pub fn custody_order_law<D: Disk, R: Door>()
 /// However a run of the program ends that was asked for the validator client, over disks that show what a stop of the
 /// client left, and of which a crash leaves such files: the client did nothing but ask its nodes what a start asks, and
 /// what a crash leaves is as before; or it started with the parts and over the disks that were handed in, and what it did
-/// is a list of events behind those before the stop, as `serve_law` says.
+/// is a list of events after those before the stop, as `serve_law` says.
 pub fn service_law<D: Disk, R: Door>()
     ensures { (see : R.Conn → LinkSeen) → ServiceGoesOn D.shows D.moment D.leaves D.faults see }
 {}
 
 /// Whatever runs of sessions, of commands on a journal and of the validator client any number of clients made, one
-/// behind a stop of the other: where all that they did so far is lawful, no two messages among those signed before and
+/// after a stop of the other: where all that they did so far is lawful, no two messages among those signed before and
 /// those that they sent are slashable, and none is sent for a key between its Close and its next activation. The last
 /// run of a client may have returned, or may go on or have been cut off between two of its acts: it counts with what it
 /// had done, where it would return.

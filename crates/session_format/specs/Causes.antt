@@ -9,7 +9,7 @@ use Rattle.session_format.specs.declared.cause.Cause.TheVariants as cause
 abbrev pub shown_bytes : List ℕ → List ℕ
 shown_bytes body = take 256 body
 
--- unsigned for this cause, with further members behind it
+-- unsigned for this cause, with further members after it
 abbrev pub unsigned_for : List ℕ → Members → Data
 unsigned_for name others =
     object (member (codes "answer") (string (codes "unsigned")) (member (codes "cause") (string name) others))

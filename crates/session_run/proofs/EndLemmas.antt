@@ -90,7 +90,7 @@ module _ {D : Type 0} (moment : D → ℕ) (leaves : D → ℕ → List ℕ → 
             (path_more moment leaves faults a.desk b.desk c.desk (made turns) (desk_calls u.steps) makes.desk u.makes.desk) refl left;
       }
 
-  -- no line was begun behind the turns
+  -- no line was begun after the turns
   abbrev none_begun : (latest : ℕ) (b : AtBench D) → Unanswered moment leaves faults domains latest (request_of domains []) b b
   none_begun latest b = record {
     steps = [];
@@ -221,7 +221,7 @@ module _ {D : Type 0} (moment : D → ℕ) (leaves : D → ℕ → List ℕ → 
         served (s.turns ++ t ∷ []) a c _ _ status.Done (run_on t line.items v.1) ((refl, refl), last_whole line t gives end some v.1.is_line, written_then h1 h2 h3 s.turns t s.answered v.2, v.5)
 
   module _ (l1 l2 l3 : Option (List ℕ)) (a b : AtBench D) (h1 h2 : Option (List ℕ)) (old new : Pending) (latest : ℕ) (s : SoFar moment leaves faults domains l1 l2 a b h1 h2 old latest) where
-    -- nothing stood behind the last newline
+    -- nothing stood after the last newline
     pub ends_empty : (line : _) (rf1 rf2 wf1 wf2 : ℕ) → GivesLine l2 l3 old new (next.Last line) → IsAtEnd l3 → nat_eq (length line.items) 0 ≡ true
         → Ends moment leaves faults domains a b (record { left = l1; held = h1; reads_failed = rf1; writes_failed = wf1 }) (record { left = l3; held = h2; reads_failed = rf2; writes_failed = wf2 }) status.Done
     ends_empty line rf1 rf2 wf1 wf2 gives end none =

@@ -86,7 +86,7 @@ read_line {l1} {l2} {l3} {turns} {old} {new} t line rest more h taken cut short 
   count = omega (arith, h.count, total, within, length-append h.read more);
 }
 
--- what stood behind the last newline was given
+-- what stood after the last newline was given
 pub read_last : {l1 l2 l3 : Option (List ℕ)} {turns : List Turn} {old : Pending} (last : List Turn) (line more : List ℕ) (total : ℕ) → HasRead l1 l2 turns old.bytes old.total → Consumes l2 l3 more
     → old.bytes ++ more ≡ line → IsShortLine line → total ≡ old.total + length more → total < input_limit → IsAtEnd l3 → map line_of last ≡ last_lines line
     → ReadsWhole l1 l3 (turns ++ last)

@@ -83,7 +83,7 @@ activated_in state [] key can off turned = true_false (is_active (key_state stat
 activated_in state (x ∷ xs) key can off turned =
     by_truth (is_active (key_state (after state x.0 x.1).states key)) (λ e. inl (activated_call state x.0 x.1 key can.0 off e)) (λ e. inr (activated_in (after state x.0 x.1) xs key can.1 e turned))
 
--- ---- a key that a step closed is not active behind it
+-- ---- a key that a step closed is not active after it
 
 closed_call : (state : State) (c : DeskCall) (r : DeskReply) (key : PubKey) → Reply state c r → IsClose key (c, r) → Is false (after state c r) key
 closed_call state (call.FinishClose k) (reply.Closed book) key can is =
@@ -223,7 +223,7 @@ silent_turns domains latest state key (t ∷ ts) can planned off =
     silent_turn state key t (steps_of ts) (view_of domains (keys_of state.keys) t latest planned.0) parts.0 off
     (λ end. silent_turns domains (moment_by latest t.request) (state_after state (calls_of t)) key ts parts.1 planned.1 end)
 
--- ---- behind each close
+-- ---- after each close
 
 within_quiet : (state : State) (steps rest : List ClientStep) → AllQuiet steps → CanMake state (desk_calls steps)
     → ((key : PubKey) → Is false (state_after state (desk_calls steps)) key → SilentUntilActive key rest) → StaysSilent rest → StaysSilent (steps ++ rest)

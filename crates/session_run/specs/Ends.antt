@@ -28,7 +28,7 @@ pub record Wires : Type 0 where
   pub reads_failed : ℕ
   pub writes_failed : ℕ
 
--- Why a closing line is written behind the answers of these turns, over a desk with its disks: the input failed within a line, or
+-- Why a closing line is written after the answers of these turns, over a desk with its disks: the input failed within a line, or
 -- passed a limit, and the desk is up; or a disk failed at the last of the turns, which are whole lines.
 abbrev pub Because : {D : Type 0} → (D → ℕ) → List Turn → AtBench D → AtBench D → Wires → Wires → ClosingLine → Type 0
 Because faults turns bench_before bench_now before now closing.ReadFault =
@@ -68,11 +68,11 @@ pub record CutShort (turns : List Turn) (before now : Wires) : Type 0 where
   pub answered : Appends before.held held (written front)
   pub cut : IsFront held now.held (text_of last)
 
--- no line was begun behind the turns: there are no steps, and the bench is the same
+-- no line was begun after the turns: there are no steps, and the bench is the same
 abbrev pub NoneBegun : {D : Type 0} → List ClientStep → AtBench D → AtBench D → Type 0
 NoneBegun steps mid bench_now = (steps ≡ []) × (bench_now ≡ mid)
 
--- each turn was answered, and of the line behind them nothing was written: none was begun, or the next one, at a desk that was up
+-- each turn was answered, and of the line after them nothing was written: none was begun, or the next one, at a desk that was up
 pub record LeavesOff {D : Type 0} (turns : List Turn) (line : List ℕ) (steps : List ClientStep) (mid bench_now : AtBench D) (before now : Wires) : Type 0 where
   pub pending : List ℕ
   pub total : ℕ
@@ -81,8 +81,8 @@ pub record LeavesOff {D : Type 0} (turns : List Turn) (line : List ℕ) (steps :
   pub up : mid.desk.contents.torn ≡ None
   pub is_next : NoneBegun steps mid bench_now ⊎ IsNext now.left pending line
 
--- What each status says of the turns: what was read, what was written, and why. `mid` is the bench behind the last turn, and `steps`
--- are those of a line that was begun behind it and is not answered.
+-- What each status says of the turns: what was read, what was written, and why. `mid` is the bench after the last turn, and `steps`
+-- are those of a line that was begun after it and is not answered.
 abbrev pub EndsBy : {D : Type 0} → (D → ℕ) → List Turn → List ℕ → List ClientStep → AtBench D → AtBench D → AtBench D → Wires → Wires → Status → Type 0
 EndsBy faults turns line steps bench_before mid bench_now before now status.Done =
     NoneBegun steps mid bench_now × ReadsWhole before.left now.left turns × Appends before.held now.held (written turns) × (bench_now.desk.contents.torn ≡ None)
@@ -104,7 +104,7 @@ EndsBy faults turns line steps bench_before mid bench_now before now status.File
 abbrev pub all_made : List Turn → List ClientStep → List (DeskCall × DeskReply)
 all_made turns steps = made turns ++ desk_calls steps
 
--- How a session ends, over the bench and the wires before it and now. Some lines were served, a turn each, and behind them one may
+-- How a session ends, over the bench and the wires before it and now. Some lines were served, a turn each, and after them one may
 -- have been begun and not answered, where memory ran out. What the status says, the images of the disks at each moment, and the
 -- laws are of these turns.
 pub record Ends {D : Type 0} (moment : D → ℕ) (leaves : D → ℕ → List ℕ → Type 0) (faults : D → ℕ) (domains : Domains) (bench_before bench_now : AtBench D) (before now : Wires) (result : Status) : Type 0 where

@@ -16,7 +16,7 @@ abbrev pub AreShort : List (List ℕ) → Type 0
 AreShort [] = Unit {0}
 AreShort (line ∷ lines) = IsShortLine line × AreShort lines
 
--- the lines of what stands behind the last newline
+-- the lines of what stands after the last newline
 abbrev pub last_lines : List ℕ → List (List ℕ)
 last_lines line = if length line == 0 then [] else line ∷ []
 
@@ -62,7 +62,7 @@ PassesLimit limit.Input pending total = total ≡ input_limit
 PassesLimit limit.File pending total = ⊥
 PassesLimit limit.Keys pending total = ⊥
 
--- reading stopped behind the lines of the turns, at what is such
+-- reading stopped after the lines of the turns, at what is such
 pub record StopsReading (left_before left_now : Option (List ℕ)) (turns : List Turn) (IsSuch : List ℕ → ℕ → Type 0) : Type 0 where
   pub pending : List ℕ
   pub total : ℕ

@@ -17,8 +17,8 @@ use Rattle.desk_machine.specs.declared.call.DeskReply.{DeskReply}
 use Rattle.desk_machine.specs.declared.call.DeskReply.TheVariants as reply
 use Rattle.session_run.specs.Durable.{CoversKey}
 
--- The images that the last disks may have at each moment from this on: up to the moments behind the first call they open to what
--- lasts before it or after it, from there to the moments behind the second to what lasts before that or after it, and so on; behind
+-- The images that the last disks may have at each moment from this on: up to the moments after the first call they open to what
+-- lasts before it or after it, from there to the moments after the second to what lasts before that or after it, and so on; after
 -- the last call to what lasts in the end.
 abbrev pub FollowCalls : {D : Type 0} → (D → ℕ) → (D → ℕ → List ℕ → Type 0) → Root → Disks D → State → List (DeskCall × DeskReply) → List Moments → Moments → Type 0
 FollowCalls moment leaves genesis last state [] [] from = NotAfter from (now_of moment last) × Between leaves last from (now_of moment last) (MayOpen genesis state)
@@ -38,12 +38,12 @@ granted_by c r = None
 abbrev pub OpensCovered : Root → PubKey × Message → Files → Type 0
 OpensCovered genesis sent files = (l : Lasting) × Opens genesis files l × CoversKey l.keys sent.0 sent.1
 
--- so does each image from these moments on: in each of the calls that follow, whose ends these are, and behind the last
+-- so does each image from these moments on: in each of the calls that follow, whose ends these are, and after the last
 abbrev pub CoveredFrom : {D : Type 0} → (D → ℕ) → (D → ℕ → List ℕ → Type 0) → Root → Disks D → List Moments → Moments → PubKey × Message → Type 0
 CoveredFrom moment leaves genesis last [] from sent = Between leaves last from (now_of moment last) (OpensCovered genesis sent)
 CoveredFrom moment leaves genesis last (m ∷ ms) from sent = Between leaves last from m (OpensCovered genesis sent) × CoveredFrom moment leaves genesis last ms m sent
 
--- a message that a call was granted is covered from the moments behind that call on
+-- a message that a call was granted is covered from the moments after that call on
 abbrev pub GrantsLast : {D : Type 0} → (D → ℕ) → (D → ℕ → List ℕ → Type 0) → Root → Disks D → List (DeskCall × DeskReply) → List Moments → Type 0
 GrantsLast moment leaves genesis last [] ms = Unit {0}
 GrantsLast moment leaves genesis last (x ∷ made) [] = ⊥
@@ -56,7 +56,7 @@ pub record Follows {D : Type 0} (moment : D → ℕ) (leaves : D → ℕ → Lis
   pub follow : FollowCalls moment leaves genesis last state made moments (now_of moment first)
   pub granted : GrantsLast moment leaves genesis last made moments
 
--- The calls led from the first desk to the last, and by the moments of both disks behind each of them the images follow the calls.
+-- The calls led from the first desk to the last, and by the moments of both disks after each of them the images follow the calls.
 -- From now on each opens to what the desk stands for.
 pub record Images {D : Type 0} (moment : D → ℕ) (leaves : D → ℕ → List ℕ → Type 0) (faults : D → ℕ) (first last : Seen D) (made : List (DeskCall × DeskReply)) : Type 0 where
   pub calls : Path moment leaves faults first made last

@@ -22,8 +22,9 @@ abbrev pub AsksFor : Turn → Op → Type 0
 AsksFor t asked = (q : Request) × (t.request ≡ Ok q) × (q.op ≡ asked)
 
 -- A deletion that was answered without error and comes again, where no key of it became active between, leaves the desk as it found
--- it and asks the signer nothing; and it is answered with the same file, where nothing was merged or pruned between. `a` is the state
--- of the desk before the first, and `c` before the second; between them are calls, and stops of the program.
+-- it and asks the signer nothing; and it is answered with the same file, where between no file that lists a key of it was merged, and
+-- none of its keys pruned. `a` is the state of the desk before the first, and `c` before the second; between them are calls, and stops of
+-- the program.
 abbrev pub DeletesOnce : Type 0
 DeletesOnce = (domains later : Domains) (kept kept_then : List PubKey) (latest latest_then : ℕ) (keys : List PubKey) (first second : Turn) (a c : State) (between : List Change) (statuses : List KeyStatus) (file : File)
     → AsksFor first (op.Delete keys) → IsPlanned domains kept latest first → first.answer ≡ answer.Deleted statuses file → AreFine statuses
@@ -31,7 +32,7 @@ DeletesOnce = (domains later : Domains) (kept kept_then : List PubKey) (latest l
     → Path Changes (state_after a (calls_of first)) between c → ((key : PubKey) → Contains keys key → Never (Activates key) between)
     → AsksFor second (op.Delete keys) → IsPlanned later kept_then latest_then second → CanMake c (calls_of second)
     → (state_after c (calls_of second) ≡ c) × (told_in second.steps ≡ [])
-    × (Never MergesOrPrunes between → (again : List KeyStatus) (file_again : File) → second.answer ≡ answer.Deleted again file_again → file_again ≡ file)
+    × (((key : PubKey) → Contains keys key → Never (MergesOrPrunes key) between) → (again : List KeyStatus) (file_again : File) → second.answer ≡ answer.Deleted again file_again → file_again ≡ file)
 
 -- An import that was answered without error and comes again, where no deletion of a key of it was begun between, leaves every record,
 -- state and watch as it found them, and asks the signer nothing, also where it is refused then.

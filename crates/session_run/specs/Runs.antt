@@ -14,7 +14,7 @@ use Rattle.session_run.specs.Silent.{StartsSilent, StaysSilent}
 use Rattle.session_run.specs.Turns.{Turn, AllPlanned, AskAsWritten, steps_of, made, told}
 
 -- A run: turns one after another, from a bench to a bench, each begun at a desk that was up. So only at the last may the disk
--- have failed, and behind it nothing is served.
+-- have failed, and after it nothing is served.
 abbrev pub Run : {D : Type 0} → (D → ℕ) → (D → ℕ → List ℕ → Type 0) → (D → ℕ) → Domains → ℕ → List Turn → AtBench D → AtBench D → Type 0
 Run moment leaves faults domains latest [] before now = now ≡ before
 Run moment leaves faults domains latest (t ∷ ts) before now = (mid : AtBench _) × (before.desk.contents.torn ≡ None) × (t.request ≡ request_of domains t.line)

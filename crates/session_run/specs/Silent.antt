@@ -37,7 +37,7 @@ SilentUntilActive key (s ∷ steps) = IsAmong (IsActivation key) (step_calls s) 
 abbrev pub StartsSilent : State → List ClientStep → Type 0
 StartsSilent state steps = (key : PubKey) → is_active (key_state state.states key) ≡ false → SilentUntilActive key steps
 
--- and behind each step that closes a key
+-- and after each step that closes a key
 abbrev pub StaysSilent : List ClientStep → Type 0
 StaysSilent [] = Unit {0}
 StaysSilent (s ∷ steps) = ((key : PubKey) → IsAmong (IsClose key) (step_calls s) → SilentUntilActive key steps) × StaysSilent steps

@@ -136,7 +136,7 @@ impl<D: Disk, S: Signer> Bench<D, S> {
         }
     }
 
-    /// Takes keys in, behind an interchange file, if there is one.
+    /// Takes keys in, after an interchange file, if there is one.
     fn import(
         &mut self,
         alloc: Global,

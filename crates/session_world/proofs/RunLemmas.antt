@@ -33,7 +33,7 @@ use Rattle.session_world.proofs.StopLemmas.{calls_stop, later, past_stays, sessi
 use Rattle.session_world.proofs.StartLemmas.{starts_again, starts_keep}
 use Rattle.session_world.proofs.WholeLemmas.{whole_over}
 
--- a stop behind more events, where these come first
+-- a stop after more events, where these come first
 pub further : (genesis : Root) (client : ℕ) (state : State) (front first events : List Event) (c : Files) → RunsFrom state front → StopsBehind genesis client (state_over state front) first events c → StopsBehind genesis client state (front ++ first) (front ++ events) c
 unfolding later
 further genesis client state front first events c runs s = record {

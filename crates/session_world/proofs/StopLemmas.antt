@@ -1,4 +1,4 @@
--- That a crash at any moment of a session is a stop behind some of its events, or within the next.
+-- That a crash at any moment of a session is a stop after some of its events, or within the next.
 use Rattle.std.proofs.Common.{◌≡◌, ◌⊎◌, ⊎_elim, ℕ, List, [], ◌∷◌, ◌++◌, Option, Some, None, refl, sym, ◌∙◌, ap, subst, append_assoc, arith}
 use Rattle.std.proofs.lemmas.Grind.{flat_map-append}
 use Rattle.edge_kit.specs.declared.bytes.Root.{Root}
@@ -47,7 +47,7 @@ here genesis client state events files within next stop = record {
 between : (genesis : Root) (client : ℕ) (state : State) (events : List Event) (files : Files) → MayOpen genesis state files → StopsIn genesis client state events files
 between genesis client state events files o = here genesis client state events files None tt (stops_between genesis state files o)
 
--- behind the first events
+-- after the first events
 unfoldable pub later : (genesis : Root) (client : ℕ) (state : State) (xs ys : List Event) (files : Files) → RunsFrom state xs → StopsIn genesis client (state_over state xs) ys files → StopsIn genesis client state (xs ++ ys) files
 later genesis client state xs ys files runs s = record {
   front = xs ++ s.front;
@@ -187,7 +187,7 @@ module _ {D : Type 0} (moment : D → ℕ) (leaves : D → ℕ → List ℕ → 
       let Q : List (DeskCall × DeskReply) → Type 0 = λ l. (path : Path moment leaves faults first l last) (k : Moments) (files : Files) → IsDuring moment leaves faults first l last path k → LeftAt leaves (disks_in last) k files → StopsIn genesis client state es files in
       subst Q are (λ path k files during leaves_it. events_stop genesis first last es none is path state runs stands left k files during leaves_it)
 
-  -- ---- behind the calls that were over
+  -- ---- after the calls that were over
 
   calls_both : (xs ys : List (DeskCall × DeskReply)) → calls_of client (xs ++ ys) ≡ calls_of client xs ++ calls_of client ys
   calls_both [] ys = refl

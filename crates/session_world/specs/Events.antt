@@ -44,7 +44,7 @@ steps_events client steps = flat_map (step_events client) steps
 abbrev pub turn_events : ℕ → List Turn → List Event
 turn_events client turns = steps_events client (steps_of turns)
 
--- a session: behind its lines, the calls of the line that was not answered, under which nothing is sent
+-- a session: after its lines, the calls of the line that was not answered, under which nothing is sent
 abbrev pub session_events : {D : Type 0} (moment : D → ℕ) (leaves : D → ℕ → List ℕ → Type 0) (faults : D → ℕ) (domains : Domains) (first last : AtBench D) (before now : Wires) (result : Status)
     → Ends moment leaves faults domains first last before now result → ℕ → List Event
 session_events moment leaves faults domains first last before now result ends client = turn_events client ends.turns ++ calls_of client (desk_calls ends.unanswered.steps)

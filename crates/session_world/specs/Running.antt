@@ -1,4 +1,4 @@
--- A run of the program that serves a session, as events of one client behind those of its earlier runs.
+-- A run of the program that serves a session, as events of one client after those of its earlier runs.
 use Rattle.std.specs.Prelude.{◌≡◌, ◌⊎◌, ℕ, Bool, false, List, [], ◌∷◌, ◌++◌, Option}
 use Rattle.edge_kit.specs.declared.bytes.Root.{Root}
 use Rattle.edge_kit.specs.declared.disk.Disks.{Disks}
@@ -32,7 +32,7 @@ use Rattle.session_world.specs.Stopping.{StopsIn, StopsBehind}
 abbrev pub started : (genesis : Root) (client : ℕ) (past : List Event) (files : Files) → StopsIn genesis client (no_state genesis) past files → Bool → List Event
 started genesis client past files stop watch = stop.front ++ Crash client stop.within stop.done 0 watch ∷ []
 
--- what a crash at these moments leaves of the disks is what a stop leaves behind the first few events of the client
+-- what a crash at these moments leaves of the disks is what a stop leaves after the first few events of the client
 abbrev pub LeftBy : {D : Type 0} → (D → ℕ → List ℕ → Type 0) → Root → ℕ → List Event → Disks D → Moments → Type 0
 LeftBy leaves genesis client events disks k = (files : Files) → LeftAt leaves disks k files → StopsIn genesis client (no_state genesis) events files
 
@@ -46,10 +46,10 @@ pub record Idle {D : Type 0} (moment : D → ℕ) (leaves : D → ℕ → List �
   pub untouched : IsUntouched before now
   pub none : noted ≡ []
 
--- A desk was opened, and lines were served: what they did are events of the client that may happen behind its start, in the state
+-- A desk was opened, and lines were served: what they did are events of the client that may happen after its start, in the state
 -- that the start left, in which no key without a past has a state; so much is sent; and in the end the desk stands for the state after them. A crash up to the opening's end
--- leaves what a stop before the start leaves; and one later, what a stop leaves behind the start and all events of the lines that were
--- over by then, as the disks stood behind them, at moments within one of the calls that followed or behind the last.
+-- leaves what a stop before the start leaves; and one later, what a stop leaves after the start and all events of the lines that were
+-- over by then, as the disks stood after them, at moments within one of the calls that followed or after the last.
 pub record Served {D : Type 0} (moment : D → ℕ) (leaves : D → ℕ → List ℕ → Type 0) (faults : D → ℕ) (genesis : Root) (fork : Fork) (watch : Bool) (before now : Outside) (noted : List DeskEvent) (ended : Status) (client : ℕ) (past : List Event) (files : Files)
     (stop : StopsIn genesis client (no_state genesis) past files) (first last : Disks D) : Type 0 where
   pub opened : Seen D

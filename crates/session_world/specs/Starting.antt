@@ -18,7 +18,7 @@ use Rattle.session_world.specs.Stopping.{StopsIn}
 abbrev pub Show : {D : Type 0} → (D → List ℕ → Type 0) → Disks D → Files → Type 0
 Show shows disks files = shows disks.first files.0 × shows disks.second files.1
 
--- where the disks show files that a stop behind events of the client left, the desk that is opened over them, at this moment and with
+-- where the disks show files that a stop after events of the client left, the desk that is opened over them, at this moment and with
 -- the watch on or off, stands for the state after that stop, which starts the client again just so
 abbrev pub StartsAgain : {D : Type 0} → (D → List ℕ → Type 0) → (D → ℕ) → (D → ℕ → List ℕ → Type 0) → (D → ℕ) → Type 0
 StartsAgain {D} shows moment leaves faults = (disks : Disks D) (genesis : Root) (watch : Bool) (now : ℕ) (desk : Seen D) → Opening shows moment leaves faults disks genesis watch now desk

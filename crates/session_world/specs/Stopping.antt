@@ -39,16 +39,16 @@ pub record StopsIn (genesis : Root) (client : ℕ) (state : State) (events : Lis
   pub runs : (now : ℕ) (watch : Bool) → RunsFrom state (front ++ Crash client within done now watch ∷ [])
   pub opens : Opens genesis files (lasting_stopped (state_over state front) within done)
 
--- such a stop behind all of the events that came first
+-- such a stop after all of the events that came first
 pub record StopsBehind (genesis : Root) (client : ℕ) (state : State) (first events : List Event) (files : Files) : Type 0 where
   pub stop : StopsIn genesis client state events files
   pub more : List Event
   pub front_is : stop.front ≡ first ++ more
 
 -- A crash at any moment of a session leaves what such a stop leaves, where the files from before open to what the desk stood for.
--- Whichever turns were over by then, as the disks stood behind them: there is one behind all events of these, so that what was sent in
+-- Whichever turns were over by then, as the disks stood after them: there is one after all events of these, so that what was sent in
 -- them is among what came before the stop. `here` is the bench between the turns that were over and the rest, and the moments of both
--- disks lie within one of the calls that followed, or behind the last.
+-- disks lie within one of the calls that followed, or after the last.
 abbrev pub SessionStops : {D : Type 0} → (D → ℕ) → (D → ℕ → List ℕ → Type 0) → (D → ℕ) → Type 0
 SessionStops {D} moment leaves faults = (domains : Domains) (first last : AtBench D) (before now : Wires) (result : Status) (ends : Ends moment leaves faults domains first last before now result)
     (over rest : List Turn) (here : AtBench D) → ends.turns ≡ over ++ rest → Run moment leaves faults domains 0 over first here → Run moment leaves faults domains (moment_after 0 over) rest here ends.mid

@@ -10,8 +10,8 @@ use edge_kit::Disk;
 /// desk stood for, one after the other; the messages that are sent in it are those of its signed lines, in order;
 /// and at the end the desk stands for the state after them. Where the files that a crash at the start would have
 /// left open to what the desk stood for, those that a crash at any moment of the session leaves open to what a stop
-/// leaves behind the first few of these events, maybe within the next; and those of the lines that were over by then,
-/// as the disks stood behind them, are among these few. Over disks that tell nothing of what they leave, as real files,
+/// leaves after the first few of these events, maybe within the next; and those of the lines that were over by then,
+/// as the disks stood after them, are among these few. Over disks that tell nothing of what they leave, as real files,
 /// this says nothing of files.
 pub fn session_law<D: Disk>()
     ensures runs { SessionRuns D.moment D.leaves D.faults }
@@ -19,7 +19,7 @@ pub fn session_law<D: Disk>()
 {}
 
 /// So it is with calls of a desk, one after another, under which nothing is sent: each is an event, and a crash leaves
-/// what a stop leaves behind those that were over by then.
+/// what a stop leaves after those that were over by then.
 pub fn calls_law<D: Disk>()
     ensures runs { CallsRun D.moment D.leaves D.faults }
     ensures stops { CallsStop D.moment D.leaves D.faults }
@@ -36,7 +36,7 @@ pub fn start_law<D: Disk>()
 
 /// However a run of the program that was asked for a session, a merge or a showing ends, over disks that show what a
 /// stop of the client left, and of which a crash leaves such files: the client did nothing, and what a crash leaves is
-/// as before; or it started, and what its lines did, as `session_law` says, or its one call, are events of it behind
+/// as before; or it started, and what its lines did, as `session_law` says, or its one call, are events of it after
 /// those before the stop. So the runs over one journal, one after another, are one list of events of one client, which
 /// `handover_law` speaks of.
 pub fn run_law<D: Disk>()

@@ -232,7 +232,7 @@ fn sign_copy(alloc: Global, answer: &SignReply) -> Result<SignReply, AllocError>
     }
 }
 
-/// Likewise, where a key is to be taken in.
+/// The same answer where a key is to be taken in.
 fn import_copy(alloc: Global, answer: &ImportReply) -> Result<ImportReply, AllocError>
     ensures same { IfOk result (λ copy. copy ≡ answer.now) }
     ensures given { OnOk result (import_given answer.now ≡ true) }

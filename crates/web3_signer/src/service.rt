@@ -54,7 +54,7 @@ impl<L: Link + Drop> Web3Signer<L> {
         }
     }
 
-    /// Likewise, and it tells each call with its answer, which it keeps: a list that grows with each call.
+    /// A client of the same kind that tells each call with its answer, which it keeps: a list that grows with each call.
     pub fn telling(link: L, url: ServiceUrl) -> Self
         ensures link { result.link ≡ link }
         ensures url { result.url ≡ url }

@@ -1,4 +1,4 @@
-use Rattle.std.proofs.Common.{sym, ◌∙◌, ap}
+use Rattle.std.proofs.Common.{refl, sym, ◌∙◌, ap}
 use Rattle.node_calls.specs.declared.ask.Ask.TheVariants as ask
 use Rattle.call_plans.proofs.PathLemmas.{carries_cut}
 use Rattle.duty_turns.specs.Standing.{with_attesters}
@@ -17,10 +17,10 @@ returns g c = λ s h.
     let epoch = c.epoch_of-epoch.result in
     let take_in = with_attesters epoch c.args.indices in
     let came =
-    came_at (ask.Attester epoch c.in-Ok.copy) (ask.Attester epoch c.args.indices) (answered_plan take_in s) s _ _ c.ask_or_tell-asked.result (ap (ask.Attester epoch) (c.in-Ok.ensures ∙ c.as_slice.ensures))
-    (c.ask_or_tell-asked.ensures (answered_plan take_in s) s (sym h.is.slot) (tells_none take_in s))
+    came_at (ask.Attester epoch c.in-Ok.copy) (ask.Attester epoch c.args.indices) (answered_plan take_in s s) s _ _ c.ask_or_tell-asked.result (ap (ask.Attester epoch) (c.in-Ok.ensures ∙ c.as_slice.ensures))
+    (c.ask_or_tell-asked.ensures (answered_plan take_in s s) s (sym h.is.slot) (tells_none take_in s s refl))
     in
     parts_at _ (λ e. attesters_plan e c.args.indices s) _ _ _ epoch (epoch_of s.slot) (c.epoch_of-epoch.ensures.epoch ∙ ap (λ n. epoch_of n) h.is.slot)
     (attesters_asked _ epoch c.args.indices s _ _ _ (sym c.is_empty.ensures ∙ c.if-is_empty.false)
-    (parts_asked _ (ask.Attester epoch c.args.indices) take_in s _ _ c.ask_or_tell-asked.result _ came
-    (c.take_attesters.ensures s h (came_fit (ask.Attester epoch c.args.indices) (answered_plan take_in s) s _ _ c.ask_or_tell-asked.result came))))
+    (parts_asked _ (ask.Attester epoch c.args.indices) take_in s s _ _ c.ask_or_tell-asked.result _ came
+    (c.take_attesters.ensures s h (came_fit (ask.Attester epoch c.args.indices) (answered_plan take_in s s) s _ _ c.ask_or_tell-asked.result came))))

@@ -6,4 +6,4 @@ use Rattle.duty_asks.proofs.QuietLemmas.{parts_then}
 use Rattle.duty_asks.proofs.duties.ask_rows.Goals as goal
 
 pub returns : goal.returns
-returns g c = λ s h. parts_then _ _ (ask_plan (ask.Proposer (epoch_of s.slot)) (with_proposers (epoch_of s.slot)) s) (voters_plan c.args.active.now) _ _ _ c.ask_proposers.result c.ask_voters.result c.in-Ok.is (c.ask_proposers.ensures s h) (λ t k. c.ask_voters.ensures t k)
+returns g c = λ s h. parts_then _ _ (ask_plan (ask.Proposer (epoch_of s.slot)) (with_proposers (epoch_of s.slot)) s s) (voters_plan c.args.active.now) _ _ _ c.ask_proposers.result c.ask_voters.result c.in-Ok.is (c.ask_proposers.ensures s h) (λ t k. c.ask_voters.ensures t k)

@@ -2,11 +2,12 @@ use Rattle.std.proofs.Common.{◌≡◌, ◌∙◌, ◌++◌, List, length, true
 use Rattle.std.specs.Prelude.{not}
 use Rattle.duty_schedule.specs.declared.rows.Duty.{Duty}
 use Rattle.duty_turns.specs.Times.{next_slot, votes_start}
-use Rattle.duty_turns.specs.Turns.{at_slot, blocks_in, close_plan, is_block, votes_in, votes_plan}
+use Rattle.duty_turns.specs.Turns.{at_moment, at_slot, blocks_in, close_plan, is_block, votes_in, votes_plan}
+use Rattle.duty_asks.specs.Placed.{HoldsPlaced}
 use Rattle.duty_workers.specs.Places.{are_placed}
 use Rattle.duty_work.proofs.PlacedLemmas.{kind_placed}
 use Rattle.duty_work.proofs.RunLemmas.{closed_as, holds_at, short, votes_done, votes_short}
-use Rattle.duty_work.proofs.TurnLemmas.{missed_so, votes_late}
+use Rattle.duty_work.proofs.TurnLemmas.{missed_so, moved_so, votes_late}
 use Rattle.duty_work.proofs.work.cast_votes.Goals as goal
 
 pub do_duties-requires-clause-places : goal.do_duties-requires-clause-places
@@ -14,12 +15,12 @@ do_duties-requires-clause-places g c = λ lifetimes outlives. subst (λ (l : Lis
 
 pub returns-then-is_missed-clause-runs : goal.returns-then-is_missed-clause-runs
 returns-then-is_missed-clause-runs g c = λ start nodes s h.
-    let later = c.slot_of-held.result in
-    closed_as g.K.DeskCalls.leads start _ c.args.setup.now (votes_plan c.args.setup.now s c.args.due.now c.args.proposed.now c.args.reached) s (at_slot later s) _ _ c.args.held.now.slot c.args.blocks.now (blocks_in c.args.due.now) c.args.proposed.now c.args.proposed.now c.close.result
-    (votes_late c.args.setup.now s c.args.due.now c.args.proposed.now c.args.reached later
-    (missed_so c.args.setup.now.genesis_time c.args.held.now.slot c.votes_start-moment.result s.slot c.args.reached votes_start c.is_missed.result true c.is_missed.ensures c.if-is_missed.true c.votes_start-moment.ensures h.is.slot) c.slot_of-held.ensures)
-    h.is.slot c.requires.blocks refl (holds_at c.args.held.now _ s later h refl refl refl refl refl refl)
-    (c.close.ensures.runs start _ _ (at_slot later s) h.is.active)
+    let moved = moved_so (λ x. HoldsPlaced c.close.entry.held.now x) c.args.setup.now.genesis_time c.args.held.now.slot c.votes_start-moment.result c.args.reached s votes_start c.votes_start-moment.ensures h.is.slot (c.go_to.ensures s h) in
+    closed_as g.K.DeskCalls.leads start _ c.args.setup.now (votes_plan c.args.setup.now s c.args.due.now c.args.proposed.now c.args.reached) s (at_moment c.args.setup.now.genesis_time (votes_start c.args.setup.now.genesis_time s.slot) c.args.reached s) _ _ c.args.held.now.slot c.args.blocks.now (blocks_in c.args.due.now) c.args.proposed.now c.args.proposed.now c.close.result
+    (votes_late c.args.setup.now s c.args.due.now c.args.proposed.now c.args.reached
+    (missed_so c.args.setup.now.genesis_time c.args.held.now.slot c.votes_start-moment.result s.slot c.args.reached votes_start c.is_missed.result true c.is_missed.ensures c.if-is_missed.true c.votes_start-moment.ensures h.is.slot))
+    h.is.slot c.requires.blocks refl moved
+    (c.close.ensures.runs start _ _ _ moved.is.active)
 
 pub returns-in_default-clause-runs : goal.returns-in_default-clause-runs
 returns-in_default-clause-runs g c = λ start nodes s h. short g.K.DeskCalls.leads start _ _ s _
