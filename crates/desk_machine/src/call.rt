@@ -177,7 +177,7 @@ pub enum DeskReply {
     Refused(Verdict),
     /// `have` keys are kept, and with the `new` ones there would be more than 65,536.
     TooManyKeys { have: u64, new: u64 },
-    /// The current file has the generation 2^64 - 1, after which there is none. The desk is as before.
+    /// The current file has the generation 2^64 - 1, behind which there is none. The desk is as before.
     LastGeneration,
     /// The batch has more than 2^32 - 1 bytes, or the journal of `size` bytes would have more than 2^40 with
     /// the `wanted` ones; a compacted file begins anew, with a `size` of 0. But for the latest moment, the desk
