@@ -70,7 +70,7 @@ response_never room buf full o = record {
       absurd (omega (arith, over, small));
 }
 
--- ---- the fields behind the last chunk
+-- ---- the fields after the last chunk
 
 pub trailer_whole : (buf : List ℕ) (headers : List HeaderSpan) (r : ℕ × ℕ) → length headers ≡ 64 → IsSectionOf buf 0 headers r → HasFront IsTrailerText buf
 trailer_whole buf headers r full of = record {

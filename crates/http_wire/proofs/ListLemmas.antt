@@ -1,7 +1,7 @@
 -- Lists that are split in two ways.
 use Rattle.std.proofs.Common.{◌≡◌, ℕ, ◌≤◌, List, [], ◌∷◌, ◌++◌, length, refl, sym, arith}
 
--- a list with one more at its end is split before the last, or behind it
+-- a list with one more at its end is split before the last, or after it
 pub data SnocSplit (a : List ℕ) (x : ℕ) (text rest : List ℕ) : Type 0 where
   behind : rest ≡ [] → text ≡ a ++ x ∷ [] → SnocSplit a x text rest
   before : (front : List ℕ) → rest ≡ front ++ x ∷ [] → a ≡ text ++ front → SnocSplit a x text rest

@@ -55,7 +55,7 @@ last_stands l t a w b s f (no_trailer line tail says stuck split) e =
     let lines = line_unique l (t ++ a) line (tail ++ b) 0 0 s says (e ∙ ap (λ u. u ++ b) split ∙ append_assoc line tail b) in
     (stops_whole IsTrailerText head_limit tail b stuck).none t a f (sym lines.2)
 
--- the rest behind two chunks that stand at one place
+-- the rest after two chunks that stand at one place
 rest_same : (c d : Chunk) (x y : List ℕ) → IsChunk c → IsChunk d → c.line ++ ((c.bytes ++ crlf_bytes) ++ x) ≡ d.line ++ ((d.bytes ++ crlf_bytes) ++ y) → (length c.bytes ≡ length d.bytes) × (x ≡ y)
 rest_same c d x y p q e =
     let lines = line_unique c.line ((c.bytes ++ crlf_bytes) ++ x) d.line ((d.bytes ++ crlf_bytes) ++ y) (length c.bytes) (length d.bytes) p.size q.size e in
@@ -114,7 +114,7 @@ body_within true Unsaid x a y b v s long e =
 body_within false Unsaid x a y b v s long e = long
 body_within to_end Bad x a y b v s long e = s
 
--- requests that begin alike have the same fields, and the same behind their heads
+-- requests that begin alike have the same fields, and the same after their heads
 alike : (P : List Pair → List ℕ → Type 0) (x a y b : List ℕ) (r : Request) → (p : SpellsRequest x (Some a) r) (q : BeginsRequest P y) → x ++ a ≡ y ++ b
     → P (parts_of r.fields.items) q.tail × (p.tail ++ a ≡ q.tail ++ b)
 alike P x a y b r p q e =

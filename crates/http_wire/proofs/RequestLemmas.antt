@@ -34,7 +34,7 @@ coded_fields fields f e = ap (λ (o : Option Pair). option_map (λ p. p.1) o) (f
 abbrev pub with_body : Request → Vec ℕ Global → Request
 with_body r body = record r { body = body }
 
--- the body that was read behind a head
+-- the body that was read after a head
 pub body_read : (b c : Option (List ℕ)) (head : Request) (body : Vec ℕ Global) → Took b c (PlainStep false (parts_of head.fields.items) c (Ok tt) body.items) → Took b c (RequestBodyStep head c (Ok (with_body head body)))
 body_read b c head body took = record { bytes = took.bytes; taken = took.taken; holds = (record { method = refl; target = refl; fields = refl }, took.holds) }
 
@@ -50,7 +50,7 @@ same_fault fields left fault.OutOfMemory body other taken p = p
 pub body_faulty : (b c : Option (List ℕ)) (head : Request) (body : List ℕ) (f : WireFault) → Took b c (PlainStep false (parts_of head.fields.items) c (Err f) body) → Took b c (RequestBodyStep head c (Err f))
 body_faulty b c head body f took = record { bytes = took.bytes; taken = took.taken; holds = same_fault (parts_of head.fields.items) c f body [] took.bytes took.holds }
 
--- a head, and the body behind it
+-- a head, and the body after it
 request_spelled : (left : Option (List ℕ)) (head r : Request) (front rest : List ℕ) → IsRequestHead front head → RequestBodyStep head left (Ok r) rest → SpellsRequest (front ++ rest) left r
 request_spelled left head r front rest first step =
     let same : HasHeadOf head r = step.0 in
@@ -66,7 +66,7 @@ request_spelled left head r front rest first step =
       body = (let B : List Pair → Type 0 = λ fields. IsBody false (framing_of fields) rest left r.body.items in subst B (sym same.fields) step.1.1);
     }
 
--- a head, and what holds of its fields and of what was taken behind it
+-- a head, and what holds of its fields and of what was taken after it
 request_begun : (P : List Pair → List ℕ → Type 0) (head : Request) (front rest : List ℕ) → IsRequestHead front head → P (parts_of head.fields.items) rest → BeginsRequest P (front ++ rest)
 request_begun P head front rest first holds =
     let Q : List Pair → Type 0 = λ fields. P fields rest in
@@ -89,7 +89,7 @@ request_faulty left head (fault.Encoded v) front rest first step = request_begun
 request_faulty left head fault.Link front rest first step = tt
 request_faulty left head fault.OutOfMemory front rest first step = tt
 
--- what a head, and what was found behind it, make of the request
+-- what a head, and what was found after it, make of the request
 pub request_parts : (left : Option (List ℕ)) (head : Request) (read : Result Request WireFault) (front rest : List ℕ) → IsRequestHead front head → RequestBodyStep head left read rest → RequestStep left read (front ++ rest)
 request_parts left head (Ok r) front rest first step = request_spelled left head r front rest first step
 request_parts left head (Err f) front rest first step = request_faulty left head f front rest first step

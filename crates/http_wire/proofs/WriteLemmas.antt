@@ -10,6 +10,6 @@ four_pieces e a b c d w x y z n p q r s =
     let first : w ≡ a = p ∙ ap (λ u. u ++ a) n in
     s ∙ ap (λ u. u ++ d) (r ∙ ap (λ u. u ++ c) (q ∙ ap (λ u. u ++ b) first))
 
--- three pieces behind others, one after another
+-- three pieces after others, one after another
 pub behind : (x a b c : List ℕ) → x ++ (a ++ b ++ c) ≡ x ++ a ++ b ++ c
 behind x a b c = sym (ap (λ u. u ++ c) (append_assoc x a b) ∙ append_assoc x (a ++ b) c)

@@ -9,7 +9,7 @@ use Rattle.http_wire.specs.Framings.{body_limit}
 abbrev pub piece_limit : ℕ
 piece_limit = 4096
 
--- for each byte of the body the line of its chunk, the byte, and CR LF; then the line of the last, and the fields behind it
+-- for each byte of the body the line of its chunk, the byte, and CR LF; then the line of the last, and the fields after it
 abbrev pub chunked_limit : ℕ
 chunked_limit = (head_limit + 3) * body_limit + 2 * head_limit
 

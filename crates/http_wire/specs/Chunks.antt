@@ -59,9 +59,9 @@ pub data IsNoChunk (text : List ℕ) (left : Option (List ℕ)) : Type 0 where
   no_line : StopsWithin IsChunkText head_limit text left → IsNoChunk text left
   -- the end within the bytes of a chunk
   cut_short : (line bytes : List ℕ) (size : ℕ) → SaysSize line size → length bytes < size → IsAtEnd left → text ≡ line ++ bytes → IsNoChunk text left
-  -- no CR LF behind them
+  -- no CR LF after them
   no_end : (line bytes tail : List ℕ) → SaysSize line (length bytes) → 0 < length bytes → StopsWithin IsCrlfText 2 tail left → text ≡ line ++ (bytes ++ tail) → IsNoChunk text left
-  -- no fields behind the last chunk
+  -- no fields after the last chunk
   no_trailer : (line tail : List ℕ) → SaysSize line 0 → StopsWithin IsTrailerText head_limit tail left → text ≡ line ++ tail → IsNoChunk text left
 
 -- chunks, and then what is none

@@ -33,7 +33,7 @@ pub record SpellsRequest (bytes : List ℕ) (left : Option (List ℕ)) (r : Requ
   pub plain : encoding_of (parts_of r.fields.items) ≡ None
   pub body : IsBody false (framing_of (parts_of r.fields.items)) tail left r.body.items
 
--- the bytes are a head within the limits, and this holds of its fields and of what was taken behind it
+-- the bytes are a head within the limits, and this holds of its fields and of what was taken after it
 pub record BeginsRequest (P : List Pair → List ℕ → Type 0) (bytes : List ℕ) : Type 0 where
   pub head : List ℕ
   pub tail : List ℕ

@@ -1,4 +1,4 @@
--- What the calls that read the head of a request, and the body behind a head, found.
+-- What the calls that read the head of a request, and the body after a head, found.
 use Rattle.std.specs.Prelude.{◌≡◌, ℕ, ◌≤◌, Bool, false, List, [], length, Option, Some, None, Result, Ok, Err, ⊤}
 use Rattle.httparse.specs.Grammar.{RequestHead}
 use Rattle.http_wire.specs.declared.message.Request.{Request}
@@ -44,7 +44,7 @@ pub record HasHeadOf (head r : Request) : Type 0 where
   pub target : r.target.items ≡ head.target.items
   pub fields : parts_of r.fields.items ≡ parts_of head.fields.items
 
--- what reading the body behind this head found: the request of the head and the body, or why there is none
+-- what reading the body after this head found: the request of the head and the body, or why there is none
 abbrev pub RequestBodyStep : Request → Option (List ℕ) → Result Request WireFault → List ℕ → Type 0
 RequestBodyStep head left (Ok r) taken = HasHeadOf head r × PlainStep false (parts_of head.fields.items) left (Ok tt) r.body.items taken
 RequestBodyStep head left (Err f) taken = PlainStep false (parts_of head.fields.items) left (Err f) [] taken

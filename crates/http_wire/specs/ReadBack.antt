@@ -10,14 +10,14 @@ use Rattle.http_wire.specs.Parts.{parts_of}
 use Rattle.http_wire.specs.Spellings.{spelled_request_head, spelled_response_head}
 use Rattle.http_wire.specs.Messages.{is_interim}
 
--- the fields that a request of so many bytes has behind its own
+-- the fields that a request of so many bytes has after its own
 abbrev pub body_pairs : ℕ → List Pair
 body_pairs n = (codes "Content-Type", codes "application/json") ∷ (codes "Content-Length", decimal n) ∷ []
 
 abbrev pub fixed_pairs : ℕ → List Pair
 fixed_pairs n = (codes "Accept", codes "application/json") ∷ (codes "Connection", codes "close") ∷ (if n == 0 then [] else body_pairs n)
 
--- the fields that a response to a body of so many bytes has behind its own
+-- the fields that a response to a body of so many bytes has after its own
 abbrev pub fixed_response_pairs : ℕ → List Pair
 fixed_response_pairs n = (codes "Content-Type", codes "application/json") ∷ (codes "Content-Length", decimal n) ∷ (codes "Connection", codes "close") ∷ []
 

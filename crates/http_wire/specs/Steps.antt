@@ -28,7 +28,7 @@ pub record AddsChunk (before now taken : List ℕ) : Type 0 where
   pub body : now ≡ before ++ chunk.bytes
   pub within : length now ≤ body_limit
 
--- the last chunk, and the fields behind it
+-- the last chunk, and the fields after it
 pub record EndsChunks (before now taken : List ℕ) : Type 0 where
   pub last : List ℕ
   pub size : SaysSize last 0

@@ -1,4 +1,4 @@
-//! The body behind a head.
+//! The body after a head.
 ghost use Rattle.std.specs.Prelude.{◌≡◌, ◌≤◌, ◌+◌, [], ℕ, List, length, OnErr, Bool, false, true};
 ghost use Rattle.std.specs.Io.KnownBytes.{Consumes, IsAtEnd};
 ghost use Rattle.edge_kit.specs.Causes.{Rose};

@@ -48,7 +48,7 @@ fn read_size<L: Link>(alloc: Global, link: &mut L) -> Result<u64, Stop>
     }
 }
 
-/// Reads the fields behind the last chunk, and drops them.
+/// Reads the fields after the last chunk, and drops them.
 fn read_trailer<L: Link>(alloc: Global, link: &mut L) -> Result<(), Stop>
     ensures ok { OnOk result (Took (L.left link.old) (L.left link.new) (Within IsTrailerText head_limit)) }
     ensures stuck { result ≡ Err Stop.Stuck → Took (L.left link.old) (L.left link.new) (λ taken. StopsWithin IsTrailerText head_limit taken (L.left link.new)) }
@@ -62,7 +62,7 @@ fn read_trailer<L: Link>(alloc: Global, link: &mut L) -> Result<(), Stop>
     }
 }
 
-/// Reads the CR LF behind a chunk.
+/// Reads the CR LF after a chunk.
 fn read_end<L: Link>(alloc: Global, link: &mut L) -> Result<(), Stop>
     ensures ok { OnOk result (Consumes (L.left link.old) (L.left link.new) crlf_bytes) }
     ensures stuck { result ≡ Err Stop.Stuck → Took (L.left link.old) (L.left link.new) (λ taken. StopsWithin IsCrlfText 2 taken (L.left link.new)) }

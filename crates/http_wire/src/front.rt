@@ -1,4 +1,4 @@
-//! A form that ends in LF, read from the front of a link byte by byte, so that no byte behind it is taken.
+//! A form that ends in LF, read from the front of a link byte by byte, so that no byte after it is taken.
 ghost use Rattle.std.specs.Prelude.{◌≡◌, ◌≤◌, ◌&&◌, ℕ, List, true, length, IfOk, OnErr};
 ghost use Rattle.std.specs.Io.KnownBytes.{Consumes, IsAtEnd};
 ghost use Rattle.edge_kit.specs.Causes.{Rose};
@@ -58,7 +58,7 @@ fn look_at<F: Form>(is_blank: bool, bytes: &[u8]) -> Looked
     F::look(bytes)
 }
 
-/// Reads a form of at most so many bytes, and no byte behind it. `Stuck` exactly where no front of what is
+/// Reads a form of at most so many bytes, and no byte after it. `Stuck` exactly where no front of what is
 /// left of the link is one. Never are more bytes taken than the limit.
 pub(crate) fn read_form<F: Form, L: Link>(
     alloc: Global,

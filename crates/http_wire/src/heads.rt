@@ -17,7 +17,7 @@ pub(crate) struct ResponseText;
 /// The line before a chunk.
 pub(crate) struct ChunkText;
 
-/// The fields behind the last chunk, at most 64, and the empty line that ends them.
+/// The fields after the last chunk, at most 64, and the empty line that ends them.
 pub(crate) struct TrailerText;
 
 /// CR LF.

@@ -12,7 +12,7 @@ ghost use Rattle.http_wire.specs.declared.message.Request.{Request};
 ghost use Rattle.http_wire.specs.declared.message.Response.{Response};
 ghost use Rattle.http_wire.specs.declared.message.WireFault.{WireFault};
 
-/// A head, and what was found behind it, are a request, or why there is none; and where there is no head there is none.
+/// A head, and what was found after it, are a request, or why there is none; and where there is no head there is none.
 pub fn parts_law()
     ensures behind { (left : Option (List ℕ)) (head : Request) (read : Result Request WireFault) (front rest : List ℕ) → IsRequestHead front head → RequestBodyStep head left read rest → RequestStep left read (front ++ rest) }
     ensures headless { (left : Option (List ℕ)) (f : WireFault) (bytes : List ℕ) → RequestHeadStep left (Err f) bytes → RequestStep left (Err f) bytes }
@@ -48,7 +48,7 @@ pub fn framing_law()
 {}
 
 /// What is written reads back: the spelling of a message within the limits, whose own fields say nothing of
-/// the body, spells that message with the fixed fields behind its own, whatever follows.
+/// the body, spells that message with the fixed fields after its own, whatever follows.
 pub fn read_back_law()
     ensures request { (r s : Request) (a : List ℕ) → IsPlainRequest r → HasFixedFields r s → SpellsRequest (spelled_request r) (Some a) s }
     ensures response { (r s : Response) (a : List ℕ) → IsPlainResponse r → HasFixedResponseFields r s → SpellsResponse (spelled_response r) (Some a) s }

@@ -1,4 +1,4 @@
-//! The body behind a head, which is read in no other coding.
+//! The body after a head, which is read in no other coding.
 ghost use Rattle.std.specs.Prelude.{◌≡◌, [], List};
 ghost use Rattle.edge_kit.specs.Causes.{Rose};
 ghost use Rattle.http_wire.specs.Listening.{OnlyListens};

@@ -18,7 +18,7 @@ use crate::stop::Stop;
 use edge_kit::Link;
 use std::alloc::Global;
 
-/// Reads one request, and no byte behind it. However `recv` cuts the bytes, the answer is what they spell.
+/// Reads one request, and no byte after it. However `recv` cuts the bytes, the answer is what they spell.
 ///
 /// # Errors
 ///
@@ -36,7 +36,7 @@ pub fn read_request<L: Link>(alloc: Global, link: &mut L) -> Result<Request, Wir
     }
 }
 
-/// Reads the head of one request, and no byte behind it: the request with an empty body. `read_request_body` reads on
+/// Reads the head of one request, and no byte after it: the request with an empty body. `read_request_body` reads on
 /// from there.
 ///
 /// # Errors
@@ -62,7 +62,7 @@ pub fn read_request_head<L: Link>(alloc: Global, link: &mut L) -> Result<Request
     }
 }
 
-/// Reads the body behind the head that `read_request_head` read, and no byte behind it: the request of both.
+/// Reads the body after the head that `read_request_head` read, and no byte after it: the request of both.
 ///
 /// # Errors
 ///

@@ -51,7 +51,7 @@ fn read_final_head<L: Link>(alloc: Global, link: &mut L) -> Result<Response, Wir
     Err(WireFault::BadHead)
 }
 
-/// Reads one response, past at most 8 interim ones, and no byte behind it. However `recv` cuts the bytes, the
+/// Reads one response, past at most 8 interim ones, and no byte after it. However `recv` cuts the bytes, the
 /// answer is what they spell. Refused as a request is, and as `BadHead` where a ninth interim one comes; a
 /// body of which no field speaks goes to the end of the link.
 pub fn read_response<L: Link>(alloc: Global, link: &mut L) -> Result<Response, WireFault>

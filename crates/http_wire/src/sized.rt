@@ -10,7 +10,7 @@ use crate::limits::PIECE;
 use crate::stop::Stop;
 use edge_kit::{Failed, Link};
 
-/// Reads so many bytes, and none behind them, to the end of the body. `Stuck` exactly where the link ends
+/// Reads so many bytes, and none after them, to the end of the body. `Stuck` exactly where the link ends
 /// before.
 pub(crate) fn read_sized<L: Link>(link: &mut L, size: u64, body: &mut Vec<u8>) -> Result<(), Stop>
     ensures ok { OnOk result (Gains (L.left link.old) (L.left link.new) size body.old.items body.new.items) }

@@ -126,7 +126,7 @@ fn push_request_line(text: &mut Vec<u8>, method: &Method, target: &[u8]) -> Resu
     Ok(())
 }
 
-/// Adds the fixed fields of a request, and the empty line behind them.
+/// Adds the fixed fields of a request, and the empty line after them.
 fn push_request_fields(alloc: Global, text: &mut Vec<u8>, len: usize) -> Result<(), AllocError>
     ensures { OnOk result (text.new.items ≡ text.old.items ++ request_fields len) }
 {
@@ -182,7 +182,7 @@ fn push_phrase(text: &mut Vec<u8>, status: u16) -> Result<(), AllocError>
     Ok(())
 }
 
-/// Adds the fixed fields of a response, and the empty line behind them.
+/// Adds the fixed fields of a response, and the empty line after them.
 fn push_response_fields(alloc: Global, text: &mut Vec<u8>, len: usize) -> Result<(), AllocError>
     ensures { OnOk result (text.new.items ≡ text.old.items ++ response_fields len) }
 {

@@ -4,7 +4,7 @@ ghost use Rattle.std.specs.Prelude.{◌≡◌, ◌+◌, ◌/◌, ◌≤◌, ◌<
 use std::alloc::AllocError;
 
 /// Makes room for that many more elements. Where room is lacking, the list grows to the length that is wanted and a
-/// sixteenth of the length that it has. So little of it stays empty, and elements that are added one at a time
+/// sixty-fourth of the length that it has. So little of it stays empty, and elements that are added one at a time
 /// are moved a fixed number of times each on average.
 ///
 /// # Errors
@@ -18,13 +18,13 @@ pub fn reserve_sparingly<T>(list: &mut Vec<T>, more: usize) -> Result<(), AllocE
     ensures succeeds { vec_len list.old + more ≤ vec_capacity list.old → IsOk result }
     ensures enough { vec_len list.old + more ≤ vec_capacity list.old → vec_capacity list.new ≡ vec_capacity list.old }
     ensures grown { OnOk result (vec_capacity list.old < vec_len list.old + more
-        → vec_capacity list.new ≡ vec_len list.old + (more + vec_len list.old / 16)) }
+        → vec_capacity list.new ≡ vec_len list.old + (more + vec_len list.old / 64)) }
     ensures err { OnErr result (vec_capacity list.new ≡ vec_capacity list.old) }
 {
     let len = list.len();
     if more <= list.capacity() - len {
         return Ok(());
     }
-    let wanted = more.checked_add(len / 16).ok_or(AllocError)?;
+    let wanted = more.checked_add(len / 64).ok_or(AllocError)?;
     list.reserve_exact(wanted)
 }
