@@ -14,9 +14,13 @@ const NAP_SECONDS: u64 = 1;
 /// By how many seconds the clock may be set back without a wait ending before its moment.
 const LEEWAY_SECONDS: u64 = 60;
 
+/// How many seconds a wait that is left when the clock is halted may last: a slot's (consensus-specs, `SECONDS_PER_SLOT`).
+const HALTED_SECONDS: u64 = 12;
+
 /// The system's clock, read by this handle. Where it can't be read, or is set before 1970, it shows 0, and a wait is
 /// over at once at the moment that was waited for. A wait ends before its moment only where the clock was set back by more
-/// than `LEEWAY_SECONDS` since it was read before. It is halted where this halt is raised.
+/// than `LEEWAY_SECONDS` since it was read before, or where it is halted and the moment is more than a slot away. It is
+/// halted where this halt is raised.
 #[derive(Drop)]
 pub struct SystemClock<'a, T: rt::Clock + Drop> {
     handle: T,
@@ -44,6 +48,13 @@ impl<'a, T: rt::Clock + Drop> SystemClock<'a, T> {
         }
         is_back
     }
+
+    // Whether a wait ends at this second: the moment is reached, the clock was set back, or it is halted long before.
+    fn is_over(&self, shown: u64, moment: u64) -> bool {
+        self.is_set_back(shown)
+            || shown >= moment
+            || (self.halt.is_raised() && shown.saturating_add(HALTED_SECONDS) < moment)
+    }
 }
 
 impl<T: rt::Clock + Sync + Drop> Clock for SystemClock<'_, T> {
@@ -56,13 +67,13 @@ impl<T: rt::Clock + Sync + Drop> Clock for SystemClock<'_, T> {
         }
     }
 
-    /// Sleeps until the clock shows the moment or a later one, or is set back.
+    /// Sleeps until the clock shows the moment or a later one, is set back, or is halted more than a slot before it.
     fn wait_until<R: Wait>(&self, rt: &R, moment: u64) -> u64 {
         for _ in rt.forever() {
             let Some(shown) = shown_by(&self.handle) else {
                 return moment;
             };
-            if self.is_set_back(shown.as_secs()) || shown.as_secs() >= moment {
+            if self.is_over(shown.as_secs(), moment) {
                 return shown.as_secs();
             }
             let left = Duration::from_secs(moment).saturating_sub(shown);

@@ -34,7 +34,7 @@ impl<C: Clock, E: Eprint + Sync> Clock for ToldClock<C, E> {
             let _ = eprintln!(&self.handle;
                 "a wait for second {moment} was over at {reached}: the duties of slots that are over are dropped"
             );
-        } else if reached < moment {
+        } else if reached < moment && !self.inner.is_halted() {
             let _ = eprintln!(&self.handle;
                 "the clock was set back to {reached} in a wait for second {moment}: duties go on with the slot of now"
             );
