@@ -24,9 +24,17 @@ path_at text = if length text == 0 then None else Some text
 abbrev pub journal_in : List Row → Option (List ℕ)
 journal_in options = option_and_then path_at (first_of (codes "journal") options)
 
--- `--watch` was given: `clap` reads a flag without a value as `true` where it stands, and as `false` where it does not
+-- an option without a value was given: `clap` reads it as `true` where it stands, and as `false` where it does not
+abbrev pub flag_in : Text → List Row → Bool
+flag_in id options = option_map_or (λ text. bytes_eq text (codes "true")) (first_of id options) false
+
+-- `--watch` was given
 abbrev pub watch_in : List Row → Bool
-watch_in options = option_map_or (λ text. bytes_eq text (codes "true")) (first_of (codes "watch") options) false
+watch_in options = flag_in (codes "watch") options
+
+-- `--quiet` was given
+abbrev pub quiet_in : List Row → Bool
+quiet_in options = flag_in (codes "quiet") options
 
 -- the number that a value writes in decimal
 abbrev pub number_in : Text → List Row → Option ℕ

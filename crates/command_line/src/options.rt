@@ -2,7 +2,7 @@
 ghost use Rattle.std.specs.Prelude.{◌≡◌, ◌<◌, ◌≤◌, IfOk, IfSome, map, option_map};
 ghost use Rattle.clap.specs.Words.{all_of, first_of, found_of, rows_of};
 ghost use Rattle.command_line.specs.Serving.{keep_epochs_in, lanes_in, limit_in, listen_in, signer_in, timeout_in, token_in};
-ghost use Rattle.command_line.specs.Options.{clients_in, fork_in, genesis_in, journal_in, number_in, steps_in, watch_in};
+ghost use Rattle.command_line.specs.Options.{clients_in, flag_in, fork_in, genesis_in, journal_in, number_in, quiet_in, steps_in, watch_in};
 
 use crate::fork_text::read_fork;
 use crate::kept_epochs::KeptEpochs;
@@ -56,7 +56,21 @@ pub(crate) fn journal_of(
 pub(crate) fn watch_of(options: &ArgMatches<'_>) -> bool
     ensures { result ≡ watch_in (rows_of (found_of options.now)) }
 {
-    text_of(options, "watch").map_or(false, |text| text == "true")
+    flag_of(options, "watch")
+}
+
+/// Whether `--quiet` was given.
+pub(crate) fn quiet_of(options: &ArgMatches<'_>) -> bool
+    ensures { result ≡ quiet_in (rows_of (found_of options.now)) }
+{
+    flag_of(options, "quiet")
+}
+
+/// Whether an option that has no value was given.
+fn flag_of(options: &ArgMatches<'_>, id: &str) -> bool
+    ensures { result ≡ flag_in id.now (rows_of (found_of options.now)) }
+{
+    text_of(options, id).map_or(false, |text| text == "true")
 }
 
 /// The value of `--fork`, if it has its form.

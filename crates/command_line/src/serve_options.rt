@@ -34,6 +34,8 @@ pub struct ServeOptions {
     pub keep_epochs: KeptEpochs,
     /// How long a question to a node may take.
     pub timeout: NodeTimeout,
+    /// Whether standard error has lines of faults alone.
+    pub quiet: bool,
     /// The addresses of the beacon nodes, in the order of the words, at least one.
     pub nodes: Items<ServiceUrl>,
 }
@@ -52,6 +54,7 @@ impl fmt::Debug for ServeOptions {
             .field("lanes", &self.lanes)
             .field("keep_epochs", &self.keep_epochs)
             .field("timeout", &self.timeout)
+            .field("quiet", &self.quiet)
             .field("nodes", &self.nodes.as_slice())
             .finish()
     }
@@ -80,9 +83,10 @@ pub(crate) struct EndOptions {
     pub(crate) lanes: LaneCount,
 }
 
-/// What a server keeps of what was signed, and how long it waits for a node.
+/// What a server keeps of what was signed, how long it waits for a node, and whether it tells of faults alone.
 #[derive(Clone, Copy)]
 pub(crate) struct WorkOptions {
     pub(crate) keep_epochs: KeptEpochs,
     pub(crate) timeout: NodeTimeout,
+    pub(crate) quiet: bool,
 }

@@ -7,8 +7,8 @@ ghost use Rattle.command_line.specs.Serving.{door_in, ends_in, nodes_in, serve_o
 
 use crate::fault::{Fault, refused};
 use crate::options::{
-    genesis_of, journal_of, keep_epochs_of, lanes_of, limit_of, listen_of, signer_of, text_of,
-    texts_of, timeout_of, token_of, watch_of,
+    genesis_of, journal_of, keep_epochs_of, lanes_of, limit_of, listen_of, quiet_of, signer_of,
+    text_of, texts_of, timeout_of, token_of, watch_of,
 };
 use crate::planned::{Plan, Usage};
 use crate::serve_options::{DoorOptions, EndOptions, ServeOptions, SigningOptions, WorkOptions};
@@ -69,6 +69,7 @@ fn read_options<'a>(
         lanes: ends.lanes,
         keep_epochs: work.keep_epochs,
         timeout: work.timeout,
+        quiet: work.quiet,
         nodes,
     }))
 }
@@ -132,7 +133,7 @@ fn read_ends<'a>(options: &ArgMatches<'a>) -> Result<EndOptions, Fault<'a>>
     })
 }
 
-/// What a server keeps of what was signed, and how long it waits for a node.
+/// What a server keeps of what was signed, how long it waits for a node, and whether it tells of faults alone.
 fn read_work<'a>(options: &ArgMatches<'a>) -> Result<WorkOptions, Fault<'a>>
     ensures { result_ok result ≡ work_in (rows_of (found_of options.now)) }
 {
@@ -145,6 +146,7 @@ fn read_work<'a>(options: &ArgMatches<'a>) -> Result<WorkOptions, Fault<'a>>
     Ok(WorkOptions {
         keep_epochs,
         timeout,
+        quiet: quiet_of(options),
     })
 }
 

@@ -29,7 +29,7 @@ use std::alloc::{AllocError, Global};
 ///   are of either case. Maybe also `--watch`, which has no value.
 /// - `serve` with `--genesis`, `--journal` and `--signer` as above, `--listen`, `localhost` or four decimals of at
 ///   most 255 joined by dots, `:` and a port of at most 65535, and `--token`, 1 to 256 ASCII characters from `!` to
-///   `~`; maybe `--watch`, `--slots` and `--connections`, which are 18446744073709551615 where they are absent; maybe
+///   `~`; maybe `--watch` and `--quiet`, which have no value; maybe `--slots` and `--connections`, which are 18446744073709551615 where they are absent; maybe
 ///   `--lanes`, 1 to 64, which is 4 where it is absent; and one node or more, each a URL as for `--signer`. Each number
 ///   has 1 to 20 decimal digits and is below 2^64.
 /// - `merge` and `show`, each with `--genesis` and `--journal`.

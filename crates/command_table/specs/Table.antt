@@ -25,12 +25,19 @@ fork_rule = record (new_rule (codes "fork")) {
   defaults = codes "0x00000000:0x00000000:0" ∷ [];
 }
 
--- `--watch`, which has no value
-abbrev pub watch_rule : Rule
-watch_rule = record (new_rule (codes "watch")) {
-  long = Some (codes "watch");
+-- `--ID`, which has no value
+abbrev pub flag_rule : Text → Rule
+flag_rule id = record (new_rule id) {
+  long = Some id;
   action = Some SetTrue;
 }
+
+-- `--watch` and `--quiet`
+abbrev pub watch_rule : Rule
+watch_rule = flag_rule (codes "watch")
+
+abbrev pub quiet_rule : Rule
+quiet_rule = flag_rule (codes "quiet")
 
 -- one `NODE` or more, in their place
 abbrev pub nodes_rule : Rule
@@ -56,9 +63,9 @@ door_rules = option_rule (codes "listen") true ∷ option_rule (codes "token") t
 abbrev pub end_rules : List Rule
 end_rules = watch_rule ∷ option_rule (codes "slots") false ∷ option_rule (codes "connections") false ∷ option_rule (codes "lanes") false ∷ []
 
--- what it keeps of what was signed, and how long it waits for a node
+-- what it keeps of what was signed, how long it waits for a node, and whether it tells of faults alone
 abbrev pub work_rules : List Rule
-work_rules = option_rule (codes "keep-epochs") false ∷ option_rule (codes "timeout") false ∷ []
+work_rules = option_rule (codes "keep-epochs") false ∷ option_rule (codes "timeout") false ∷ quiet_rule ∷ []
 
 -- the command `serve` with its options, and its nodes last
 abbrev pub serve_shape : Shape

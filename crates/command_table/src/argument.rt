@@ -2,7 +2,7 @@
 ghost use Rattle.std.specs.Prelude.{◌≡◌, false};
 ghost use Rattle.clap.specs.Words.{rule_of};
 ghost use Rattle.command_table.specs.Rows.{row_rule};
-ghost use Rattle.command_table.specs.Table.{fork_rule, genesis_rule, nodes_rule, option_rule, value_rule, watch_rule};
+ghost use Rattle.command_table.specs.Table.{flag_rule, fork_rule, genesis_rule, nodes_rule, option_rule, quiet_rule, value_rule, watch_rule};
 
 use crate::row::Row;
 use clap::{Arg, ArgAction};
@@ -17,6 +17,7 @@ pub(crate) fn argument<'a>(alloc: Global, row: &Row) -> Arg<'a>
         Row::Genesis => genesis(alloc),
         Row::Fork => fork(alloc),
         Row::Watch => watch(alloc),
+        Row::Quiet => quiet(alloc),
         Row::Nodes => nodes(alloc),
         Row::Value { id, name, about } => value(alloc, id, name, about),
         Row::Choice {
@@ -59,6 +60,17 @@ fn value_option<'a>(
         .action(ArgAction::Set)
 }
 
+/// An option that has no value.
+fn flag<'a>(alloc: Global, id: &'a str, about: &'a str) -> Arg<'a>
+    ensures local { result.global ≡ false }
+    ensures rule { rule_of result ≡ flag_rule id.now }
+{
+    Arg::new(alloc, id)
+        .long(id)
+        .help(about)
+        .action(ArgAction::SetTrue)
+}
+
 /// The option `--genesis`.
 fn genesis<'a>(alloc: Global) -> Arg<'a>
     ensures local { result.global ≡ false }
@@ -93,12 +105,23 @@ fn watch<'a>(alloc: Global) -> Arg<'a>
     ensures local { result.global ≡ false }
     ensures rule { rule_of result ≡ watch_rule }
 {
-    Arg::new(alloc, "watch")
-        .long("watch")
-        .help(
-            "A key that becomes active signs only once it was told{n}not live in the two epochs after",
-        )
-        .action(ArgAction::SetTrue)
+    flag(
+        alloc,
+        "watch",
+        "A key that becomes active signs only once it was told{n}not live in the two epochs after",
+    )
+}
+
+/// The option `--quiet`.
+fn quiet<'a>(alloc: Global) -> Arg<'a>
+    ensures local { result.global ≡ false }
+    ensures rule { rule_of result ≡ quiet_rule }
+{
+    flag(
+        alloc,
+        "quiet",
+        "Standard error has a line for each fault, and no other",
+    )
 }
 
 /// The nodes, which stand behind the options.

@@ -50,6 +50,8 @@ Options of serve:
           [default: 64]
       --timeout <SECONDS>
           How long a question to a beacon node may take, 1 to 60 [default: 2]
+      --quiet
+          Standard error has a line for each fault, and no other
       <NODE>...
           Beacon nodes, as http://127.0.0.1:5052, one or more, behind the options [required]
 
@@ -82,7 +84,7 @@ const SESSION: [Row; 5] = [
 ];
 
 /// The options of `serve`, and its nodes last.
-const SERVE: [Row; 12] = [
+const SERVE: [Row; 13] = [
     Row::Genesis,
     Row::Choice {
         id: "journal",
@@ -139,6 +141,7 @@ const SERVE: [Row; 12] = [
         about: "How long a question to a beacon node may take, 1 to 60 [default: 2]",
         is_required: false,
     },
+    Row::Quiet,
     Row::Nodes,
 ];
 

@@ -1,5 +1,5 @@
--- The services that are asked for, and where connections are taken.
-use Rattle.std.specs.Prelude.{ℕ, List, [], Option, None, Some}
+-- The services that are asked for, where connections are taken, and whether faults alone are told.
+use Rattle.std.specs.Prelude.{ℕ, Bool, false, List, [], Option, None, Some}
 use Rattle.service_url.specs.Services.{Service}
 use Rattle.command_line.specs.Plans.{Asked, session, serve}
 use Rattle.command_line.specs.declared.listen_address.ListenAddress.{ListenAddress}
@@ -24,3 +24,8 @@ timeout_of asked = None
 abbrev pub listen_of : Asked → Option ListenAddress
 listen_of (serve options) = Some options.listen
 listen_of asked = None
+
+-- whether standard error has lines of faults alone
+abbrev pub quiet_of : Asked → Bool
+quiet_of (serve options) = options.quiet
+quiet_of asked = false

@@ -2,10 +2,10 @@
 //! connections, and the file that holds the token.
 #![tactic(auto)]
 
-ghost use Rattle.std.specs.Prelude.{◌≡◌, [], IfOk, None, Ok, Some, map, option_map, string_bytes, ◌++◌};
+ghost use Rattle.std.specs.Prelude.{◌≡◌, [], IfOk, None, Ok, Some, false, map, option_map, string_bytes, ◌++◌};
 ghost use Rattle.command_line.specs.Plans.{asked_of, taken_as};
 ghost use Rattle.plan_places.specs.Files.{files_at, files_of};
-ghost use Rattle.plan_places.specs.Services.{listen_of, nodes_of, signer_of, timeout_of};
+ghost use Rattle.plan_places.specs.Services.{listen_of, nodes_of, quiet_of, signer_of, timeout_of};
 
 mod token_file;
 
@@ -34,6 +34,8 @@ pub struct Services {
     pub timeout: Option<NodeTimeout>,
     /// Where connections are taken, if anywhere.
     pub listen: Option<ListenAddress>,
+    /// Whether standard error has lines of faults alone.
+    pub quiet: bool,
 }
 
 /// What the words of a command line name of the outside; nothing where they are no command.
@@ -47,6 +49,7 @@ pub fn named(alloc: Global, words: &[String]) -> Result<Places, AllocError>
     ensures nodes { IfOk result (λ x. x.services.nodes.items ≡ nodes_of (asked_of (map string_bytes words.now))) }
     ensures timeout { IfOk result (λ x. x.services.timeout ≡ timeout_of (asked_of (map string_bytes words.now))) }
     ensures listen { IfOk result (λ x. x.services.listen ≡ listen_of (asked_of (map string_bytes words.now))) }
+    ensures quiet { IfOk result (λ x. x.services.quiet ≡ quiet_of (asked_of (map string_bytes words.now))) }
 {
     match plan(alloc, words)? {
         Ok(plan) => named_by(alloc, plan),
@@ -64,6 +67,7 @@ fn named_by(alloc: Global, plan: Plan) -> Result<Places, AllocError>
     ensures nodes { IfOk result (λ x. x.services.nodes.items ≡ nodes_of (taken_as (Ok plan))) }
     ensures timeout { IfOk result (λ x. x.services.timeout ≡ timeout_of (taken_as (Ok plan))) }
     ensures listen { IfOk result (λ x. x.services.listen ≡ listen_of (taken_as (Ok plan))) }
+    ensures quiet { IfOk result (λ x. x.services.quiet ≡ quiet_of (taken_as (Ok plan))) }
 {
     let files = plan_files(alloc, &plan)?;
     let services = services_in(alloc, plan);
@@ -76,12 +80,14 @@ fn no_services(alloc: Global) -> Services
     ensures nodes { result.nodes.items ≡ [] }
     ensures timeout { result.timeout ≡ None }
     ensures listen { result.listen ≡ None }
+    ensures quiet { result.quiet ≡ false }
 {
     Services {
         signer: None,
         nodes: Vec::new(alloc),
         timeout: None,
         listen: None,
+        quiet: false,
     }
 }
 
@@ -91,6 +97,7 @@ fn services_in(alloc: Global, plan: Plan) -> Services
     ensures nodes { result.nodes.items ≡ nodes_of (taken_as (Ok plan)) }
     ensures timeout { result.timeout ≡ timeout_of (taken_as (Ok plan)) }
     ensures listen { result.listen ≡ listen_of (taken_as (Ok plan)) }
+    ensures quiet { result.quiet ≡ quiet_of (taken_as (Ok plan)) }
 {
     match plan {
         Plan::Serve(options) => services_of(options),
@@ -99,6 +106,7 @@ fn services_in(alloc: Global, plan: Plan) -> Services
             nodes: Vec::new(alloc),
             timeout: None,
             listen: None,
+            quiet: false,
         },
         _ => no_services(alloc),
     }
@@ -110,6 +118,7 @@ fn services_of(options: ServeOptions) -> Services
     ensures nodes { result.nodes.items ≡ options.nodes }
     ensures timeout { result.timeout ≡ Some options.timeout }
     ensures listen { result.listen ≡ Some options.listen }
+    ensures quiet { result.quiet ≡ options.quiet }
 {
     let ServeOptions {
         genesis: _genesis,
@@ -123,6 +132,7 @@ fn services_of(options: ServeOptions) -> Services
         lanes: _lanes,
         keep_epochs: _keep_epochs,
         timeout,
+        quiet,
         nodes,
     } = options;
     Services {
@@ -130,6 +140,7 @@ fn services_of(options: ServeOptions) -> Services
         nodes: nodes.into_vec(),
         timeout: Some(timeout),
         listen: Some(listen),
+        quiet,
     }
 }
 
