@@ -53,7 +53,7 @@ fourth_fails (Some a) (Some b) None d e = refl
 fourth_fails (Some a) None c d e = refl
 fourth_fails None b c d e = refl
 
--- behind three parts, the rest of a text is read as the fourth
+-- after three parts, the rest of a text is read as the fourth
 pub fourth_part : (a b c d : Text) → ipv4_of (a ∷ b ∷ c ∷ d ∷ []) ≡ ipv4_of (a ∷ b ∷ c ∷ slice_split is_dot d)
 fourth_part a b c d = elim (cases_lt (position_or_len is_dot d) (length d)) [
   | inl found ↦ fourth_fails (octet_at a) (octet_at b) (octet_at c) (octet_at d) (octet_has_no_dot d found)

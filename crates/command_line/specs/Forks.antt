@@ -8,7 +8,7 @@ use Rattle.phase0_types.specs.declared.fork.Fork.{Fork}
 abbrev pub is_colon : ℕ → Bool
 is_colon byte = byte == 58
 
--- what stands before the first `:` of a text, and what stands behind it
+-- what stands before the first `:` of a text, and what stands after it
 abbrev pub at_colon : List ℕ → Option (List ℕ × List ℕ)
 at_colon text = option_map (λ _. (before_first is_colon text, after_first is_colon text)) (position is_colon text)
 

@@ -55,7 +55,7 @@ host_at text = if bytes_eq text (codes "localhost") then Some Localhost else opt
 abbrev pub port_at : Text → Option ℕ
 port_at text = quoted_number text >>= at_most 65535
 
--- the host before the first `:` of a text, and the port behind it
+-- the host before the first `:` of a text, and the port after it
 abbrev pub listen_at : Text → Option ListenAddress
 listen_at text = do
   parts ← at_colon text

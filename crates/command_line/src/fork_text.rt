@@ -15,7 +15,7 @@ pub(crate) fn read_fork(text: &str) -> Option<Fork>
     read_parts(previous, current, epoch)
 }
 
-/// What stands before the first `:`, and what stands behind it.
+/// What stands before the first `:`, and what stands after it.
 pub(crate) fn split_at_colon(text: &str) -> Option<(&str, &str)>
     ensures { option_map (λ p. (p.0.now, p.1.now)) result ≡ at_colon text.now }
 {

@@ -75,7 +75,7 @@ fn read_ipv4(text: &str) -> Option<[u8; 4]>
     read_octets(first, second, third, fourth)
 }
 
-/// What stands before the first `.`, and what stands behind it.
+/// What stands before the first `.`, and what stands after it.
 fn split_at_dot(text: &str) -> Option<(&str, &str)>
     ensures { MatchOption result (slice_split is_dot text.now ≡ text.now ∷ [])
         (λ p. slice_split is_dot text.now ≡ p.0.now ∷ slice_split is_dot p.1.now) }

@@ -29,9 +29,11 @@ use std::alloc::{AllocError, Global};
 ///   are of either case. Maybe also `--watch`, which has no value.
 /// - `serve` with `--genesis`, `--journal` and `--signer` as above, `--listen`, `localhost` or four decimals of at
 ///   most 255 joined by dots, `:` and a port of at most 65535, and `--token`, 1 to 256 ASCII characters from `!` to
-///   `~`; maybe `--watch` and `--quiet`, which have no value; maybe `--slots` and `--connections`, which are 18446744073709551615 where they are absent; maybe
-///   `--lanes`, 1 to 64, which is 4 where it is absent; and one node or more, each a URL as for `--signer`. Each number
-///   has 1 to 20 decimal digits and is below 2^64.
+///   `~`; maybe `--watch` and `--quiet`, which have no value; maybe `--slots` and `--connections`, which are
+///   18446744073709551615 where they are absent; maybe `--lanes`, 1 to 64, which is 4 where it is absent; maybe
+///   `--keep-epochs`, 2 or more, or `all`, which is 64 where it is absent; maybe `--timeout`, 1 to 60, which is 2 where it
+///   is absent; and one node or more, each a URL as for `--signer`. Each number has 1 to 20 decimal digits and is below
+///   2^64.
 /// - `merge` and `show`, each with `--genesis` and `--journal`.
 /// - `rehearse` with a number, how many clients, 1 to 16, and how many steps, 0 to 20,000, each 1 to 20 decimal digits
 ///   below 2^64.

@@ -124,7 +124,7 @@ fn quiet<'a>(alloc: Global) -> Arg<'a>
     )
 }
 
-/// The nodes, which stand behind the options.
+/// The nodes, which stand after the options.
 fn nodes<'a>(alloc: Global) -> Arg<'a>
     ensures local { result.global ≡ false }
     ensures rule { rule_of result ≡ nodes_rule }

@@ -53,7 +53,7 @@ Options of serve:
       --quiet
           Standard error has a line for each fault, and no other
       <NODE>...
-          Beacon nodes, as http://127.0.0.1:5052, one or more, behind the options [required]
+          Beacon nodes, as http://127.0.0.1:5052, one or more, after the options [required]
 
 Options of merge and show:
       --genesis <HEX32>

@@ -5,7 +5,7 @@ use Rattle.std.specs.Io.BufRead.{ends_with_byte, strip_last}
 use Rattle.std.specs.List.{starts_with}
 use Rattle.std.specs.Str.{bytes_eq}
 
--- a word has the path behind `--token-file=`
+-- a word has the path after `--token-file=`
 abbrev pub is_joined : List ℕ → Bool
 is_joined word = starts_with nat_eq word (codes "--token-file=")
 
@@ -14,8 +14,8 @@ abbrev pub first_word : List (List ℕ) → Option (List ℕ)
 first_word [] = None
 first_word (word ∷ words) = Some word
 
--- the path that options name, before a word `--`: what the first word that begins with `--token-file=` has behind that, or
--- the word behind the first one that is `--token-file`, whichever comes first
+-- the path that options name, before a word `--`: what the first word that begins with `--token-file=` has after that, or
+-- the word after the first one that is `--token-file`, whichever comes first
 abbrev pub path_in : List (List ℕ) → Option (List ℕ)
 path_in [] = None
 path_in (word ∷ words) =
@@ -28,7 +28,7 @@ path_in (word ∷ words) =
 abbrev pub token_word : List ℕ → List ℕ
 token_word text = codes "--token=" ++ text
 
--- an option and the words behind it, with a text as the token in the place of both the option and its value, if it has one
+-- an option and the words after it, with a text as the token in the place of both the option and its value, if it has one
 abbrev pub pair_with : List ℕ → List ℕ → List (List ℕ) → List (List ℕ)
 pair_with text option [] = option ∷ []
 pair_with text option (value ∷ words) = token_word text ∷ words
