@@ -8,7 +8,7 @@ use Rattle.duty_loop.proofs.turn.begin.Goals as goal
 
 pub returns-then-is_missed-clause-runs : goal.returns-then-is_missed-clause-runs
 returns-then-is_missed-clause-runs g c = λ s h.
-    let moved = moved_so (λ x. HoldsPlaced c.close.entry.held.now x) c.args.setup.now.genesis_time c.args.held.now.slot c.slot_start-moment.result c.args.reached s slot_start c.slot_start-moment.ensures h.is.slot (c.go_to.ensures s h) in
+    let moved = moved_so (λ x. HoldsPlaced c.go_to.new.held x) c.args.setup.now.genesis_time c.args.held.now.slot c.slot_start-moment.result c.args.reached s slot_start c.slot_start-moment.ensures h.is.slot (c.go_to.ensures s h) in
     closed_as g.K.DeskCalls.leads (g.C.Clock.start c.args.clock.now) _ c.args.setup.now (woken_plan c.args.setup.now s c.args.reached) s (at_moment c.args.setup.now.genesis_time (slot_start c.args.setup.now.genesis_time s.slot) c.args.reached s) _ _ c.args.held.now.slot [] [] [] [] c.close.result
     (woken_late c.args.setup.now s c.args.reached
     (missed_so c.args.setup.now.genesis_time c.args.held.now.slot c.slot_start-moment.result s.slot c.args.reached slot_start c.is_missed.result true c.is_missed.ensures c.if-is_missed.true c.slot_start-moment.ensures h.is.slot))

@@ -15,7 +15,7 @@ do_duties-requires-clause-places g c = λ lifetimes outlives. subst (λ (l : Lis
 
 pub returns-then-is_missed-clause-runs : goal.returns-then-is_missed-clause-runs
 returns-then-is_missed-clause-runs g c = λ start nodes s h.
-    let moved = moved_so (λ x. HoldsPlaced c.close.entry.held.now x) c.args.setup.now.genesis_time c.args.held.now.slot c.votes_start-moment.result c.args.reached s votes_start c.votes_start-moment.ensures h.is.slot (c.go_to.ensures s h) in
+    let moved = moved_so (λ x. HoldsPlaced c.go_to.new.held x) c.args.setup.now.genesis_time c.args.held.now.slot c.votes_start-moment.result c.args.reached s votes_start c.votes_start-moment.ensures h.is.slot (c.go_to.ensures s h) in
     closed_as g.K.DeskCalls.leads start _ c.args.setup.now (votes_plan c.args.setup.now s c.args.due.now c.args.proposed.now c.args.reached) s (at_moment c.args.setup.now.genesis_time (votes_start c.args.setup.now.genesis_time s.slot) c.args.reached s) _ _ c.args.held.now.slot c.args.blocks.now (blocks_in c.args.due.now) c.args.proposed.now c.args.proposed.now c.close.result
     (votes_late c.args.setup.now s c.args.due.now c.args.proposed.now c.args.reached
     (missed_so c.args.setup.now.genesis_time c.args.held.now.slot c.votes_start-moment.result s.slot c.args.reached votes_start c.is_missed.result true c.is_missed.ensures c.if-is_missed.true c.votes_start-moment.ensures h.is.slot))
