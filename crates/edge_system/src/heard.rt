@@ -62,7 +62,7 @@ impl Heard {
     // The front of the answer's body.
     pub(crate) fn body(&self) -> Visible<'_> {
         let body = after(self.answered.as_slice(), b"\r\n\r\n");
-        Visible(body.get(..BODY_BYTES).unwrap_or(body))
+        Visible::front(body)
     }
 
     // Whether the answer says that what was asked was not done.
@@ -90,7 +90,14 @@ impl Display for Call<'_> {
 
 /// Bytes as text: each that is no visible ASCII and no space is written as `.`.
 #[derive(Drop)]
-pub(crate) struct Visible<'a>(&'a [u8]);
+pub struct Visible<'a>(pub(crate) &'a [u8]);
+
+impl<'a> Visible<'a> {
+    /// The first 200 bytes of these.
+    pub fn front(bytes: &'a [u8]) -> Self {
+        Visible(bytes.get(..BODY_BYTES).unwrap_or(bytes))
+    }
+}
 
 impl Display for Visible<'_> {
     fn fmt<W: fmt::Write>(&self, f: &mut Formatter<W>) -> fmt::Result {

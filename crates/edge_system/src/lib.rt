@@ -5,9 +5,13 @@
 mod adapters;
 mod address;
 mod epoch_counts;
+mod epoch_notes;
 mod file_disk;
 mod heard;
+mod json_scan;
+mod key_outcomes;
 mod open_file;
+mod reports;
 mod silence;
 mod span;
 mod streams;
@@ -19,7 +23,10 @@ mod told_clock;
 
 pub use adapters::{Reading, Writing};
 pub use epoch_counts::EpochCounts;
+pub use epoch_notes::EpochNotes;
 pub use file_disk::FileDisk;
+pub use heard::Visible;
+pub use reports::Reports;
 pub use silence::Peers;
 pub use streams::{StandardStream, StandardStreams, Standing};
 pub use tcp_door::{TcpConn, TcpDoor};

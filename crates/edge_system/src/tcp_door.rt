@@ -6,6 +6,8 @@ ghost use Rattle.edge_kit.specs.Causes.{HasCause};
 
 use crate::address::Address;
 use crate::heard::{Call, Heard};
+use crate::key_outcomes::KeyOutcomes;
+use crate::reports::Reports;
 use crate::span::Span;
 use crate::tcp_stream::{Timed, recv_over, send_over};
 use crate::told::counted;
@@ -77,6 +79,7 @@ pub struct TcpDoor<'a, N: Net + Eprint + Clock + Drop> {
     host: String,
     port: u16,
     halt: &'a Halt,
+    reports: Reports,
     listener: Option<N::Listener>,
     faults: u64,
 }
@@ -87,12 +90,14 @@ pub struct TcpDoor<'a, N: Net + Eprint + Clock + Drop> {
 /// peer, so `connect` begins no other, and fails. `hang_up` says to the peer that nothing further comes, and hears out what
 /// the peer still sends, for `HEARD_OUT_SECONDS` at most, so that the system does not take the reply back. It reports on
 /// standard error a request that changes something and one that is refused: the method, the target, the status and the first
-/// 200 bytes of the reply's body, which says what became of each key.
+/// 200 bytes of the reply's body; and before that what became of each key that was to be taken in or given up.
 #[derive(Drop)]
 pub struct TcpConn<S: Read + Write + OpenStream + Drop, C: Eprint + Clock + Drop> {
     stream: Option<Timed<S>>,
     clock: C,
     heard: Heard,
+    outcomes: KeyOutcomes,
+    reports: Reports,
     faults: u64,
 }
 
@@ -107,9 +112,19 @@ impl<'a, N: Net + Eprint + Clock + Drop> TcpDoor<'a, N> {
             host,
             port,
             halt,
+            reports: Reports::All,
             listener: None,
             faults: 0,
         }
+    }
+
+    /// From now on connections that are accepted make these reports. That a request changes something, and that a key is
+    /// taken in or given up, is no fault.
+    pub fn set_reports(&mut self, reports: Reports)
+        ensures reports { self.new.reports ≡ reports }
+        ensures faults { self.new.faults ≡ self.old.faults }
+    {
+        self.reports = reports;
     }
 
     /// How many calls have failed.
@@ -266,6 +281,8 @@ impl<N: Net + Eprint + Clock + Copy + Drop> Door for TcpDoor<'_, N> {
             stream: self.timed(stream).ok(),
             clock: self.handle,
             heard: Heard::new(self.alloc),
+            outcomes: KeyOutcomes::new(self.alloc),
+            reports: self.reports,
             faults: 0,
         }))
     }
@@ -295,10 +312,29 @@ impl<S: Read + Write + OpenStream + Drop, C: Eprint + Clock + Drop> TcpConn<S, C
 
     // Reports a request that changes something, or that was refused.
     fn report(&self) {
-        if self.stream.is_some() && (self.heard.changes() || self.heard.is_refusal()) {
+        let is_news = self.reports.has_news() && self.heard.changes();
+        if self.stream.is_some() && (is_news || self.heard.is_refusal()) {
             let call = Call(&self.heard);
             let _ = eprintln!(&self.clock; "Keymanager API: {call}");
         }
+    }
+
+    // Notes what was sent of a reply.
+    fn note_reply(&mut self, piece: &[u8])
+        ensures { self.new.faults ≡ self.old.faults }
+    {
+        self.heard.answer(piece);
+        if self.heard.changes() {
+            self.outcomes.answer(&self.clock, self.reports, piece);
+        }
+    }
+
+    // Notes what was read of a request.
+    fn note_request(&mut self, piece: &[u8])
+        ensures { self.new.faults ≡ self.old.faults }
+    {
+        self.heard.ask(piece);
+        self.outcomes.ask(piece);
     }
 
     // What the system answered, whose failure is counted.
@@ -330,7 +366,7 @@ impl<S: Read + Write + OpenStream + Drop, C: Eprint + Clock + Copy + Drop> Link 
     fn send(&mut self, piece: &[u8]) -> Result<usize, Failed> {
         let sent = self.reply(piece);
         if let Ok(count) = &sent {
-            self.heard.answer(piece.get(..*count).unwrap_or(piece));
+            self.note_reply(piece.get(..*count).unwrap_or(piece));
         }
         self.counted(sent)
     }
@@ -341,7 +377,7 @@ impl<S: Read + Write + OpenStream + Drop, C: Eprint + Clock + Copy + Drop> Link 
         }
         let read = recv_over(&mut self.stream, &self.clock, buf);
         if let Ok(count) = &read {
-            self.heard.ask(buf.get(..*count).unwrap_or(&[]));
+            self.note_request(buf.get(..*count).unwrap_or(&[]));
         }
         self.counted(read)
     }
@@ -367,6 +403,8 @@ impl<S: Read + Write + OpenStream + Drop, C: Eprint + Clock + Copy + Drop> Link 
             stream: None,
             clock: self.clock,
             heard: Heard::new(alloc),
+            outcomes: KeyOutcomes::new(alloc),
+            reports: self.reports,
             faults: 0,
         })
     }

@@ -5,12 +5,14 @@ ghost use Rattle.edge_kit.specs.Causes.{HasCause};
 
 use crate::address::Address;
 use crate::heard::{Call, Heard};
+use crate::reports::Reports;
 use crate::silence::Peers;
 use crate::span::Span;
 use crate::tcp_stream::{LongRequests, Timed, recv_over, send_over};
 use crate::told::counted;
 use edge_kit::{Failed, Link, count_fault};
 use std::alloc::{AllocError, Global};
+use std::fmt::Display;
 use std::io;
 use std::io::{Eprint, ErrorKind};
 use std::net::{Net, SocketAddr, ToSocketAddrs};
@@ -40,6 +42,7 @@ pub struct TcpLink<N: Net + Eprint + Clock + Drop> {
     limit: Duration,
     long: Option<(LongRequests, Duration)>,
     silence: Option<Place>,
+    reports: Reports,
     stream: Option<Timed<N::Stream>>,
     heard: Heard,
     faults: u64,
@@ -58,6 +61,7 @@ impl<N: Net + Eprint + Clock + Drop> TcpLink<N> {
             limit: Duration::from_secs(10),
             long: None,
             silence: None,
+            reports: Reports::All,
             stream: None,
             heard: Heard::new(alloc),
             faults: 0,
@@ -90,6 +94,14 @@ impl<N: Net + Eprint + Clock + Drop> TcpLink<N> {
         ensures faults { self.new.faults ≡ self.old.faults }
     {
         self.silence = Some(Place { peers, index });
+    }
+
+    /// From now on these reports are made. That a peer is set aside or taken back is no fault.
+    pub fn set_reports(&mut self, reports: Reports)
+        ensures reports { self.new.reports ≡ reports }
+        ensures faults { self.new.faults ≡ self.old.faults }
+    {
+        self.reports = reports;
     }
 
     /// How many calls have failed.
@@ -144,8 +156,15 @@ impl<N: Net + Eprint + Clock + Drop> TcpLink<N> {
     // Reports for how many milliseconds the peer is set aside, if it is since now.
     fn tell_pause(&self, pause: Option<u64>) {
         if let Some(pause) = pause {
+            self.tell_news(format_args!("set aside for {pause} ms"));
+        }
+    }
+
+    // Reports what is no fault of the peer, where that is wanted.
+    fn tell_news<W: Display + Drop>(&self, what: W) {
+        if self.reports.has_news() {
             let address = self.address();
-            let _ = eprintln!(&self.handle; "{address}: set aside for {pause} ms");
+            let _ = eprintln!(&self.handle; "{address}: {what}");
         }
     }
 
@@ -153,8 +172,7 @@ impl<N: Net + Eprint + Clock + Drop> TcpLink<N> {
     fn note_answer(&self) {
         if let (Some(place), Some(stream)) = (&self.silence, &self.stream) {
             if stream.is_heard() && place.peers.take_back(place.index) {
-                let address = self.address();
-                let _ = eprintln!(&self.handle; "{address}: taken back");
+                self.tell_news("taken back");
             }
         }
     }
@@ -251,14 +269,15 @@ impl<N: Net + Eprint + Clock + Copy + Drop> Link for TcpLink<N> {
         Ok(())
     }
 
-    /// Another link to the same host and port, with the same limits, which is not yet connected. Where the peer is set
-    /// aside for one of both, it is for the other.
+    /// Another link to the same host and port, with the same limits and reports, which is not yet connected. Where the peer
+    /// is set aside for one of both, it is for the other.
     fn twin(&self, alloc: Global) -> Result<Self, AllocError>
         ensures handle { IfOk result (λ t. t.handle ≡ self.now.handle) }
         ensures host { IfOk result (λ t. string_bytes t.host ≡ string_bytes self.now.host) }
         ensures port { IfOk result (λ t. t.port ≡ self.now.port) }
         ensures limit { IfOk result (λ t. t.limit ≡ self.now.limit) }
         ensures long { IfOk result (λ t. t.long ≡ self.now.long) }
+        ensures reports { IfOk result (λ t. t.reports ≡ self.now.reports) }
         ensures faults { IfOk result (λ t. t.faults ≡ 0) }
     {
         let host = String::from_str(alloc, self.host.as_str())?;
@@ -270,6 +289,7 @@ impl<N: Net + Eprint + Clock + Copy + Drop> Link for TcpLink<N> {
             limit: self.limit,
             long: self.long,
             silence: shared(&self.silence)?,
+            reports: self.reports,
             stream: None,
             heard: Heard::new(alloc),
             faults: 0,

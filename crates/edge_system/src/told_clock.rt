@@ -1,4 +1,5 @@
 //! A clock whose late waits are reported.
+use crate::epoch_notes::EpochNotes;
 use edge_clock::Clock;
 use std::io::Eprint;
 use std::sync::Wait;
@@ -7,21 +8,26 @@ use std::sync::Wait;
 const LATE_SECONDS: u64 = 12;
 
 /// A clock that reports on standard error each wait that is over so late that the duties of a slot are dropped, and each
-/// that is over before its moment, since the clock was set back.
+/// that is over before its moment, since the clock was set back. It notes what is waited for.
 #[derive(Drop)]
-pub struct ToldClock<C, E> {
+pub struct ToldClock<'a, C, E> {
     inner: C,
     handle: E,
+    notes: &'a EpochNotes,
 }
 
-impl<C, E> ToldClock<C, E> {
-    /// Such a clock, of another one. It reports by this handle.
-    pub fn new(inner: C, handle: E) -> Self {
-        ToldClock { inner, handle }
+impl<'a, C, E> ToldClock<'a, C, E> {
+    /// Such a clock, of another one. It reports by this handle, and notes here.
+    pub fn new(inner: C, handle: E, notes: &'a EpochNotes) -> Self {
+        ToldClock {
+            inner,
+            handle,
+            notes,
+        }
     }
 }
 
-impl<C: Clock, E: Eprint + Sync> Clock for ToldClock<C, E> {
+impl<C: Clock, E: Eprint + Sync> Clock for ToldClock<'_, C, E> {
     ghost start = { λ clock. C.start clock.inner };
 
     fn now(&self) -> u64 {
@@ -29,6 +35,7 @@ impl<C: Clock, E: Eprint + Sync> Clock for ToldClock<C, E> {
     }
 
     fn wait_until<R: Wait>(&self, rt: &R, moment: u64) -> u64 {
+        self.notes.wait_for(moment);
         let reached = self.inner.wait_until(rt, moment);
         if reached >= moment.saturating_add(LATE_SECONDS) {
             let _ = eprintln!(&self.handle;

@@ -5,18 +5,25 @@ ghost use Rattle.std.specs.Prelude.{◌≡◌, [], IfOk};
 ghost use Rattle.edge_kit.specs.OnMemDisks.{disk_bytes};
 
 mod announce;
+mod links;
+mod node_version;
 mod secret_file;
 mod token;
+mod told_node;
+mod told_signer;
 
 use crate::announce::announce;
+use crate::links::{link_to_signer, node_link};
 use crate::token::{TokenNote, TokenWords, token_words};
+use crate::told_node::ToldNode;
+use crate::told_signer::ToldSigner;
 use beacon_node::BeaconNode;
 use command_line::{ListenAddress, NodeTimeout};
 use edge_clock::{Halt, SystemClock};
 use edge_kit::{Disk, Disks, Door, MemDisk};
 use edge_system::{
-    EpochCounts, FileDisk, LongRequests, Peers, Reading, StandardStream, StandardStreams, Standing,
-    TcpDoor, TcpLink, ToldClock, Writing,
+    EpochCounts, EpochNotes, FileDisk, Peers, Reading, Reports, StandardStream, StandardStreams,
+    Standing, TcpDoor, TcpLink, ToldClock, Writing,
 };
 use node_calls::Node;
 use plan_places::{Places, Services, named};
@@ -30,25 +37,24 @@ use std::process::ExitCode;
 use std::rt::{Clock, Env};
 use std::sync::{Arc, Wait};
 use std::thread::Threads;
-use std::time::Duration;
 use std::{env, io};
 use validator_cli::{Status, run_validator};
 use web3_signer::Web3Signer;
-
-/// How many seconds an exchange with a beacon node may last at least in which a block is made or handed in.
-const BLOCK_SECONDS: u64 = 4;
-
-/// How many seconds an exchange with the signing service may last.
-const SIGNER_SECONDS: u64 = 3;
-
-/// How many seconds one may last in which it takes a keystore in or gives one up.
-const KEYSTORE_SECONDS: u64 = 10;
 
 /// Where the beacon nodes are, and how long a question to one may take.
 #[derive(Drop)]
 struct NodePlaces {
     services: Vec<ServiceUrl>,
     timeout: NodeTimeout,
+}
+
+/// What the objects of a run share: the halt that ends what the door and the clock wait for, what is known of an epoch, and
+/// which reports are made.
+#[derive(Clone, Copy)]
+struct Shared<'a> {
+    halt: &'a Halt,
+    notes: &'a EpochNotes,
+    reports: Reports,
 }
 
 /// The words of the command line. Where one is no UTF-8 there are none, which is no command.
@@ -75,50 +81,21 @@ fn memory_disks(alloc: Global) -> Result<Disks<MemDisk>, AllocError>
     })
 }
 
-/// A link to a service, which is not yet connected, and whose exchanges may last that many seconds.
-fn link_to<'a, R: Net + Eprint + Clock>(
-    rt: &'a R,
-    alloc: Global,
-    service: &ServiceUrl,
-    seconds: u64,
-) -> Result<TcpLink<&'a R>, AllocError> {
-    let host = String::from_str(alloc, service.dial_host())?;
-    let mut link = TcpLink::new(alloc, rt, host, service.port());
-    link.set_limit(Duration::from_secs(seconds));
-    Ok(link)
-}
+/// A beacon node over a link of the system, whose unreadable answers are reported.
+type SystemNode<'a, R> = ToldNode<'a, BeaconNode<TcpLink<&'a R>>, &'a R>;
 
-/// A link to a beacon node, that of this place among the nodes. It is set aside after an exchange that passed its limit,
-/// where there are others to ask.
-fn node_link<'a, R: Net + Eprint + Clock>(
-    rt: &'a R,
-    alloc: Global,
-    service: &ServiceUrl,
-    seconds: u64,
-    peers: &Arc<Peers, Global>,
-    index: usize,
-) -> Result<TcpLink<&'a R>, AllocError> {
-    let mut link = link_to(rt, alloc, service, seconds)?;
-    link.set_long_limit(
-        LongRequests::Blocks,
-        Duration::from_secs(seconds.max(BLOCK_SECONDS)),
-    );
-    link.set_aside_among(Arc::try_clone(peers)?, index);
-    Ok(link)
-}
+/// A signing service over a link of the system, whose unreadable answers are reported.
+type SystemSigner<'a, R> = ToldSigner<Web3Signer<TcpLink<&'a R>>, &'a R>;
 
-/// A link to the signing service.
-fn link_to_signer<'a, R: Net + Eprint + Clock>(
+/// The signing service at an address.
+fn signer_at<'a, R: Net + Eprint + Clock>(
     rt: &'a R,
     alloc: Global,
-    service: &ServiceUrl,
-) -> Result<TcpLink<&'a R>, AllocError> {
-    let mut link = link_to(rt, alloc, service, SIGNER_SECONDS)?;
-    link.set_long_limit(
-        LongRequests::Keystores,
-        Duration::from_secs(KEYSTORE_SECONDS),
-    );
-    Ok(link)
+    service: ServiceUrl,
+) -> Result<SystemSigner<'a, R>, AllocError> {
+    let link = link_to_signer(rt, alloc, &service)?;
+    let place = service.copy(alloc)?;
+    Ok(ToldSigner::new(Web3Signer::new(link, service), place, rt))
 }
 
 /// The beacon nodes at these places, in their order.
@@ -126,23 +103,37 @@ fn nodes_at<'a, R: Net + Eprint + Clock>(
     rt: &'a R,
     alloc: Global,
     places: NodePlaces,
-) -> Result<Vec<BeaconNode<TcpLink<&'a R>>>, AllocError> {
+    shared: Shared<'a>,
+) -> Result<Vec<SystemNode<'a, R>>, AllocError> {
     let NodePlaces { services, timeout } = places;
     let peers = Arc::new(alloc, Peers::new(alloc, services.len())?)?;
     let mut nodes = Vec::new(alloc);
     'services: for (index, service) in services.into_iter().enumerate() {
-        let link = node_link(rt, alloc, &service, timeout.seconds(), &peers, index)?;
-        nodes.push(BeaconNode::new(link, service))?;
+        let seconds = timeout.seconds();
+        let link = node_link(rt, alloc, &service, seconds, &peers, index, shared.reports)?;
+        nodes.push(node_over(rt, alloc, link, service, shared.notes)?)?;
     }
     Ok(nodes)
 }
 
-/// The door at an address, which this halt shuts; where there is none, one that is never opened.
+/// The beacon node at an address, over a link to it.
+fn node_over<'a, R: Net + Eprint + Clock>(
+    rt: &'a R,
+    alloc: Global,
+    link: TcpLink<&'a R>,
+    service: ServiceUrl,
+    notes: &'a EpochNotes,
+) -> Result<SystemNode<'a, R>, AllocError> {
+    let place = service.copy(alloc)?;
+    Ok(ToldNode::new(BeaconNode::new(link, service), place, rt, notes))
+}
+
+/// The door at an address, which the halt shuts; where there is none, one that is never opened.
 fn door_at<'a, R: Net + Eprint + Clock>(
     rt: &'a R,
     alloc: Global,
     listen: Option<ListenAddress>,
-    halt: &'a Halt,
+    shared: Shared<'a>,
 ) -> Result<TcpDoor<'a, &'a R>, AllocError> {
     let (host, port) = match listen {
         Some(address) => {
@@ -151,14 +142,23 @@ fn door_at<'a, R: Net + Eprint + Clock>(
         }
         None => (String::new(alloc), 0),
     };
-    Ok(TcpDoor::new(alloc, rt, host, port, halt))
+    let mut door = TcpDoor::new(alloc, rt, host, port, shared.halt);
+    door.set_reports(shared.reports);
+    Ok(door)
 }
 
 /// A run of the words over these disks, with the services that they name; with a signer in memory where they name none.
 fn run_signing<
     R: Threads + Wait + Sync + Input + Print + Eprint + Net + Clock,
     D: Disk + Drop + Send,
->(rt: &R, alloc: Global, words: &[String], disks: Disks<D>, services: Services) -> Status
+>(
+    rt: &R,
+    alloc: Global,
+    words: &[String],
+    disks: Disks<D>,
+    services: Services,
+    shared: Shared<'_>,
+) -> Status
 where
     R::Stream: Send,
     R::Listener: Send,
@@ -168,6 +168,7 @@ where
         nodes: services,
         timeout,
         listen,
+        quiet: _quiet,
     } = services;
     let nodes = NodePlaces {
         services,
@@ -175,13 +176,12 @@ where
     };
     let Some(service) = signer else {
         let signer = MemSigner::new(alloc, Vec::new(alloc), Vec::new(alloc));
-        return run_asking(rt, alloc, words, disks, signer, nodes, listen);
+        return run_asking(rt, alloc, words, disks, signer, nodes, listen, shared);
     };
-    let Ok(link) = link_to_signer(rt, alloc, &service) else {
+    let Ok(signer) = signer_at(rt, alloc, service) else {
         return Status::OutOfMemory;
     };
-    let signer = Web3Signer::new(link, service);
-    run_asking(rt, alloc, words, disks, signer, nodes, listen)
+    run_asking(rt, alloc, words, disks, signer, nodes, listen, shared)
 }
 
 /// A run of the words over these disks, with this signer, beacon nodes at these places, and a door at that address.
@@ -197,19 +197,19 @@ fn run_asking<
     signer: S,
     nodes: NodePlaces,
     listen: Option<ListenAddress>,
+    shared: Shared<'_>,
 ) -> Status
 where
     R::Stream: Send,
     R::Listener: Send,
 {
-    match nodes_at(rt, alloc, nodes) {
-        Ok(nodes) => run_listening(rt, alloc, words, disks, signer, nodes, listen),
+    match nodes_at(rt, alloc, nodes, shared) {
+        Ok(nodes) => run_listening(rt, alloc, words, disks, signer, nodes, listen, shared),
         Err(AllocError) => Status::OutOfMemory,
     }
 }
 
-/// A run of the words over these disks, with this signer and these nodes, and a door at this address. One halt ends what
-/// the door and the clock wait for.
+/// A run of the words over these disks, with this signer and these nodes, and a door at this address.
 fn run_listening<
     R: Threads + Wait + Sync + Input + Print + Eprint + Net + Clock,
     D: Disk + Drop + Send,
@@ -223,19 +223,19 @@ fn run_listening<
     signer: S,
     nodes: Vec<N>,
     listen: Option<ListenAddress>,
+    shared: Shared<'_>,
 ) -> Status
 where
     R::Stream: Send,
     R::Listener: Send,
 {
-    let halt = Halt::new();
-    match door_at(rt, alloc, listen, &halt) {
-        Ok(door) => run(rt, alloc, words, disks, signer, nodes, door, &halt),
+    match door_at(rt, alloc, listen, shared) {
+        Ok(door) => run(rt, alloc, words, disks, signer, nodes, door, shared),
         Err(AllocError) => Status::OutOfMemory,
     }
 }
 
-/// A run of the words over these objects, which this halt ends.
+/// A run of the words over these objects, which the halt ends.
 fn run<
     R: Threads + Wait + Sync + Input + Print + Eprint + Clock,
     D: Disk + Drop + Send,
@@ -250,10 +250,16 @@ fn run<
     signer: S,
     nodes: Vec<N>,
     door: E,
-    halt: &Halt,
+    shared: Shared<'_>,
 ) -> Status {
+    let Shared {
+        halt,
+        notes,
+        reports,
+    } = shared;
     let mut input = Reading::new(rt.reader(), rt);
-    let mut output = EpochCounts::new(alloc, Writing::new(io::writer(rt), rt), rt);
+    let output = Writing::new(io::writer(rt), rt);
+    let mut output = EpochCounts::new(alloc, output, rt, notes, reports);
     let ending = run_validator(
         rt,
         alloc,
@@ -261,7 +267,7 @@ fn run<
         disks,
         signer,
         nodes,
-        ToldClock::new(SystemClock::new(rt, halt), rt),
+        ToldClock::new(SystemClock::new(rt, halt), rt, notes),
         door,
         &mut input,
         &mut output,
@@ -419,6 +425,11 @@ fn take_streams<R: Files<File = File> + Print + Eprint>(
     }
 }
 
+/// Which reports are made by a server that is quiet, or by one that is not.
+fn reports_of(quiet: bool) -> Reports {
+    if quiet { Reports::Faults } else { Reports::All }
+}
+
 /// The status of the run: over the files of the journal that the words name, else over disks in memory; and with the
 /// services that they name. The standard streams are kept to the end.
 fn main(rt: HostRuntime) -> ExitCode {
@@ -432,14 +443,20 @@ fn main(rt: HostRuntime) -> ExitCode {
     };
     let alloc = rt.alloc();
     let Places { files, services } = places;
-    announce(&rt, &services);
+    let _ = announce(&rt, alloc, words.as_slice());
+    let (halt, notes) = (Halt::new(), EpochNotes::new());
+    let shared = Shared {
+        halt: &halt,
+        notes: &notes,
+        reports: reports_of(services.quiet),
+    };
     let status = match files {
         Some((first, second)) => match file_disks(&rt, alloc, first, second) {
-            Ok(disks) => run_signing(&rt, alloc, words.as_slice(), disks, services),
+            Ok(disks) => run_signing(&rt, alloc, words.as_slice(), disks, services, shared),
             Err(AllocError) => Status::OutOfMemory,
         },
         None => match memory_disks(alloc) {
-            Ok(disks) => run_signing(&rt, alloc, words.as_slice(), disks, services),
+            Ok(disks) => run_signing(&rt, alloc, words.as_slice(), disks, services, shared),
             Err(AllocError) => Status::OutOfMemory,
         },
     };

@@ -1,0 +1,123 @@
+//! A beacon node whose unreadable answers are reported.
+
+use edge_system::{EpochNotes, Visible};
+use node_calls::{Answer, Ask, Node, NodeFault, Post};
+use service_url::ServiceUrl;
+use slash_defs::Granted;
+use std::alloc::{AllocError, Global};
+use std::fmt;
+use std::fmt::{Display, Formatter};
+use std::io::Eprint;
+
+/// A beacon node that reports on standard error each answer that cannot be read or does not fit its question. It notes for
+/// how many keys indices are asked.
+#[derive(Drop)]
+pub(crate) struct ToldNode<'a, N, E> {
+    inner: N,
+    service: ServiceUrl,
+    handle: E,
+    notes: &'a EpochNotes,
+}
+
+impl<'a, N, E: Eprint> ToldNode<'a, N, E> {
+    /// Such a node, of another one at this address. It reports by this handle, and notes here.
+    pub(crate) fn new(inner: N, service: ServiceUrl, handle: E, notes: &'a EpochNotes) -> Self {
+        ToldNode {
+            inner,
+            service,
+            handle,
+            notes,
+        }
+    }
+
+    // Notes what a question says of keys: the fork is asked for before the indices of the active keys are.
+    fn note_keys(&self, ask: &Ask, is_answered: bool) {
+        match ask {
+            Ask::Fork => self.notes.begin_keys(),
+            Ask::Validators { keys } if is_answered => self.notes.add_keys(keys.len()),
+            _ => {}
+        }
+    }
+
+    // Reports what came where it cannot be read.
+    fn report<W: Display + Drop>(&self, fault: &NodeFault, method: &str, target: W) {
+        let NodeFault::Unreadable(body) = fault else {
+            return;
+        };
+        let (host, port) = (self.service.dial_host(), self.service.port());
+        let path = self.service.path();
+        let body = Visible::front(body.as_slice());
+        let _ = eprintln!(&self.handle;
+            "{host}:{port}: {method} {path}{target}: unreadable: {body}"
+        );
+    }
+}
+
+/// The target of a question.
+#[derive(Drop)]
+struct AskTarget<'a>(&'a Ask);
+
+impl Display for AskTarget<'_> {
+    fn fmt<W: fmt::Write>(&self, f: &mut Formatter<W>) -> fmt::Result {
+        let AskTarget(ask) = self;
+        match ask {
+            Ask::Genesis => write!(f, "/eth/v1/beacon/genesis"),
+            Ask::Fork => write!(f, "/eth/v1/beacon/states/head/fork"),
+            Ask::Syncing => write!(f, "/eth/v1/node/syncing"),
+            Ask::Validators { .. } => write!(f, "/eth/v1/beacon/states/head/validators"),
+            Ask::Proposer { epoch } => write!(f, "/eth/v1/validator/duties/proposer/{epoch}"),
+            Ask::Attester { epoch, .. } => write!(f, "/eth/v1/validator/duties/attester/{epoch}"),
+            Ask::Data { slot, .. } => write!(f, "/eth/v1/validator/attestation_data?slot={slot}"),
+            Ask::Block { slot, .. } => write!(f, "/eth/v2/validator/blocks/{slot}"),
+            Ask::Liveness { epoch, .. } => write!(f, "/eth/v1/validator/liveness/{epoch}"),
+        }
+    }
+}
+
+// The method of a question.
+fn method_of(ask: &Ask) -> &'static str {
+    match ask {
+        Ask::Attester { .. } | Ask::Liveness { .. } => "POST",
+        _ => "GET",
+    }
+}
+
+// The target of what is handed in.
+fn post_target(post: &Post) -> &'static str {
+    match post {
+        Post::Vote(_) => "/eth/v1/beacon/pool/attestations",
+        Post::Block(_) => "/eth/v1/beacon/blocks",
+    }
+}
+
+impl<N: Node + Drop, E: Eprint + Copy + Drop> Node for ToldNode<'_, N, E> {
+    ghost told = { λ s. N.told s.inner };
+
+    ghost faults = { λ s. N.faults s.inner };
+
+    fn ask(&mut self, ask: &Ask) -> Result<Answer, NodeFault> {
+        let reply = self.inner.ask(ask);
+        self.note_keys(ask, reply.is_ok());
+        if let Err(fault) = &reply {
+            self.report(fault, method_of(ask), AskTarget(ask));
+        }
+        reply
+    }
+
+    fn post<G: Granted>(&mut self, grant: &G, post: &Post) -> Result<(), NodeFault> {
+        let reply = self.inner.post(grant, post);
+        if let Err(fault) = &reply {
+            self.report(fault, "POST", post_target(post));
+        }
+        reply
+    }
+
+    fn twin(&self, alloc: Global) -> Result<Self, AllocError> {
+        Ok(ToldNode {
+            inner: self.inner.twin(alloc)?,
+            service: self.service.copy(alloc)?,
+            handle: self.handle,
+            notes: self.notes,
+        })
+    }
+}
