@@ -8,9 +8,9 @@ use std::fmt::Display;
 use std::io;
 use std::io::Eprint;
 
-// What the system answered of something, whose failure is counted, and told to the operator in the system's words:
-// a line on standard error.
-pub(crate) fn counted<T, E: Eprint, W: Display + Drop>(
+/// What the system answered of something, whose failure is counted, and reported in the system's words: a line on standard
+/// error.
+pub fn counted<T, E: Eprint, W: Display + Drop>(
     done: io::Result<T>,
     handle: &E,
     what: W,

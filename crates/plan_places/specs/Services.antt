@@ -1,4 +1,4 @@
--- The services that are asked for, where connections are taken, and whether faults alone are told.
+-- The services that are asked for, where connections are taken and what token they must bear, and whether faults alone are told.
 use Rattle.std.specs.Prelude.{ℕ, Bool, false, List, [], Option, None, Some}
 use Rattle.service_url.specs.Services.{Service}
 use Rattle.command_line.specs.Plans.{Asked, session, serve}
@@ -24,6 +24,11 @@ timeout_of asked = None
 abbrev pub listen_of : Asked → Option ListenAddress
 listen_of (serve options) = Some options.listen
 listen_of asked = None
+
+-- the token that connections must bear, if any are taken
+abbrev pub token_of : Asked → Option (List ℕ)
+token_of (serve options) = Some options.token
+token_of asked = None
 
 -- whether standard error has lines of faults alone
 abbrev pub quiet_of : Asked → Bool

@@ -5,11 +5,11 @@
 ghost use Rattle.std.specs.Prelude.{◌≡◌, [], IfOk, None, Ok, Some, false, map, option_map, string_bytes, ◌++◌};
 ghost use Rattle.command_line.specs.Plans.{asked_of, taken_as};
 ghost use Rattle.plan_places.specs.Files.{files_at, files_of};
-ghost use Rattle.plan_places.specs.Services.{listen_of, nodes_of, quiet_of, signer_of, timeout_of};
+ghost use Rattle.plan_places.specs.Services.{listen_of, nodes_of, quiet_of, signer_of, timeout_of, token_of};
 
 mod token_file;
 
-use command_line::{ListenAddress, NodeTimeout, Plan, ServeOptions, plan};
+use command_line::{ListenAddress, NodeTimeout, Plan, ServeOptions, TokenText, plan};
 use service_url::ServiceUrl;
 use std::alloc::{AllocError, Global};
 pub use token_file::{token_path, with_token, without_line_end};
@@ -34,6 +34,8 @@ pub struct Services {
     pub timeout: Option<NodeTimeout>,
     /// Where connections are taken, if anywhere.
     pub listen: Option<ListenAddress>,
+    /// The token that connections must bear, if any are taken.
+    pub token: Option<TokenText>,
     /// Whether standard error has lines of faults alone.
     pub quiet: bool,
 }
@@ -49,6 +51,7 @@ pub fn named(alloc: Global, words: &[String]) -> Result<Places, AllocError>
     ensures nodes { IfOk result (λ x. x.services.nodes.items ≡ nodes_of (asked_of (map string_bytes words.now))) }
     ensures timeout { IfOk result (λ x. x.services.timeout ≡ timeout_of (asked_of (map string_bytes words.now))) }
     ensures listen { IfOk result (λ x. x.services.listen ≡ listen_of (asked_of (map string_bytes words.now))) }
+    ensures token { IfOk result (λ x. x.services.token ≡ token_of (asked_of (map string_bytes words.now))) }
     ensures quiet { IfOk result (λ x. x.services.quiet ≡ quiet_of (asked_of (map string_bytes words.now))) }
 {
     match plan(alloc, words)? {
@@ -67,6 +70,7 @@ fn named_by(alloc: Global, plan: Plan) -> Result<Places, AllocError>
     ensures nodes { IfOk result (λ x. x.services.nodes.items ≡ nodes_of (taken_as (Ok plan))) }
     ensures timeout { IfOk result (λ x. x.services.timeout ≡ timeout_of (taken_as (Ok plan))) }
     ensures listen { IfOk result (λ x. x.services.listen ≡ listen_of (taken_as (Ok plan))) }
+    ensures token { IfOk result (λ x. x.services.token ≡ token_of (taken_as (Ok plan))) }
     ensures quiet { IfOk result (λ x. x.services.quiet ≡ quiet_of (taken_as (Ok plan))) }
 {
     let files = plan_files(alloc, &plan)?;
@@ -80,6 +84,7 @@ fn no_services(alloc: Global) -> Services
     ensures nodes { result.nodes.items ≡ [] }
     ensures timeout { result.timeout ≡ None }
     ensures listen { result.listen ≡ None }
+    ensures token { result.token ≡ None }
     ensures quiet { result.quiet ≡ false }
 {
     Services {
@@ -87,6 +92,7 @@ fn no_services(alloc: Global) -> Services
         nodes: Vec::new(alloc),
         timeout: None,
         listen: None,
+        token: None,
         quiet: false,
     }
 }
@@ -97,6 +103,7 @@ fn services_in(alloc: Global, plan: Plan) -> Services
     ensures nodes { result.nodes.items ≡ nodes_of (taken_as (Ok plan)) }
     ensures timeout { result.timeout ≡ timeout_of (taken_as (Ok plan)) }
     ensures listen { result.listen ≡ listen_of (taken_as (Ok plan)) }
+    ensures token { result.token ≡ token_of (taken_as (Ok plan)) }
     ensures quiet { result.quiet ≡ quiet_of (taken_as (Ok plan)) }
 {
     match plan {
@@ -106,6 +113,7 @@ fn services_in(alloc: Global, plan: Plan) -> Services
             nodes: Vec::new(alloc),
             timeout: None,
             listen: None,
+            token: None,
             quiet: false,
         },
         _ => no_services(alloc),
@@ -118,6 +126,7 @@ fn services_of(options: ServeOptions) -> Services
     ensures nodes { result.nodes.items ≡ options.nodes }
     ensures timeout { result.timeout ≡ Some options.timeout }
     ensures listen { result.listen ≡ Some options.listen }
+    ensures token { result.token ≡ Some options.token }
     ensures quiet { result.quiet ≡ options.quiet }
 {
     let ServeOptions {
@@ -125,7 +134,7 @@ fn services_of(options: ServeOptions) -> Services
         journal: _journal,
         signer,
         listen,
-        token: _token,
+        token,
         watch: _watch,
         slots: _slots,
         connections: _connections,
@@ -140,6 +149,7 @@ fn services_of(options: ServeOptions) -> Services
         nodes: nodes.into_vec(),
         timeout: Some(timeout),
         listen: Some(listen),
+        token: Some(token),
         quiet,
     }
 }

@@ -1,7 +1,7 @@
 //! A listener of the system as a door, and a connection of it as a link.
 use edge_clock::Halt;
 use edge_kit::{Door, Failed, Link};
-use edge_system::{Peers, TcpConn, TcpDoor, TcpLink};
+use edge_sockets::{Peers, TcpConn, TcpDoor, TcpLink};
 use std::alloc::{AllocError, Global};
 use std::io::{Eprint, Read, Write};
 use std::net::{Net, OpenListener, OpenStream, TcpListener, TcpStream};
@@ -104,7 +104,7 @@ fn shut_door<'a, N: Net + Eprint + Clock + Abort + Copy + Drop>(
     let free = TcpListener::bind(&rt, "127.0.0.1:0")?;
     let port = free.local_addr()?.port();
     let host = String::from_str(alloc, "127.0.0.1")?;
-    let mut door = TcpDoor::new(alloc, rt, host, port, halt);
+    let mut door = TcpDoor::new(alloc, rt, host, port, String::new(alloc), halt);
     assert!(rt; door.accept().is_err());
     Ok((door, port))
 }

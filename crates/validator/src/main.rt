@@ -4,26 +4,19 @@
 ghost use Rattle.std.specs.Prelude.{◌≡◌, [], IfOk};
 ghost use Rattle.edge_kit.specs.OnMemDisks.{disk_bytes};
 
-mod announce;
-mod links;
-mod node_version;
 mod secret_file;
 mod token;
-mod told_node;
-mod told_signer;
 
-use crate::announce::announce;
-use crate::links::{link_to_signer, node_link};
 use crate::token::{TokenNote, TokenWords, token_words};
-use crate::told_node::ToldNode;
-use crate::told_signer::ToldSigner;
 use beacon_node::BeaconNode;
-use command_line::{ListenAddress, NodeTimeout};
+use command_line::{ListenAddress, NodeTimeout, TokenText};
 use edge_clock::{Halt, SystemClock};
 use edge_kit::{Disk, Disks, Door, MemDisk};
+use edge_services::{ToldNode, ToldSigner, announce, link_to_signer, node_link};
+use edge_sockets::{Peers, TcpDoor, TcpLink};
 use edge_system::{
-    EpochCounts, EpochNotes, FileDisk, Peers, Reading, Reports, StandardStream, StandardStreams,
-    Standing, TcpDoor, TcpLink, ToldClock, Writing,
+    EpochCounts, EpochNotes, FileDisk, Reading, Reports, StandardStream, StandardStreams, Standing,
+    ToldClock, Writing,
 };
 use node_calls::Node;
 use plan_places::{Places, Services, named};
@@ -46,6 +39,13 @@ use web3_signer::Web3Signer;
 struct NodePlaces {
     services: Vec<ServiceUrl>,
     timeout: NodeTimeout,
+}
+
+/// Where connections are taken, if anywhere, and the token that they must bear.
+#[derive(Drop)]
+struct DoorPlace {
+    listen: Option<ListenAddress>,
+    token: Option<TokenText>,
 }
 
 /// What the objects of a run share: the halt that ends what the door and the clock wait for, what is known of an epoch, and
@@ -132,9 +132,10 @@ fn node_over<'a, R: Net + Eprint + Clock>(
 fn door_at<'a, R: Net + Eprint + Clock>(
     rt: &'a R,
     alloc: Global,
-    listen: Option<ListenAddress>,
+    place: DoorPlace,
     shared: Shared<'a>,
 ) -> Result<TcpDoor<'a, &'a R>, AllocError> {
+    let DoorPlace { listen, token } = place;
     let (host, port) = match listen {
         Some(address) => {
             let host = address.host;
@@ -142,7 +143,9 @@ fn door_at<'a, R: Net + Eprint + Clock>(
         }
         None => (String::new(alloc), 0),
     };
-    let mut door = TcpDoor::new(alloc, rt, host, port, shared.halt);
+    let token = token.as_ref().map_or("", |token| token.as_str());
+    let token = String::from_str(alloc, token)?;
+    let mut door = TcpDoor::new(alloc, rt, host, port, token, shared.halt);
     door.set_reports(shared.reports);
     Ok(door)
 }
@@ -168,23 +171,25 @@ where
         nodes: services,
         timeout,
         listen,
+        token,
         quiet: _quiet,
     } = services;
+    let place = DoorPlace { listen, token };
     let nodes = NodePlaces {
         services,
         timeout: timeout.unwrap_or(NodeTimeout::two()),
     };
     let Some(service) = signer else {
         let signer = MemSigner::new(alloc, Vec::new(alloc), Vec::new(alloc));
-        return run_asking(rt, alloc, words, disks, signer, nodes, listen, shared);
+        return run_asking(rt, alloc, words, disks, signer, nodes, place, shared);
     };
     let Ok(signer) = signer_at(rt, alloc, service) else {
         return Status::OutOfMemory;
     };
-    run_asking(rt, alloc, words, disks, signer, nodes, listen, shared)
+    run_asking(rt, alloc, words, disks, signer, nodes, place, shared)
 }
 
-/// A run of the words over these disks, with this signer, beacon nodes at these places, and a door at that address.
+/// A run of the words over these disks, with this signer, beacon nodes at these places, and a door at that place.
 fn run_asking<
     R: Threads + Wait + Sync + Input + Print + Eprint + Net + Clock,
     D: Disk + Drop + Send,
@@ -196,7 +201,7 @@ fn run_asking<
     disks: Disks<D>,
     signer: S,
     nodes: NodePlaces,
-    listen: Option<ListenAddress>,
+    place: DoorPlace,
     shared: Shared<'_>,
 ) -> Status
 where
@@ -204,12 +209,12 @@ where
     R::Listener: Send,
 {
     match nodes_at(rt, alloc, nodes, shared) {
-        Ok(nodes) => run_listening(rt, alloc, words, disks, signer, nodes, listen, shared),
+        Ok(nodes) => run_listening(rt, alloc, words, disks, signer, nodes, place, shared),
         Err(AllocError) => Status::OutOfMemory,
     }
 }
 
-/// A run of the words over these disks, with this signer and these nodes, and a door at this address.
+/// A run of the words over these disks, with this signer and these nodes, and a door at this place.
 fn run_listening<
     R: Threads + Wait + Sync + Input + Print + Eprint + Net + Clock,
     D: Disk + Drop + Send,
@@ -222,14 +227,14 @@ fn run_listening<
     disks: Disks<D>,
     signer: S,
     nodes: Vec<N>,
-    listen: Option<ListenAddress>,
+    place: DoorPlace,
     shared: Shared<'_>,
 ) -> Status
 where
     R::Stream: Send,
     R::Listener: Send,
 {
-    match door_at(rt, alloc, listen, shared) {
+    match door_at(rt, alloc, place, shared) {
         Ok(door) => run(rt, alloc, words, disks, signer, nodes, door, shared),
         Err(AllocError) => Status::OutOfMemory,
     }

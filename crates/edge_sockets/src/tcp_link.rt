@@ -5,12 +5,11 @@ ghost use Rattle.edge_kit.specs.Causes.{HasCause};
 
 use crate::address::Address;
 use crate::heard::{Call, Heard};
-use crate::reports::Reports;
 use crate::silence::Peers;
 use crate::span::Span;
 use crate::tcp_stream::{LongRequests, Timed, recv_over, send_over};
-use crate::told::counted;
 use edge_kit::{Failed, Link, count_fault};
+use edge_system::{Reports, counted};
 use std::alloc::{AllocError, Global};
 use std::fmt::Display;
 use std::io;

@@ -1,7 +1,7 @@
 //! What became of the keys of a request of the Keymanager API, key by key.
 use crate::heard::Visible;
 use crate::json_scan::{JsonScan, Met};
-use crate::reports::Reports;
+use edge_system::Reports;
 use std::alloc::Global;
 use std::fmt;
 use std::fmt::{Display, Formatter};

@@ -1,6 +1,7 @@
 //! A beacon node whose unreadable answers are reported.
 
-use edge_system::{EpochNotes, Visible};
+use edge_sockets::Visible;
+use edge_system::EpochNotes;
 use node_calls::{Answer, Ask, Node, NodeFault, Post};
 use service_url::ServiceUrl;
 use slash_defs::Granted;
@@ -12,7 +13,7 @@ use std::io::Eprint;
 /// A beacon node that reports on standard error each answer that cannot be read or does not fit its question. It notes for
 /// how many keys indices are asked.
 #[derive(Drop)]
-pub(crate) struct ToldNode<'a, N, E> {
+pub struct ToldNode<'a, N, E> {
     inner: N,
     service: ServiceUrl,
     handle: E,
@@ -21,7 +22,7 @@ pub(crate) struct ToldNode<'a, N, E> {
 
 impl<'a, N, E: Eprint> ToldNode<'a, N, E> {
     /// Such a node, of another one at this address. It reports by this handle, and notes here.
-    pub(crate) fn new(inner: N, service: ServiceUrl, handle: E, notes: &'a EpochNotes) -> Self {
+    pub fn new(inner: N, service: ServiceUrl, handle: E, notes: &'a EpochNotes) -> Self {
         ToldNode {
             inner,
             service,

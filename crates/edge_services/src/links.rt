@@ -1,6 +1,7 @@
 //! Links to the services, each with how long an exchange over it may last.
 
-use edge_system::{LongRequests, Peers, Reports, TcpLink};
+use edge_sockets::{LongRequests, Peers, TcpLink};
+use edge_system::Reports;
 use service_url::ServiceUrl;
 use std::alloc::{AllocError, Global};
 use std::io::Eprint;
@@ -33,7 +34,7 @@ pub(crate) fn link_to<'a, R: Net + Eprint + Clock>(
 
 /// A link to a beacon node, that of this place among the nodes. It is set aside after an exchange that passed its limit,
 /// where there are others to ask.
-pub(crate) fn node_link<'a, R: Net + Eprint + Clock>(
+pub fn node_link<'a, R: Net + Eprint + Clock>(
     rt: &'a R,
     alloc: Global,
     service: &ServiceUrl,
@@ -53,7 +54,7 @@ pub(crate) fn node_link<'a, R: Net + Eprint + Clock>(
 }
 
 /// A link to the signing service.
-pub(crate) fn link_to_signer<'a, R: Net + Eprint + Clock>(
+pub fn link_to_signer<'a, R: Net + Eprint + Clock>(
     rt: &'a R,
     alloc: Global,
     service: &ServiceUrl,

@@ -1,7 +1,7 @@
 //! A signing service whose unreadable answers are reported.
 
 use edge_kit::PubKey;
-use edge_system::Visible;
+use edge_sockets::Visible;
 use service_url::ServiceUrl;
 use signer_link::{DeleteReply, ImportReply, PlainRequest, SignReply, SignRequest, Signer};
 use slash_defs::Granted;
@@ -15,7 +15,7 @@ const KEYSTORES: &str = "/eth/v1/keystores";
 
 /// A signing service that reports on standard error each answer that cannot be read.
 #[derive(Drop)]
-pub(crate) struct ToldSigner<S, E> {
+pub struct ToldSigner<S, E> {
     inner: S,
     service: ServiceUrl,
     handle: E,
@@ -23,7 +23,7 @@ pub(crate) struct ToldSigner<S, E> {
 
 impl<S, E: Eprint> ToldSigner<S, E> {
     /// Such a service, of another one at this address. It reports by this handle.
-    pub(crate) fn new(inner: S, service: ServiceUrl, handle: E) -> Self {
+    pub fn new(inner: S, service: ServiceUrl, handle: E) -> Self {
         ToldSigner {
             inner,
             service,

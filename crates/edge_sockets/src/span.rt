@@ -28,6 +28,11 @@ impl Span {
         }
     }
 
+    // A span of the same length that begins now.
+    pub(crate) fn again<C: Clock>(&self, clock: &C) -> io::Result<Self> {
+        Span::begin(clock, self.limit)
+    }
+
     // What is left of it. Where nothing is, the call that asks has timed out.
     pub(crate) fn left<C: Clock>(&self, clock: &C) -> io::Result<Duration> {
         let left = self.limit.saturating_sub(self.begun.elapsed(clock)?);

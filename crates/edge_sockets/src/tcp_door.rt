@@ -1,18 +1,18 @@
 //! A TCP listener of the system as a door. It tells nothing of its connections.
 ghost use Rattle.std.specs.Prelude.{◌≡◌, ◌<◌, None, IfOk, length};
-ghost use Rattle.std.specs.Io.{WritesAtMost};
+ghost use Rattle.std.specs.Io.{ReadsAtMost, WritesAtMost};
 ghost use Rattle.std.specs.Result.{result_ok};
 ghost use Rattle.edge_kit.specs.Causes.{HasCause};
 
 use crate::address::Address;
 use crate::heard::{Call, Heard};
 use crate::key_outcomes::KeyOutcomes;
-use crate::reports::Reports;
 use crate::span::Span;
 use crate::tcp_stream::{Timed, recv_over, send_over};
-use crate::told::counted;
+use crate::waiting::{Look, Room, Waiting};
 use edge_clock::Halt;
 use edge_kit::{Door, Failed, Link, count_fault};
+use edge_system::{Reports, counted};
 use std::alloc::{AllocError, Global};
 use std::io::{Eprint, ErrorKind, Read, Write};
 use std::net::{Net, OpenListener, OpenStream, TcpListener};
@@ -72,15 +72,20 @@ const FORBIDDEN: i32 = 1;
 /// while it is accepted is passed over. Where the system cannot accept for now, as when the process may open no more
 /// files, that is reported once, and `accept` tries again until it can. Once its halt is raised `accept` waits no longer:
 /// no further connection comes.
+///
+/// Some connections wait beside each other until their requests have come in, so that a slow peer bars no other: the first
+/// whose request is there is given first. One whose head does not bear the token is given once that head is there.
 #[derive(Drop)]
 pub struct TcpDoor<'a, N: Net + Eprint + Clock + Drop> {
     alloc: Global,
     handle: N,
     host: String,
     port: u16,
+    token: String,
     halt: &'a Halt,
     reports: Reports,
     listener: Option<N::Listener>,
+    room: Room<N::Stream>,
     faults: u64,
 }
 
@@ -94,6 +99,10 @@ pub struct TcpDoor<'a, N: Net + Eprint + Clock + Drop> {
 #[derive(Drop)]
 pub struct TcpConn<S: Read + Write + OpenStream + Drop, C: Eprint + Clock + Drop> {
     stream: Option<Timed<S>>,
+    /// What was read of the request before the connection was accepted.
+    arrived: Vec<u8>,
+    /// How much of that was received.
+    taken: usize,
     clock: C,
     heard: Heard,
     outcomes: KeyOutcomes,
@@ -102,8 +111,15 @@ pub struct TcpConn<S: Read + Write + OpenStream + Drop, C: Eprint + Clock + Drop
 }
 
 impl<'a, N: Net + Eprint + Clock + Drop> TcpDoor<'a, N> {
-    /// A door that doesn't listen yet, and that accepts nothing once this halt is raised.
-    pub fn new(alloc: Global, handle: N, host: String, port: u16, halt: &'a Halt) -> Self
+    /// A door that doesn't listen yet, and that accepts nothing once this halt is raised. Requests are to bear this token.
+    pub fn new(
+        alloc: Global,
+        handle: N,
+        host: String,
+        port: u16,
+        token: String,
+        halt: &'a Halt,
+    ) -> Self
         ensures { result.faults ≡ 0 }
     {
         TcpDoor {
@@ -111,9 +127,11 @@ impl<'a, N: Net + Eprint + Clock + Drop> TcpDoor<'a, N> {
             handle,
             host,
             port,
+            token,
             halt,
             reports: Reports::All,
             listener: None,
+            room: Room::new(alloc),
             faults: 0,
         }
     }
@@ -169,8 +187,9 @@ impl<'a, N: Net + Eprint + Clock + Drop> TcpDoor<'a, N> {
         Ok(listener)
     }
 
-    // The next connection that the listener accepts, which listens from now on; none once the halt is raised.
-    fn next(&mut self) -> io::Result<Option<N::Stream>>
+    // The next connection whose request is there, of those that the listener accepts, which listens from now on; none once
+    // the halt is raised.
+    fn next(&mut self) -> io::Result<Option<Waiting<N::Stream>>>
         ensures { self.new.faults ≡ self.old.faults }
     {
         let listener = self.take()?;
@@ -179,27 +198,51 @@ impl<'a, N: Net + Eprint + Clock + Drop> TcpDoor<'a, N> {
         next
     }
 
-    // The next connection that a listener accepts; none once the halt is raised. What passes is waited out, and reported
-    // once.
-    fn next_of(&self, listener: &N::Listener) -> io::Result<Option<N::Stream>> {
-        let mut is_reported = false;
+    // The next connection whose request is there, of those that a listener accepts; none once the halt is raised.
+    fn next_of(&mut self, listener: &N::Listener) -> io::Result<Option<Waiting<N::Stream>>>
+        ensures { self.new.faults ≡ self.old.faults }
+    {
         let mut look = 1;
-        'accepting: for _ in 0..u64::MAX {
+        let mut is_reported = false;
+        'looks: for _ in 0..u64::MAX {
             if self.halt.is_raised() {
                 return Ok(None);
             }
-            match listener.accept() {
-                Ok((stream, _)) => return Ok(Some(stream)),
-                Err(error) if error.kind() == ErrorKind::WouldBlock => look = self.look_later(look),
-                Err(error) if is_of_one(error.kind()) => {}
-                Err(error) if is_passing(&error) => {
-                    self.wait_out(&error, is_reported);
-                    is_reported = true;
-                }
-                Err(error) => return Err(error),
+            let has_come = self.admit(listener, &mut is_reported)?;
+            match self.room.look(&self.handle, self.token.as_str()) {
+                Look::Ready(waiting) => return Ok(Some(waiting)),
+                Look::More => look = 1,
+                Look::Nothing if has_come => look = 1,
+                Look::Nothing => look = self.look_later(look),
             }
         }
         Ok(None)
+    }
+
+    // Lets the next connection wait that the listener accepts now, where there is a place for one, and says whether one
+    // came. What passes is waited out, and reported once.
+    fn admit(&mut self, listener: &N::Listener, is_reported: &mut bool) -> io::Result<bool>
+        ensures { self.new.faults ≡ self.old.faults }
+    {
+        if !self.room.has_place() {
+            return Ok(false);
+        }
+        match listener.accept() {
+            Ok((stream, _)) => {
+                let limit = Duration::from_secs(LIMIT_SECONDS);
+                let silent = Duration::from_secs(READ_SECONDS);
+                self.room.admit(&self.handle, stream, limit, silent);
+                Ok(true)
+            }
+            Err(error) if error.kind() == ErrorKind::WouldBlock => Ok(false),
+            Err(error) if is_of_one(error.kind()) => Ok(true),
+            Err(error) if is_passing(&error) => {
+                self.wait_out(&error, *is_reported);
+                *is_reported = true;
+                Ok(false)
+            }
+            Err(error) => Err(error),
+        }
     }
 
     // Waits for that many milliseconds, and gives for how many to wait the next time.
@@ -218,13 +261,6 @@ impl<'a, N: Net + Eprint + Clock + Drop> TcpDoor<'a, N> {
         thread::sleep(&self.handle, Duration::from_millis(NAP_MILLISECONDS));
     }
 
-    // A connection whose calls all end with one span, which begins now.
-    fn timed(&self, stream: N::Stream) -> io::Result<Timed<N::Stream>> {
-        let span = Span::begin(&self.handle, Duration::from_secs(LIMIT_SECONDS))?;
-        let longest = Duration::from_secs(READ_SECONDS);
-        Timed::new(self.alloc, stream, span, Some(longest))
-    }
-
     // What the system answered, whose failure is counted and reported.
     fn counted<T>(&mut self, done: io::Result<T>) -> Result<T, Failed>
         ensures same { result_ok result ≡ result_ok done }
@@ -236,6 +272,36 @@ impl<'a, N: Net + Eprint + Clock + Drop> TcpDoor<'a, N> {
         };
         counted(done, &self.handle, address, &mut self.faults)
     }
+}
+
+impl<N: Net + Eprint + Clock + Copy + Drop> TcpDoor<'_, N> {
+    // A connection whose request is there, whose calls go on within what is left of its span.
+    fn served(&self, waiting: Waiting<N::Stream>) -> TcpConn<N::Stream, N>
+        ensures { result.faults ≡ 0 }
+    {
+        let (stream, span, arrived) = waiting.into_parts();
+        TcpConn {
+            stream: timed(self.alloc, stream, span).ok(),
+            arrived,
+            taken: 0,
+            clock: self.handle,
+            heard: Heard::new(self.alloc),
+            outcomes: KeyOutcomes::new(self.alloc),
+            reports: self.reports,
+            faults: 0,
+        }
+    }
+}
+
+// A connection whose calls wait, and all end with this span.
+fn timed<S: Read + Write + OpenStream + Drop>(
+    alloc: Global,
+    stream: S,
+    span: Span,
+) -> io::Result<Timed<S>> {
+    stream.set_nonblocking(false)?;
+    let longest = Duration::from_secs(READ_SECONDS);
+    Timed::new(alloc, stream, span, Some(longest))
 }
 
 // Whether a failure is that of one connection, or of none.
@@ -274,17 +340,10 @@ impl<N: Net + Eprint + Clock + Copy + Drop> Door for TcpDoor<'_, N> {
 
     fn accept(&mut self) -> Result<Option<TcpConn<N::Stream, N>>, Failed> {
         let next = self.next();
-        let Some(stream) = self.counted(next)? else {
+        let Some(waiting) = self.counted(next)? else {
             return Ok(None);
         };
-        Ok(Some(TcpConn {
-            stream: self.timed(stream).ok(),
-            clock: self.handle,
-            heard: Heard::new(self.alloc),
-            outcomes: KeyOutcomes::new(self.alloc),
-            reports: self.reports,
-            faults: 0,
-        }))
+        Ok(Some(self.served(waiting)))
     }
 
     fn finish(&mut self, _conn: TcpConn<N::Stream, N>) {}
@@ -308,6 +367,31 @@ impl<S: Read + Write + OpenStream + Drop, C: Eprint + Clock + Drop> TcpConn<S, C
             stream.begin_reply(&self.clock, Duration::from_secs(LIMIT_SECONDS))?;
         }
         send_over(&mut self.stream, &self.clock, piece)
+    }
+
+    // Reads some bytes of a request: of those that were read before, or of the connection.
+    fn read(&mut self, buf: &mut [u8]) -> io::Result<usize>
+        ensures bound { ReadsAtMost result buf.new }
+        ensures faults { self.new.faults ≡ self.old.faults }
+    {
+        let mut rest = self.arrived.get(self.taken..).unwrap_or(&[]);
+        if rest.is_empty() {
+            return self.read_on(buf);
+        }
+        let count = rest.read(buf)?;
+        self.taken = self.taken.saturating_add(count);
+        Ok(count)
+    }
+
+    // Reads some bytes of the connection.
+    fn read_on(&mut self, buf: &mut [u8]) -> io::Result<usize>
+        ensures bound { ReadsAtMost result buf.new }
+        ensures faults { self.new.faults ≡ self.old.faults }
+    {
+        if let Some(stream) = &mut self.stream {
+            stream.await_reply();
+        }
+        recv_over(&mut self.stream, &self.clock, buf)
     }
 
     // Reports a request that changes something, or that was refused.
@@ -372,10 +456,7 @@ impl<S: Read + Write + OpenStream + Drop, C: Eprint + Clock + Copy + Drop> Link 
     }
 
     fn recv(&mut self, buf: &mut [u8]) -> Result<usize, Failed> {
-        if let Some(stream) = &mut self.stream {
-            stream.await_reply();
-        }
-        let read = recv_over(&mut self.stream, &self.clock, buf);
+        let read = self.read(buf);
         if let Ok(count) = &read {
             self.note_request(buf.get(..*count).unwrap_or(&[]));
         }
@@ -401,6 +482,8 @@ impl<S: Read + Write + OpenStream + Drop, C: Eprint + Clock + Copy + Drop> Link 
     {
         Ok(TcpConn {
             stream: None,
+            arrived: Vec::new(alloc),
+            taken: 0,
             clock: self.clock,
             heard: Heard::new(alloc),
             outcomes: KeyOutcomes::new(alloc),

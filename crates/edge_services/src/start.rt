@@ -18,7 +18,7 @@ use std::rt::Clock;
 /// # Errors
 ///
 /// `AllocError` where memory was wanted.
-pub(crate) fn announce<R: Net + Eprint + Clock>(
+pub fn announce<R: Net + Eprint + Clock>(
     rt: &R,
     alloc: Global,
     words: &[String],

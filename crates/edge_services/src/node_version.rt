@@ -1,7 +1,7 @@
 //! The version of a beacon node.
 
 use crate::links::link_to;
-use edge_system::Visible;
+use edge_sockets::Visible;
 use http::Method;
 use http_call::call;
 use json_members::{json_of, text_in};

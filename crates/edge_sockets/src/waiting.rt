@@ -1,0 +1,172 @@
+//! Connections that were accepted and whose requests are coming in.
+use crate::request_front::is_ready;
+use crate::span::Span;
+use std::alloc::Global;
+use std::io;
+use std::io::{ErrorKind, Read, Write};
+use std::net::OpenStream;
+use std::rt::Clock;
+use std::time::Duration;
+
+/// How many connections wait at most.
+const PLACES: usize = 8;
+
+/// How many bytes are read of a connection at a time.
+const PIECE_BYTES: usize = 16_384;
+
+/// A connection whose request is coming in.
+#[derive(Drop)]
+pub(crate) struct Waiting<S> {
+    stream: S,
+    span: Span,
+    /// From when on nothing has come in, and for how long that may be so.
+    silence: Span,
+    arrived: Vec<u8>,
+    /// Nothing further comes in here.
+    is_over: bool,
+}
+
+/// What a look at the connections that wait has found.
+#[derive(Drop)]
+pub(crate) enum Look<S> {
+    /// A connection whose request is to be served now.
+    Ready(Waiting<S>),
+    /// More of some request has come in.
+    More,
+    /// Nothing has come in.
+    Nothing,
+}
+
+/// Connections whose requests are coming in, at most `PLACES`.
+#[derive(Drop)]
+pub(crate) struct Room<S> {
+    alloc: Global,
+    waiting: Vec<Waiting<S>>,
+}
+
+impl<S: Read + Write + OpenStream + Drop> Room<S> {
+    /// No connection waits. Takes no memory.
+    pub(crate) fn new(alloc: Global) -> Self {
+        Room {
+            alloc,
+            waiting: Vec::new(alloc),
+        }
+    }
+
+    /// Whether there is a place for one more.
+    pub(crate) fn has_place(&self) -> bool {
+        self.waiting.len() < PLACES
+    }
+
+    /// Lets a connection wait whose request may last so long from now on, and be silent so long. Where the system does not
+    /// let it, or memory is wanted, the connection is ended.
+    pub(crate) fn admit<C: Clock>(
+        &mut self,
+        clock: &C,
+        stream: S,
+        limit: Duration,
+        silent: Duration,
+    ) {
+        let Ok(waiting) = Waiting::new(self.alloc, clock, stream, limit, silent) else {
+            return;
+        };
+        let _ = self.waiting.push(waiting);
+    }
+
+    /// Reads what has come in. The first connection whose request is to be served now waits no longer.
+    pub(crate) fn look<C: Clock>(&mut self, clock: &C, token: &str) -> Look<S> {
+        let mut ready = None;
+        let mut has_come = false;
+        'waiting: for (place, waiting) in self.waiting.iter_mut().enumerate() {
+            has_come |= waiting.read(clock);
+            if ready.is_none() && waiting.is_ready(clock, token) {
+                ready = Some(place);
+            }
+        }
+        match ready {
+            Some(place) if place < self.waiting.len() => Look::Ready(self.waiting.remove(place)),
+            _ if has_come => Look::More,
+            _ => Look::Nothing,
+        }
+    }
+}
+
+impl<S: Read + Write + OpenStream + Drop> Waiting<S> {
+    // A connection that waits from now on.
+    fn new<C: Clock>(
+        alloc: Global,
+        clock: &C,
+        stream: S,
+        limit: Duration,
+        silent: Duration,
+    ) -> io::Result<Self> {
+        let span = Span::begin(clock, limit)?;
+        stream.set_nonblocking(true)?;
+        Ok(Waiting {
+            stream,
+            span,
+            silence: span.with_limit(silent),
+            arrived: Vec::new(alloc),
+            is_over: false,
+        })
+    }
+
+    // The connection, its span, and what of its request has come in.
+    pub(crate) fn into_parts(self) -> (S, Span, Vec<u8>) {
+        let Waiting {
+            stream,
+            span,
+            silence: _silence,
+            arrived,
+            is_over: _is_over,
+        } = self;
+        (stream, span, arrived)
+    }
+
+    // Reads what has come in, and says whether anything has. Where memory is wanted for it, it is left to whoever serves the
+    // request.
+    fn read<C: Clock>(&mut self, clock: &C) -> bool {
+        let mut piece = [0; PIECE_BYTES];
+        if self.arrived.reserve(PIECE_BYTES).is_err() {
+            self.is_over = true;
+            return false;
+        }
+        match self.stream.read(&mut piece) {
+            Err(error) if is_later(error.kind()) => false,
+            Ok(0) | Err(_) => {
+                self.is_over = true;
+                false
+            }
+            Ok(count) => {
+                self.keep(clock, piece.get(..count).unwrap_or(&[]));
+                true
+            }
+        }
+    }
+
+    // Keeps a piece, for which there is room.
+    fn keep<C: Clock>(&mut self, clock: &C, piece: &[u8]) {
+        let _ = self.arrived.extend_from_slice(piece);
+        if let Ok(silence) = self.silence.again(clock) {
+            self.silence = silence;
+        }
+    }
+
+    // Whether its request is to be served now: it is there, or nothing further comes in. Where it comes in too slowly, whoever
+    // serves it finds its time over.
+    fn is_ready<C: Clock>(&mut self, clock: &C, token: &str) -> bool {
+        if self.is_over || is_ready(self.arrived.as_slice(), token) {
+            return true;
+        }
+        let is_late = self.span.left(clock).is_err() || self.silence.left(clock).is_err();
+        if is_late {
+            self.span = self.span.with_limit(Duration::ZERO);
+        }
+        is_late
+    }
+}
+
+// Whether a failure says that nothing has come in yet.
+fn is_later(kind: ErrorKind) -> bool {
+    matches!(kind, ErrorKind::WouldBlock | ErrorKind::Interrupted)
+}
