@@ -1,12 +1,12 @@
 //! What a node answers, in words. A validator's index is the number of its key.
 ghost use Rattle.std.specs.Prelude.{◌≡◌};
 
-use crate::words::{Unread, key, numbers_of, root};
+use crate::words::{key, numbers_of, root};
 use edge_kit::{Items, Root, Sig};
 use node_calls::{Answer, AttesterRow, LivenessRow, ProposerRow, ValidatorRow};
 use phase0_blocks::{BeaconBlock, BeaconBlockBody};
 use phase0_types::{AttestationData, BoundedList, Checkpoint, Eth1Data, Fork};
-use std::alloc::{AllocError, Global};
+use std::alloc::Global;
 
 /// The fork of the chain.
 pub const FORK: Fork = Fork {
@@ -46,68 +46,69 @@ pub fn attester(number: u64, slot: u64) -> AttesterRow
 }
 
 /// `indices=KEY,KEY`: the indices of keys.
-fn indices(alloc: Global, numbers: &[u64]) -> Result<Answer, Unread> {
+fn indices(alloc: Global, numbers: &[u64]) -> Option<Answer> {
     let mut rows = Vec::new(alloc);
     for number in numbers {
         rows.push(ValidatorRow {
             index: *number,
             pubkey: key(*number),
-        })?;
+        })
+        .ok()?;
     }
-    Ok(Answer::Validators(Items::from_vec(rows)))
+    Some(Answer::Validators(Items::from_vec(rows)))
 }
 
 /// `live=KEY:1`, or `live=KEY:0`: whether a key was live.
-fn liveness(alloc: Global, numbers: &[u64]) -> Result<Answer, Unread> {
+fn liveness(alloc: Global, numbers: &[u64]) -> Option<Answer> {
     let [number, live] = numbers else {
-        return Err(Unread);
+        return None;
     };
     let row = LivenessRow {
         index: *number,
         is_live: *live == 1,
     };
-    Ok(Answer::Liveness(Items::from_vec(vec![in alloc; row]?)))
+    Some(Answer::Liveness(Items::from_vec(vec![in alloc; row].ok()?)))
 }
 
 /// `proposes=ROOT:SLOT,SLOT`: under a dependent root, the slots in which key 1 proposes.
-fn proposes(alloc: Global, numbers: &[u64]) -> Result<Answer, Unread> {
+fn proposes(alloc: Global, numbers: &[u64]) -> Option<Answer> {
     let [dependent, slots @ ..] = numbers else {
-        return Err(Unread);
+        return None;
     };
     let mut rows = Vec::new(alloc);
     for slot in slots {
-        rows.push(proposer(1, *slot))?;
+        rows.push(proposer(1, *slot)).ok()?;
     }
-    Ok(Answer::Proposer {
+    Some(Answer::Proposer {
         dependent_root: root(*dependent),
         rows: Items::from_vec(rows),
     })
 }
 
 /// `votes=ROOT:KEY@SLOT,KEY@SLOT`: under a dependent root, the slots in which keys vote.
-fn votes(alloc: Global, numbers: &[u64]) -> Result<Answer, Unread> {
+fn votes(alloc: Global, numbers: &[u64]) -> Option<Answer> {
     let [dependent, votes @ ..] = numbers else {
-        return Err(Unread);
+        return None;
     };
     let mut rows = Vec::new(alloc);
     for vote in votes.chunks(2) {
         let [number, slot] = vote else {
-            return Err(Unread);
+            return None;
         };
-        rows.push(attester(*number, *slot))?;
+        rows.push(attester(*number, *slot)).ok()?;
     }
-    Ok(Answer::Attester {
+    Some(Answer::Attester {
         dependent_root: root(*dependent),
         rows: Items::from_vec(rows),
     })
 }
 
 /// `data=SLOT,COMMITTEE,ROOT`: what a committee is to vote, from epoch 0 to the slot's.
-fn details(numbers: &[u64]) -> Result<Answer, Unread> {
+fn details(numbers: &[u64]) -> Option<Answer> {
     let [slot, committee, head] = numbers else {
-        return Err(Unread);
+        return None;
     };
-    Ok(Answer::Data(AttestationData {
+    Some(Answer::Data(AttestationData {
         slot: *slot,
         index: *committee,
         beacon_block_root: root(*head),
@@ -143,11 +144,11 @@ fn body(alloc: Global) -> BeaconBlockBody {
 }
 
 /// `block=SLOT,ROOT`: an empty block of key 1 over a parent of this root.
-fn block(alloc: Global, numbers: &[u64]) -> Result<Answer, Unread> {
+fn block(alloc: Global, numbers: &[u64]) -> Option<Answer> {
     let [slot, parent] = numbers else {
-        return Err(Unread);
+        return None;
     };
-    Ok(Answer::Block(BeaconBlock {
+    Some(Answer::Block(BeaconBlock {
         slot: *slot,
         proposer_index: 1,
         parent_root: root(*parent),
@@ -156,34 +157,34 @@ fn block(alloc: Global, numbers: &[u64]) -> Result<Answer, Unread> {
     }))
 }
 
-fn answer(alloc: Global, name: &str, numbers: &[u64]) -> Result<Answer, Unread> {
+fn answer(alloc: Global, name: &str, numbers: &[u64]) -> Option<Answer> {
     match name {
-        "synced" => Ok(Answer::Syncing { is_syncing: false }),
-        "fork" => Ok(Answer::Fork(FORK)),
+        "synced" => Some(Answer::Syncing { is_syncing: false }),
+        "fork" => Some(Answer::Fork(FORK)),
         "indices" => indices(alloc, numbers),
         "live" => liveness(alloc, numbers),
         "proposes" => proposes(alloc, numbers),
         "votes" => votes(alloc, numbers),
         "data" => details(numbers),
         "block" => block(alloc, numbers),
-        _ => Err(Unread),
+        _ => None,
     }
 }
 
-fn answer_of(alloc: Global, word: &str) -> Result<Answer, Unread> {
+fn answer_of(alloc: Global, word: &str) -> Option<Answer> {
     let (name, value) = word.split_once('=').unwrap_or((word, ""));
     let numbers = numbers_of(alloc, value)?;
     answer(alloc, name, numbers.as_slice())
 }
 
 /// The answers that a part of a line gives after the word `says`, if it has that.
-pub fn answers_in(alloc: Global, part: &str) -> Result<Vec<Answer>, Unread> {
+pub fn answers_in(alloc: Global, part: &str) -> Option<Vec<Answer>> {
     let mut answers = Vec::new(alloc);
     let Some((_, said)) = part.split_once(" says ") else {
-        return Ok(answers);
+        return Some(answers);
     };
     for word in said.split(' ') {
-        answers.push(answer_of(alloc, word)?)?;
+        answers.push(answer_of(alloc, word)?).ok()?;
     }
-    Ok(answers)
+    Some(answers)
 }

@@ -1,7 +1,7 @@
 //! The duties of one slot.
 use crate::answers::{FORK, attester, proposer};
 use crate::lanes::MemLane;
-use crate::words::{Unread, number_in, numbers_in};
+use crate::words::{number_in, numbers_in};
 use duty_plans::DutySetup;
 use duty_schedule::Duty;
 use duty_workers::{DutyResult, run_slot};
@@ -66,11 +66,11 @@ fn propose(
     )
 }
 
-fn write_results(text: &mut String, results: &[DutyResult]) -> Result<(), AllocError> {
+fn write_results(text: &mut String, results: &[DutyResult]) -> Option<()> {
     for result in results {
-        writeln!(text, "{result}")?;
+        writeln!(text, "{result}").ok()?;
     }
-    Ok(())
+    Some(())
 }
 
 /// `vote slot=N keys=K,K,K` or `propose slot=N keys=K,K,K`: three duties of a slot in epoch 1, one after another.
@@ -80,17 +80,17 @@ pub fn do_duties(
     lane: &mut MemLane,
     are_blocks: bool,
     rest: &str,
-) -> Result<(), Unread> {
-    let slot = number_in(alloc, rest, "slot")?;
-    let keys = numbers_in(alloc, rest, "keys")?;
-    let [first, second, third] = keys.as_slice() else {
-        return Err(Unread);
+) -> Option<()> {
+    let slot = number_in(rest, "slot")?;
+    let numbers = numbers_in(alloc, rest, "keys")?;
+    let [first, second, third] = *numbers.as_slice() else {
+        return None;
     };
-    let keys = [*first, *second, *third];
+    let keys = [first, second, third];
     let results = if are_blocks {
-        propose(alloc, lane, slot, keys)?
+        propose(alloc, lane, slot, keys).ok()?
     } else {
-        vote(alloc, lane, slot, keys)?
+        vote(alloc, lane, slot, keys).ok()?
     };
-    Ok(write_results(text, results.as_slice())?)
+    write_results(text, results.as_slice())
 }

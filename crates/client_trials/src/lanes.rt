@@ -4,7 +4,7 @@
 //! the signer and of the node that fail; and `says` before the answers of the node.
 use crate::answers::answers_in;
 use crate::desks::{activate, vote_all};
-use crate::words::{Unread, keys_in, number_in, numbers_in, root};
+use crate::words::{keys_in, number_in, numbers_in, root};
 use check_sign::{Desk, MOMENT_LIMIT};
 use duty_workers::Lane;
 use edge_kit::{Disks, MemDisk, PubKey};
@@ -27,16 +27,16 @@ pub fn desk_over(
     stop: Option<u64>,
     watches: bool,
     epoch: u64,
-) -> Result<NotedDesk, Unread> {
-    let first = MemDisk::new(alloc, bytes, Vec::new(alloc), stop)?;
-    let second = MemDisk::new(alloc, Vec::new(alloc), Vec::new(alloc), None)?;
+) -> Option<NotedDesk> {
+    let first = MemDisk::new(alloc, bytes, Vec::new(alloc), stop).ok()?;
+    let second = MemDisk::new(alloc, Vec::new(alloc), Vec::new(alloc), None).ok()?;
     let now = epoch.min(MOMENT_LIMIT);
     match Desk::open(alloc, Disks { first, second }, root(0), watches, now) {
-        Ok(desk) => Ok(Noting {
+        Ok(desk) => Some(Noting {
             desk,
             notes: Notes::new(alloc, now),
         }),
-        Err(_) => Err(Unread),
+        Err(_) => None,
     }
 }
 
@@ -47,33 +47,34 @@ pub fn activate_all(desk: &mut NotedDesk, keys: &[PubKey], epoch: u64) {
     }
 }
 
-fn desk_of(alloc: Global, part: &str) -> Result<NotedDesk, Unread> {
+fn desk_of(alloc: Global, part: &str) -> Option<NotedDesk> {
+    let epoch = number_in(part, "epoch")?;
+    let votes = number_in(part, "voted")?;
+    let watches = number_in(part, "watches")? == 1;
     let keys = keys_in(alloc, part, "active")?;
-    let epoch = number_in(alloc, part, "epoch")?;
-    let watches = number_in(alloc, part, "watches")? == 1;
     let mut desk = desk_over(alloc, Vec::new(alloc), None, watches, epoch)?;
     activate_all(&mut desk, keys.as_slice(), epoch);
-    vote_all(&mut desk, keys.as_slice(), number_in(alloc, part, "voted")?);
-    Ok(desk)
+    vote_all(&mut desk, keys.as_slice(), votes);
+    Some(desk)
 }
 
-fn signer_of(alloc: Global, part: &str) -> Result<MemSigner, Unread> {
+fn signer_of(alloc: Global, part: &str) -> Option<MemSigner> {
     let lacking = keys_in(alloc, part, "lacks")?;
     let failing = numbers_in(alloc, part, "signer-fails")?;
-    Ok(MemSigner::new(alloc, lacking, failing))
+    Some(MemSigner::new(alloc, lacking, failing))
 }
 
-fn nodes_of(alloc: Global, part: &str) -> Result<Nodes<MemNode>, Unread> {
+fn nodes_of(alloc: Global, part: &str) -> Option<Nodes<MemNode>> {
     let answers = answers_in(alloc, part)?;
     let failing = numbers_in(alloc, part, "node-fails")?;
-    let nodes = vec![in alloc; MemNode::new(alloc, answers, failing)]?;
-    Ok(Nodes::new(alloc, nodes))
+    let nodes = vec![in alloc; MemNode::new(alloc, answers, failing)].ok()?;
+    Some(Nodes::new(alloc, nodes))
 }
 
 /// The lane that a part of a line describes.
-pub fn lane_of(alloc: Global, part: &str) -> Result<MemLane, Unread> {
+pub fn lane_of(alloc: Global, part: &str) -> Option<MemLane> {
     let signer = signer_of(alloc, part)?;
     let nodes = nodes_of(alloc, part)?;
     let desk = desk_of(alloc, part)?;
-    Ok(Lane::new(desk, signer, nodes))
+    Some(Lane::new(desk, signer, nodes))
 }

@@ -14,28 +14,41 @@ mod telling;
 mod turns;
 mod words;
 
-use crate::custody::keystore;
+use crate::custody::write_keystore;
 use crate::steps::take_steps;
 use crate::turns::play;
-use crate::words::Unread;
 use std::alloc::Global;
 use std::io;
 use std::sync::Wait;
 use std::thread::Threads;
 use trial_lines::{case_of, print_outcome, print_unread, read_input};
 
-/// What comes of a line.
-fn outcome<R: Threads + Wait + Sync>(
+/// Puts what comes of a line to a text.
+fn push_outcome<R: Threads + Wait + Sync>(
     rt: &R,
     alloc: Global,
+    text: &mut String,
     subject: &str,
     arguments: &str,
-) -> Result<String, Unread> {
+) -> Option<()> {
     match subject {
-        "keystore" => keystore(alloc, arguments),
-        "lane" => take_steps(alloc, arguments),
-        "turns" => play(rt, alloc, arguments),
-        _ => Err(Unread),
+        "keystore" => write_keystore(alloc, text, arguments),
+        "lane" => take_steps(alloc, text, arguments),
+        "turns" => play(rt, alloc, text, arguments),
+        _ => None,
+    }
+}
+
+/// Writes what comes of a line.
+fn write_outcome<R: Print + AllocGlobal + Threads + Wait + Sync>(
+    rt: &R,
+    subject: &str,
+    arguments: &str,
+) -> io::Result<()> {
+    let mut text = String::new(rt.alloc());
+    match push_outcome(rt, rt.alloc(), &mut text, subject, arguments) {
+        Some(()) => print_outcome(rt, text.as_str()),
+        None => print_unread(rt),
     }
 }
 
@@ -45,12 +58,9 @@ fn write_line<R: Print + AllocGlobal + Threads + Wait + Sync>(
     line: &str,
 ) -> io::Result<()> {
     println!(rt; "{line}")?;
-    let Some((subject, arguments)) = case_of(line) else {
-        return Ok(());
-    };
-    match outcome(rt, rt.alloc(), subject, arguments) {
-        Ok(text) => print_outcome(rt, text.as_str()),
-        Err(Unread) => print_unread(rt),
+    match case_of(line) {
+        Some((subject, arguments)) => write_outcome(rt, subject, arguments),
+        None => Ok(()),
     }
 }
 

@@ -6,26 +6,20 @@ use crate::disks::{crash, stop};
 use crate::duties::do_duties;
 use crate::lanes::{MemLane, lane_of};
 use crate::telling::write_lane;
-use crate::words::{Unread, key, number_in};
+use crate::words::{key, number_in};
 use std::alloc::Global;
 
 /// `begin-close key=K`, `finish-close key=K`, `sign key=K` or `compact`: one call of the desk.
-fn call_desk(
-    alloc: Global,
-    text: &mut String,
-    lane: &mut MemLane,
-    name: &str,
-    rest: &str,
-) -> Result<(), Unread> {
-    let key = key(number_in(alloc, rest, "key")?);
+fn call_desk(text: &mut String, lane: &mut MemLane, name: &str, rest: &str) -> Option<()> {
+    let key = key(number_in(rest, "key")?);
     let word = match name {
         "begin-close" => begin_close(&mut lane.desk, key),
         "finish-close" => finish_close(&mut lane.desk, key),
         "sign" => sign(&mut lane.desk, key),
         "compact" => compact(&mut lane.desk),
-        _ => return Err(Unread),
+        _ => return None,
     };
-    Ok(writeln!(text, "{word}")?)
+    writeln!(text, "{word}").ok()
 }
 
 fn take_step(
@@ -34,7 +28,7 @@ fn take_step(
     lane: &mut MemLane,
     name: &str,
     rest: &str,
-) -> Result<(), Unread> {
+) -> Option<()> {
     match name {
         "delete" => delete(alloc, text, lane, rest),
         "import" => import(alloc, text, lane, rest),
@@ -44,31 +38,22 @@ fn take_step(
         "crash" => crash(alloc, lane, rest),
         "vote" => do_duties(alloc, text, lane, false, rest),
         "propose" => do_duties(alloc, text, lane, true, rest),
-        _ => call_desk(alloc, text, lane, name, rest),
+        _ => call_desk(text, lane, name, rest),
     }
 }
 
-fn take_each(
-    alloc: Global,
-    text: &mut String,
-    lane: &mut MemLane,
-    steps: &str,
-) -> Result<(), Unread> {
+fn take_each(alloc: Global, text: &mut String, lane: &mut MemLane, steps: &str) -> Option<()> {
     for step in steps.split(" | ") {
         let (name, rest) = step.split_once(' ').unwrap_or((step, ""));
         take_step(alloc, text, lane, name, rest)?;
     }
-    Ok(())
+    Some(())
 }
 
-/// Takes the steps of a line, and gives what comes of them.
-pub fn take_steps(alloc: Global, line: &str) -> Result<String, Unread> {
-    let Some((part, steps)) = line.split_once(" | ") else {
-        return Err(Unread);
-    };
-    let mut text = String::new(alloc);
+/// Takes the steps of a line, and writes what comes of them.
+pub fn take_steps(alloc: Global, text: &mut String, line: &str) -> Option<()> {
+    let (part, steps) = line.split_once(" | ")?;
     let mut lane = lane_of(alloc, part)?;
-    take_each(alloc, &mut text, &mut lane, steps)?;
-    write_lane(alloc, &mut text, lane)?;
-    Ok(text)
+    take_each(alloc, text, &mut lane, steps)?;
+    write_lane(alloc, text, lane).ok()
 }

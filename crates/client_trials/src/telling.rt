@@ -3,7 +3,7 @@ use crate::desks::standings;
 use crate::lanes::{MemLane, NotedDesk};
 use crate::words::{key, root};
 use check_sign::{DeskEvent, Event};
-use edge_kit::hex_text;
+use edge_kit::push_hex;
 use node_calls::{Ask, MemNode, NodeCall, Post, PostCall};
 use node_fallback::Nodes;
 use std::alloc::{AllocError, Global};
@@ -70,8 +70,9 @@ fn write_keys(alloc: Global, text: &mut String, desk: &mut NotedDesk) -> Result<
         return Ok(());
     };
     for (key, standing) in listed.as_slice() {
-        let key = hex_text(alloc, &key.0)?;
-        writeln!(text, "key {} {standing:?}", key.as_str())?;
+        text.push_str("key ")?;
+        push_hex(alloc, text, &key.0)?;
+        writeln!(text, " {standing:?}")?;
     }
     Ok(())
 }

@@ -9,7 +9,7 @@ ghost use Rattle.duty_work.specs.Houses.{IsHolding};
 use crate::answers::FORK;
 use crate::lanes::{MemLane, activate_all, lane_of};
 use crate::telling::{write_kept, write_lane};
-use crate::words::{Unread, keys_in, number_in, numbers_in, root};
+use crate::words::{keys_in, number_in, numbers_in, root};
 use duty_loop::{DutyEnd, Held, first_held, run_duties, take_turn};
 use duty_plans::DutySetup;
 use edge_clock::{Clock, Delay, MemClock};
@@ -17,6 +17,7 @@ use edge_kit::{MemSink, PubKey};
 use std::alloc::{AllocError, Global};
 use std::sync::Wait;
 use std::thread::Threads;
+use trial_lines::push_lossy;
 
 /// What turns are taken by.
 #[derive(Drop)]
@@ -26,28 +27,25 @@ struct Course {
     joining: Vec<PubKey>,
 }
 
-fn clock_of(alloc: Global, part: &str) -> Result<MemClock, Unread> {
-    let start = number_in(alloc, part, "start")?;
+fn clock_of(alloc: Global, part: &str) -> Option<MemClock> {
+    let start = number_in(part, "start")?;
     let late = numbers_in(alloc, part, "late")?;
     let mut delays = Vec::new(alloc);
-    if let [moment, seconds] = late.as_slice() {
-        delays.push(Delay {
-            moment: *moment,
-            seconds: *seconds,
-        })?;
+    if let [moment, seconds] = *late.as_slice() {
+        delays.push(Delay { moment, seconds }).ok()?;
     }
-    Ok(MemClock::new(start, delays))
+    Some(MemClock::new(start, delays))
 }
 
-fn course_of(alloc: Global, part: &str) -> Result<Course, Unread> {
-    let watch = number_in(alloc, part, "watches")? == 1;
-    let slots = number_in(alloc, part, "turns")?;
-    let clock = clock_of(alloc, part)?;
-    let joining = keys_in(alloc, part, "joins")?;
-    let keep_epochs = match number_in(alloc, part, "keep")? {
+fn course_of(alloc: Global, part: &str) -> Option<Course> {
+    let watch = number_in(part, "watches")? == 1;
+    let slots = number_in(part, "turns")?;
+    let keep_epochs = match number_in(part, "keep")? {
         0 => None,
         epochs => Some(epochs),
     };
+    let clock = clock_of(alloc, part)?;
+    let joining = keys_in(alloc, part, "joins")?;
     let setup = DutySetup {
         genesis: root(0),
         genesis_time: 1000,
@@ -56,19 +54,19 @@ fn course_of(alloc: Global, part: &str) -> Result<Course, Unread> {
         slots,
         keep_epochs,
     };
-    Ok(Course {
+    Some(Course {
         setup,
         clock,
         joining,
     })
 }
 
-fn lanes_of(alloc: Global, parts: &str) -> Result<Vec<MemLane>, Unread> {
+fn lanes_of(alloc: Global, parts: &str) -> Option<Vec<MemLane>> {
     let mut lanes = Vec::new(alloc);
     for part in parts.split(" | ") {
-        lanes.push(lane_of(alloc, part)?)?;
+        lanes.push(lane_of(alloc, part)?).ok()?;
     }
-    Ok(lanes)
+    Some(lanes)
 }
 
 /// Takes one turn, where there is a lane.
@@ -158,11 +156,11 @@ fn write_turns<R: Threads + Wait + Sync>(
     course: &Course,
     own: &mut MemLane,
     lanes: &mut [MemLane],
-) -> Result<(), Unread> {
-    let mut out = MemSink::new(alloc, 4096, Vec::new(alloc))?;
+) -> Option<()> {
+    let mut out = MemSink::new(alloc, 4096, Vec::new(alloc)).ok()?;
     let ended = take_turns(rt, alloc, course, own, lanes, &mut out);
-    let printed = String::from_utf8_lossy(alloc, out.into_bytes().as_slice())?;
-    Ok(write!(text, "{}ended {ended:?}\n", printed.as_str())?)
+    push_lossy(alloc, text, out.into_bytes().as_slice()).ok()?;
+    writeln!(text, "ended {ended:?}").ok()
 }
 
 /// Writes what the loop's own desk and node have come to: where not all is kept, what is.
@@ -178,35 +176,38 @@ fn write_own(
     write_lane(alloc, text, own)
 }
 
-/// Takes the turns over the loop's own desk and node and over lanes, and writes what comes of them.
-fn play_over<R: Threads + Wait + Sync>(
-    rt: &R,
-    alloc: Global,
-    text: &mut String,
-    course: &Course,
-    own: &str,
-    lanes: &str,
-) -> Result<(), Unread> {
-    let mut own = lane_of(alloc, own)?;
-    let mut lanes = lanes_of(alloc, lanes)?;
-    write_turns(rt, alloc, text, course, &mut own, lanes.as_mut_slice())?;
-    write_own(alloc, text, course, own)?;
+/// Writes what lanes have come to.
+fn write_lanes(alloc: Global, text: &mut String, lanes: Vec<MemLane>) -> Result<(), AllocError> {
     for lane in lanes {
         write_lane(alloc, text, lane)?;
     }
     Ok(())
 }
 
-/// Takes the turns of a line, and gives what comes of them.
-pub fn play<R: Threads + Wait + Sync>(rt: &R, alloc: Global, line: &str) -> Result<String, Unread> {
-    let Some((first, parts)) = line.split_once(" | ") else {
-        return Err(Unread);
-    };
-    let Some((own, lanes)) = parts.split_once(" | ") else {
-        return Err(Unread);
-    };
-    let mut text = String::new(alloc);
+/// Takes the turns over the loop's own desk and node and over lanes, and writes what comes of them.
+fn play_over<R: Threads + Wait + Sync>(
+    rt: &R,
+    alloc: Global,
+    text: &mut String,
+    course: &Course,
+    parts: &str,
+) -> Option<()> {
+    let (own, lanes) = parts.split_once(" | ")?;
+    let mut own = lane_of(alloc, own)?;
+    let mut lanes = lanes_of(alloc, lanes)?;
+    write_turns(rt, alloc, text, course, &mut own, lanes.as_mut_slice())?;
+    write_own(alloc, text, course, own).ok()?;
+    write_lanes(alloc, text, lanes).ok()
+}
+
+/// Takes the turns of a line, and writes what comes of them.
+pub fn play<R: Threads + Wait + Sync>(
+    rt: &R,
+    alloc: Global,
+    text: &mut String,
+    line: &str,
+) -> Option<()> {
+    let (first, parts) = line.split_once(" | ")?;
     let course = course_of(alloc, first)?;
-    play_over(rt, alloc, &mut text, &course, own, lanes)?;
-    Ok(text)
+    play_over(rt, alloc, text, &course, parts)
 }

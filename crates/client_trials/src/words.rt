@@ -1,36 +1,16 @@
 //! The words of a line: named numbers, and the keys and roots that numbers stand for.
 use edge_kit::{PubKey, Root, read_quoted};
-use std::alloc::{AllocError, AllocFailed, Global};
-
-/// A line is not read, or memory ran out.
-#[derive(Clone, Copy)]
-pub struct Unread;
-
-impl From<AllocError> for Unread {
-    fn from(_error: AllocError) -> Unread {
-        Unread
-    }
-}
-
-impl<T: Drop> From<AllocFailed<T>> for Unread {
-    fn from(_error: AllocFailed<T>) -> Unread {
-        Unread
-    }
-}
+use std::alloc::Global;
 
 /// The numbers of a text, with `,`, `:` or `@` between them.
-pub fn numbers_of(alloc: Global, text: &str) -> Result<Vec<u64>, Unread> {
+pub fn numbers_of(alloc: Global, text: &str) -> Option<Vec<u64>> {
     let mut numbers = Vec::new(alloc);
     for digits in text.split([',', ':', '@']) {
-        if digits.is_empty() {
-            continue;
+        if !digits.is_empty() {
+            numbers.push(read_quoted(digits)?).ok()?;
         }
-        let Some(number) = read_quoted(digits) else {
-            return Err(Unread);
-        };
-        numbers.push(number)?;
     }
-    Ok(numbers)
+    Some(numbers)
 }
 
 /// The value of the word of this name, after a sign of equality; empty where there is none.
@@ -45,14 +25,16 @@ fn value_in<'a>(words: &'a str, name: &str) -> &'a str {
 }
 
 /// The numbers of the word of this name; none where there is no such word.
-pub fn numbers_in(alloc: Global, words: &str, name: &str) -> Result<Vec<u64>, Unread> {
+pub fn numbers_in(alloc: Global, words: &str, name: &str) -> Option<Vec<u64>> {
     numbers_of(alloc, value_in(words, name))
 }
 
 /// The number of the word of this name; 0 where there is no such word.
-pub fn number_in(alloc: Global, words: &str, name: &str) -> Result<u64, Unread> {
-    let numbers = numbers_in(alloc, words, name)?;
-    Ok(numbers.first().copied().unwrap_or(0))
+pub fn number_in(words: &str, name: &str) -> Option<u64> {
+    match value_in(words, name) {
+        "" => Some(0),
+        digits => read_quoted(digits),
+    }
 }
 
 /// The key that a number below 16 stands for: 1 for 0x1111.., 2 for 0x2222...
@@ -66,10 +48,10 @@ pub fn root(number: u64) -> Root {
 }
 
 /// The keys of the word of this name; none where there is no such word.
-pub fn keys_in(alloc: Global, words: &str, name: &str) -> Result<Vec<PubKey>, Unread> {
+pub fn keys_in(alloc: Global, words: &str, name: &str) -> Option<Vec<PubKey>> {
     let mut keys = Vec::new(alloc);
     for number in numbers_in(alloc, words, name)? {
-        keys.push(key(number))?;
+        keys.push(key(number)).ok()?;
     }
-    Ok(keys)
+    Some(keys)
 }

@@ -1,8 +1,8 @@
 //! Readers as sources, and writers as sinks.
-use crate::words::{bytes_of, bytes_text, found, number_of};
-use edge_kit::{Failed, Sink, Source};
+use crate::words::{bytes_of, number_of, push_bytes, push_named};
+use edge_kit::{Sink, Source};
 use edge_system::{Reading, Writing};
-use std::alloc::{AllocError, Global};
+use std::alloc::Global;
 use std::io;
 use std::io::{Eprint, Read, Write};
 
@@ -43,54 +43,52 @@ impl<T: Write> Write for Halting<T> {
 }
 
 /// Reads a piece of at most four bytes, and puts what is answered to a text, with the bytes that came.
-fn push_read<S: Source>(
-    alloc: Global,
-    text: &mut String,
-    source: &mut S,
-) -> Result<(), AllocError> {
+fn push_read<S: Source>(text: &mut String, source: &mut S) -> Option<()> {
     let mut piece = [0; 4];
     let answer = source.read(&mut piece);
     let count = answer.unwrap_or(0).min(piece.len());
-    let came = bytes_text(alloc, &piece[..count])?;
-    writeln!(text, "{answer:?} [{}]", came.as_str())
+    write!(text, "{answer:?} [").ok()?;
+    push_bytes(text, &piece[..count])?;
+    text.push_str("]\n").ok()
 }
 
-/// What that many reads of a source of these bytes answer.
-pub fn reads<E: Eprint + Copy + Drop>(rt: E, alloc: Global, words: &str) -> io::Result<String> {
-    let (count, bytes) = found(words.split_once(' '))?;
+/// Puts what that many reads of a source of these bytes answer to a text.
+pub fn reads<E: Eprint + Copy + Drop>(
+    rt: E,
+    alloc: Global,
+    words: &str,
+    text: &mut String,
+) -> Option<()> {
+    let (count, bytes) = words.split_once(' ')?;
     let bytes = bytes_of(alloc, bytes)?;
     let inner = bytes.as_slice();
     let mut source = Reading::new(Halting { inner, calls: 0 }, rt);
-    let mut text = String::new(alloc);
-    for _ in 0..found(number_of(count))? {
-        push_read(alloc, &mut text, &mut source)?;
+    for _ in 0..number_of(count)? {
+        push_read(text, &mut source)?;
     }
-    Ok(text)
+    Some(())
 }
 
-/// Writes pieces to a sink, and puts what is answered to a text.
-fn push_writes<S: Sink>(
+/// Writes a piece to a sink, and puts what is answered to a text.
+fn push_write<S: Sink>(alloc: Global, text: &mut String, sink: &mut S, piece: &str) -> Option<()> {
+    let piece = bytes_of(alloc, piece.trim())?;
+    let answer = sink.write(piece.as_slice());
+    writeln!(text, "{answer:?}").ok()
+}
+
+/// Puts what writes of pieces to a sink of five bytes answer to a text, and what it then holds.
+pub fn writes<E: Eprint + Copy + Drop>(
+    rt: E,
     alloc: Global,
-    text: &mut String,
-    sink: &mut S,
     pieces: &str,
-) -> io::Result<()> {
-    for piece in pieces.split(',') {
-        let piece = bytes_of(alloc, piece.trim())?;
-        let answer: Result<usize, Failed> = sink.write(piece.as_slice());
-        writeln!(text, "{answer:?}")?;
-    }
-    Ok(())
-}
-
-/// What writes of pieces to a sink of five bytes answer, and what it then holds.
-pub fn writes<E: Eprint + Copy + Drop>(rt: E, alloc: Global, pieces: &str) -> io::Result<String> {
-    let mut text = String::new(alloc);
+    text: &mut String,
+) -> Option<()> {
     let mut held = [0; 5];
     let inner: &mut [u8] = &mut held;
     let mut sink = Writing::new(Halting { inner, calls: 0 }, rt);
-    push_writes(alloc, &mut text, &mut sink, pieces)?;
-    let held = bytes_text(alloc, &held)?;
-    writeln!(text, "holds [{}]", held.as_str())?;
-    Ok(text)
+    for piece in pieces.split(',') {
+        push_write(alloc, text, &mut sink, piece)?;
+    }
+    push_named(text, "holds [", &held)?;
+    text.push_str("]\n").ok()
 }

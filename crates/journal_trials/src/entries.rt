@@ -1,58 +1,37 @@
 //! Blocks, votes and books in words.
-use crate::words::bytes_text;
+use crate::words::push_bytes;
 use edge_kit::Root;
-use slash_defs::{BlockEntry, Book, Entry, Message, VoteEntry};
-use std::alloc::{AllocError, Global};
+use slash_defs::{BlockEntry, Book, VoteEntry};
 
-/// A root, where there is one.
-fn root_text(alloc: Global, root: &Option<Root>) -> Result<String, AllocError> {
+/// Puts a root to a text, where there is one.
+fn push_root(text: &mut String, root: &Option<Root>) -> Option<()> {
     match root {
-        Some(root) => bytes_text(alloc, &root.0),
-        None => String::from_str(alloc, "none"),
+        Some(root) => push_bytes(text, &root.0),
+        None => text.push_str("none").ok(),
     }
 }
 
-/// A block or a vote in words.
-pub fn entry_text(alloc: Global, entry: &Entry) -> Result<String, AllocError> {
-    match entry {
-        Entry::Block(block) => {
-            let root = root_text(alloc, &block.root)?;
-            format!(in alloc; "block {} {}", block.slot, root.as_str())
-        }
-        Entry::Vote(vote) => {
-            let root = root_text(alloc, &vote.root)?;
-            format!(in alloc; "vote {} {} {}", vote.source, vote.target, root.as_str())
-        }
-    }
+/// Puts a block to a text.
+fn push_block(text: &mut String, block: &BlockEntry) -> Option<()> {
+    write!(text, "block {} ", block.slot).ok()?;
+    push_root(text, &block.root)
 }
 
-/// What is kept of a message.
-pub fn entry_of(message: &Message) -> Entry {
-    match *message {
-        Message::Block { slot, root } => Entry::Block(BlockEntry {
-            slot,
-            root: Some(root),
-        }),
-        Message::Vote {
-            source,
-            target,
-            root,
-        } => Entry::Vote(VoteEntry {
-            target,
-            source,
-            root: Some(root),
-        }),
-    }
+/// Puts a vote to a text.
+pub fn push_vote(text: &mut String, vote: &VoteEntry) -> Option<()> {
+    write!(text, "vote {} {} ", vote.source, vote.target).ok()?;
+    push_root(text, &vote.root)
 }
 
 /// Puts the blocks of a book and then its votes to a text.
-pub fn push_book(alloc: Global, text: &mut String, book: &Book) -> Result<(), AllocError> {
-    let blocks = book.blocks.as_slice().iter();
-    let votes = book.votes.as_slice().iter();
-    let entries = blocks.map(|block| Entry::Block(*block));
-    for entry in entries.chain(votes.map(|vote| Entry::Vote(*vote))) {
-        let words = entry_text(alloc, &entry)?;
-        write!(text, ", {}", words.as_str())?;
+pub fn push_book(text: &mut String, book: &Book) -> Option<()> {
+    for block in book.blocks.as_slice() {
+        text.push_str(", ").ok()?;
+        push_block(text, block)?;
     }
-    Ok(())
+    for vote in book.votes.as_slice() {
+        text.push_str(", ").ok()?;
+        push_vote(text, vote)?;
+    }
+    Some(())
 }

@@ -1,55 +1,58 @@
 //! Interchange files.
 use crate::entries::push_book;
-use crate::words::{bytes_of, bytes_text, unread};
+use crate::words::{bytes_of, push_named};
 use interchange_io::{in_written_order, read, write};
 use slash_defs::File;
-use std::alloc::{AllocError, Global};
-use std::io;
+use std::alloc::Global;
+use trial_lines::push_lossy;
 
-/// The written text of a file.
-fn written(alloc: Global, file: &File) -> Result<String, AllocError> {
-    let text = write(alloc, file)?;
-    String::from_utf8_lossy(alloc, text.as_slice())
+/// Puts the written text of a file to a text.
+fn push_written(alloc: Global, text: &mut String, file: &File) -> Option<()> {
+    let written = write(alloc, file).ok()?;
+    push_lossy(alloc, text, written.as_slice()).ok()
 }
 
-/// The written text of the file that bytes are, or why they are refused.
-pub fn outcome(alloc: Global, words: &str) -> io::Result<String> {
+/// Puts the written text of the file that bytes are to a text, or why they are refused.
+pub fn push_read(alloc: Global, text: &mut String, words: &str) -> Option<()> {
     let bytes = bytes_of(alloc, words)?;
-    let text = match read(alloc, bytes.as_slice())? {
-        Ok(file) => written(alloc, &file),
-        Err(fault) => fault.to_string(alloc),
-    };
-    Ok(text?)
+    match &read(alloc, bytes.as_slice()).ok()? {
+        Ok(file) => push_written(alloc, text, file),
+        Err(fault) => write!(text, "{fault}").ok(),
+    }
 }
 
 /// Puts a file to a text, each key with its entries, in the order in which they stand.
-fn push_file(alloc: Global, text: &mut String, file: &File) -> Result<(), AllocError> {
-    let genesis = bytes_text(alloc, &file.genesis.0)?;
-    writeln!(text, "genesis {}", genesis.as_str())?;
+fn push_file(text: &mut String, file: &File) -> Option<()> {
+    push_named(text, "genesis ", &file.genesis.0)?;
+    text.push('\n').ok()?;
     for (key, book) in file.books.as_slice() {
-        let key = bytes_text(alloc, &key.0)?;
-        write!(text, "key {}", key.as_str())?;
-        push_book(alloc, text, book)?;
-        text.push('\n')?;
+        push_named(text, "key ", &key.0)?;
+        push_book(text, book)?;
+        text.push('\n').ok()?;
     }
-    Ok(())
+    Some(())
 }
 
-/// The file that a text is.
-fn file_of(alloc: Global, text: &str) -> io::Result<File> {
-    match read(alloc, text.as_bytes())? {
-        Ok(file) => Ok(file),
-        Err(_) => Err(unread()),
+/// Puts the file that bytes are to a text.
+fn push_file_of(alloc: Global, text: &mut String, bytes: &[u8]) -> Option<()> {
+    match &read(alloc, bytes).ok()? {
+        Ok(file) => push_file(text, file),
+        Err(_) => None,
     }
 }
 
-/// A file as it is read, in the order in which it is written, and as it is read once it is written.
-pub fn ordered(alloc: Global, words: &str) -> io::Result<String> {
-    let file = file_of(alloc, words)?;
-    let mut text = String::new(alloc);
-    push_file(alloc, &mut text, &file)?;
-    push_file(alloc, &mut text, &in_written_order(alloc, &file)?)?;
-    let again = written(alloc, &file)?;
-    push_file(alloc, &mut text, &file_of(alloc, again.as_str())?)?;
-    Ok(text)
+/// Puts a file to a text, also in the order in which it is written, and as it is read once it is written.
+fn push_orders(alloc: Global, text: &mut String, file: &File) -> Option<()> {
+    push_file(text, file)?;
+    push_file(text, &in_written_order(alloc, file).ok()?)?;
+    let written = write(alloc, file).ok()?;
+    push_file_of(alloc, text, written.as_slice())
+}
+
+/// Puts the file that words are to a text, also in the order in which it is written, and as it is read once it is written.
+pub fn push_ordered(alloc: Global, text: &mut String, words: &str) -> Option<()> {
+    match &read(alloc, words.as_bytes()).ok()? {
+        Ok(file) => push_orders(alloc, text, file),
+        Err(_) => None,
+    }
 }

@@ -1,15 +1,14 @@
 //! A journal over two disks in memory.
-ghost use Rattle.std.specs.Prelude.{map, IfOk};
+ghost use Rattle.std.specs.Prelude.{map, IfSome};
 ghost use Rattle.std.specs.List.{AllByRecursion};
 ghost use Rattle.journal_frames.specs.Frames.{IsPayload};
 
-use crate::words::{bytes_of, bytes_text, found, root_of, unread, value_of};
+use crate::words::{bytes_of, push_named, root_of, value_of};
 use edge_kit::{Disks, MemDisk, Root};
 use journal_frames::Reader;
 use record_codec::check_batch;
 use record_journal::{Journal, OpenFault};
 use std::alloc::{AllocError, Global};
-use std::io;
 
 /// Appends a payload, and puts what is answered to a text.
 fn append(
@@ -17,40 +16,39 @@ fn append(
     journal: &mut Journal<MemDisk>,
     payload: &str,
     text: &mut String,
-) -> io::Result<()> {
+) -> Option<()> {
     let payload = bytes_of(alloc, payload)?;
     if check_batch(&payload).is_err() {
-        return Err(unread());
+        return None;
     }
-    let told = match journal.append(alloc, payload) {
-        Ok(()) => writeln!(text, "appended"),
-        Err(fault) => writeln!(text, "not appended: {fault:?}"),
-    };
-    Ok(told?)
+    match journal.append(alloc, payload) {
+        Ok(()) => text.push_str("appended\n").ok(),
+        Err(fault) => writeln!(text, "not appended: {fault:?}").ok(),
+    }
 }
 
 /// A payload of a snapshot.
-fn payload_of(alloc: Global, word: &str) -> io::Result<Vec<u8>>
-    ensures { IfOk result (λ p. IsPayload p.items) }
+fn payload_of(alloc: Global, word: &str) -> Option<Vec<u8>>
+    ensures { IfSome result (λ p. IsPayload p.items) }
 {
     let payload = bytes_of(alloc, word)?;
     if payload.is_empty() || payload.len() > 1000 || check_batch(&payload).is_err() {
-        return Err(unread());
+        return None;
     }
-    Ok(payload)
+    Some(payload)
 }
 
 /// The snapshot of two payloads.
-fn snapshot_of(alloc: Global, words: &str) -> io::Result<Vec<Vec<u8>>>
-    ensures { IfOk result (λ all. AllByRecursion IsPayload (map (λ v. v.items) all.items)) }
+fn snapshot_of(alloc: Global, words: &str) -> Option<Vec<Vec<u8>>>
+    ensures { IfSome result (λ all. AllByRecursion IsPayload (map (λ v. v.items) all.items)) }
 {
-    let (first, second) = found(words.split_once(' '))?;
+    let (first, second) = words.split_once(' ')?;
     let first = payload_of(alloc, first)?;
     let second = payload_of(alloc, second)?;
     let mut all = Vec::new(alloc);
-    all.push(first)?;
-    all.push(second)?;
-    Ok(all)
+    all.push(first).ok()?;
+    all.push(second).ok()?;
+    Some(all)
 }
 
 /// Compacts a journal to a snapshot, and puts what is answered to a text.
@@ -59,13 +57,12 @@ fn compact(
     journal: &mut Journal<MemDisk>,
     words: &str,
     text: &mut String,
-) -> io::Result<()> {
+) -> Option<()> {
     let snapshot = snapshot_of(alloc, words)?;
-    let told = match journal.compact(alloc, snapshot) {
-        Ok((before, after)) => writeln!(text, "compacted from {before} to {after}"),
-        Err(fault) => writeln!(text, "not compacted: {fault:?}"),
-    };
-    Ok(told?)
+    match journal.compact(alloc, snapshot) {
+        Ok((before, after)) => writeln!(text, "compacted from {before} to {after}").ok(),
+        Err(fault) => writeln!(text, "not compacted: {fault:?}").ok(),
+    }
 }
 
 /// A disk that holds the same and never fails.
@@ -75,13 +72,23 @@ fn disk_like(alloc: Global, disk: &MemDisk) -> Result<MemDisk, AllocError> {
 }
 
 /// Puts the payloads that a reader lends to a text.
-fn push_lent(alloc: Global, text: &mut String, reader: &mut Reader) -> Result<(), AllocError> {
+fn push_lent(text: &mut String, reader: &mut Reader) -> Option<()> {
     while let Some(payload) = reader.first() {
-        let payload = bytes_text(alloc, payload)?;
-        writeln!(text, "payload {}", payload.as_str())?;
+        push_named(text, "payload ", payload)?;
+        text.push('\n').ok()?;
         reader.skip();
     }
-    Ok(())
+    Some(())
+}
+
+/// Puts why a journal is not opened to a text.
+fn push_fault(text: &mut String, fault: &OpenFault) -> Option<()> {
+    let OpenFault::Genesis { kept, given } = fault else {
+        return writeln!(text, "not opened: {fault:?}").ok();
+    };
+    push_named(text, "not opened: genesis kept ", &kept.0)?;
+    push_named(text, ", given ", &given.0)?;
+    text.push('\n').ok()
 }
 
 /// Puts the payloads to a text that a journal over such disks is opened with.
@@ -90,49 +97,58 @@ fn push_payloads(
     text: &mut String,
     disks: &Disks<MemDisk>,
     root: Root,
-) -> Result<(), AllocError> {
-    let first = disk_like(alloc, &disks.first)?;
-    let second = disk_like(alloc, &disks.second)?;
+) -> Option<()> {
+    let first = disk_like(alloc, &disks.first).ok()?;
+    let second = disk_like(alloc, &disks.second).ok()?;
     match Journal::open(alloc, Disks { first, second }, root) {
-        Ok((_journal, mut reader)) => push_lent(alloc, text, &mut reader),
+        Ok((_journal, mut reader)) => push_lent(text, &mut reader),
         Err((fault, _disks)) => {
-            let fault = fault_text(alloc, &fault)?;
-            writeln!(text, "then {}", fault.as_str())
+            text.push_str("then ").ok()?;
+            push_fault(text, &fault)
         }
+    }
+}
+
+/// Makes a call of a journal, and puts what it answers to a text.
+fn push_call(
+    alloc: Global,
+    journal: &mut Journal<MemDisk>,
+    call: &str,
+    text: &mut String,
+) -> Option<()> {
+    match call.split_once(' ') {
+        Some(("append", payload)) => append(alloc, journal, payload, text),
+        Some(("compact", words)) => compact(alloc, journal, words, text),
+        Some(_) => None,
+        None => Some(()),
     }
 }
 
 /// Makes calls of a journal, and puts what they answer and its size then to a text.
-fn play_opened(
+fn push_calls(
     alloc: Global,
     journal: &mut Journal<MemDisk>,
     calls: &str,
     text: &mut String,
-) -> io::Result<()> {
+) -> Option<()> {
     for call in calls.split(',') {
-        match call.trim().split_once(' ') {
-            Some(("append", payload)) => append(alloc, journal, payload, text)?,
-            Some(("compact", words)) => compact(alloc, journal, words, text)?,
-            Some(_) => return Err(unread()),
-            None => {}
-        }
+        push_call(alloc, journal, call.trim(), text)?;
     }
-    let (size, failed) = (journal.size(), journal.failed());
-    Ok(writeln!(text, "size {size}, failed {failed}")?)
+    writeln!(text, "size {}, failed {}", journal.size(), journal.failed()).ok()
 }
 
-/// Why a journal is not opened.
-fn fault_text(alloc: Global, fault: &OpenFault) -> Result<String, AllocError> {
-    let OpenFault::Genesis { kept, given } = fault else {
-        return format!(in alloc; "not opened: {fault:?}");
-    };
-    let kept = bytes_text(alloc, &kept.0)?;
-    let given = bytes_text(alloc, &given.0)?;
-    format!(in alloc;
-        "not opened: genesis kept {}, given {}",
-        kept.as_str(),
-        given.as_str()
-    )
+/// Makes calls of a journal, puts the payloads that are on its disks then to a text, and gives the disks.
+fn play_opened(
+    alloc: Global,
+    mut journal: Journal<MemDisk>,
+    root: Root,
+    calls: &str,
+    text: &mut String,
+) -> Option<Disks<MemDisk>> {
+    push_calls(alloc, &mut journal, calls, text)?;
+    let disks = journal.end();
+    push_payloads(alloc, text, &disks, root)?;
+    Some(disks)
 }
 
 /// Opens a journal over disks, makes calls of it, puts the payloads that are on the disks then to a text, and gives the disks
@@ -143,19 +159,13 @@ pub fn play(
     calls: &str,
     disks: Disks<MemDisk>,
     text: &mut String,
-) -> io::Result<Disks<MemDisk>> {
-    let root = found(root_of(value_of(options, "genesis").unwrap_or("00")))?;
+) -> Option<Disks<MemDisk>> {
+    let root = root_of(value_of(options, "genesis").unwrap_or("00"))?;
     match Journal::open(alloc, disks, root) {
-        Ok((mut journal, _reader)) => {
-            play_opened(alloc, &mut journal, calls, text)?;
-            let disks = journal.end();
-            push_payloads(alloc, text, &disks, root)?;
-            Ok(disks)
-        }
+        Ok((journal, _reader)) => play_opened(alloc, journal, root, calls, text),
         Err((fault, disks)) => {
-            let fault = fault_text(alloc, &fault)?;
-            writeln!(text, "{}", fault.as_str())?;
-            Ok(disks)
+            push_fault(text, &fault)?;
+            Some(disks)
         }
     }
 }

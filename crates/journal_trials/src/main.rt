@@ -16,50 +16,61 @@ mod seats;
 mod words;
 
 use crate::phases::{Opened, play_all};
-use crate::words::{found, number_of, unread};
+use crate::words::number_of;
 use std::fs::{File, Files};
 use std::io;
 use std::io::Eprint;
 use std::sync::Wait;
 use trial_lines::{case_of, print_outcome, print_unread, read_input};
 
-/// What comes of a subject and its arguments.
-fn outcome<R: Files<File = File> + Eprint + AllocGlobal + Wait>(
+/// Puts what comes of a subject and its arguments to a text.
+fn play<R: Files<File = File> + Eprint + AllocGlobal + Wait>(
     rt: &R,
     subject: &str,
     words: &str,
-) -> io::Result<String> {
+    text: &mut String,
+) -> Option<()> {
     let alloc = rt.alloc();
     match subject {
-        "journal" => play_all(alloc, Opened::Journal, words),
-        "desk" => play_all(alloc, Opened::Desk, words),
-        "seats" => seats::play(rt, alloc, words),
-        "closing" | "finish" | "fault" => closings::play(alloc, subject, words),
-        "interchange" => interchanges::outcome(alloc, words),
-        "order" => interchanges::ordered(alloc, words),
-        "reader" => adapters::reads(rt, alloc, words),
-        "writer" => adapters::writes(rt, alloc, words),
-        "file" => files::play(rt, alloc, words),
-        _ => Err(unread()),
+        "journal" => play_all(alloc, Opened::Journal, words, text),
+        "desk" => play_all(alloc, Opened::Desk, words, text),
+        "seats" => seats::play(rt, alloc, words, text),
+        "closing" | "finish" | "fault" => closings::play(alloc, subject, words, text),
+        "interchange" => interchanges::push_read(alloc, text, words),
+        "order" => interchanges::push_ordered(alloc, text, words),
+        "reader" => adapters::reads(rt, alloc, words, text),
+        "writer" => adapters::writes(rt, alloc, words, text),
+        "file" => files::play(rt, alloc, words, text),
+        _ => None,
     }
 }
 
-/// What comes of a subject and its arguments at each of these numbers, which stands in the place of `%`.
-fn outcomes<R: Files<File = File> + Eprint + AllocGlobal + Wait>(
+/// Puts what comes of a subject and its arguments to a text, at a number that stands in the place of `%`.
+fn play_at<R: Files<File = File> + Eprint + AllocGlobal + Wait>(
     rt: &R,
-    first: u64,
-    last: u64,
+    number: u64,
     line: &str,
-) -> io::Result<String> {
-    let (subject, words) = found(line.split_once(' '))?;
-    let mut text = String::new(rt.alloc());
-    for number in first..=last {
-        let digits = number.to_string(rt.alloc())?;
-        let words = words.replace(rt.alloc(), "%", digits.as_str())?;
-        let came = outcome(rt, subject, words.as_str())?;
-        write!(text, "at {number}\n{}", came.as_str())?;
+    text: &mut String,
+) -> Option<()> {
+    writeln!(text, "at {number}").ok()?;
+    let digits = format!(in rt.alloc(); "{number}").ok()?;
+    let line = line.replace(rt.alloc(), "%", digits.as_str()).ok()?;
+    let (subject, words) = line.as_str().split_once(' ')?;
+    play(rt, subject, words, text)
+}
+
+/// Puts what comes of a line at each number of a range to a text.
+fn play_each<R: Files<File = File> + Eprint + AllocGlobal + Wait>(
+    rt: &R,
+    words: &str,
+    text: &mut String,
+) -> Option<()> {
+    let (first, rest) = words.split_once(' ')?;
+    let (last, line) = rest.split_once(' ')?;
+    for number in number_of(first)?..=number_of(last)? {
+        play_at(rt, number, line, text)?;
     }
-    Ok(text)
+    Some(())
 }
 
 /// What comes of a line.
@@ -67,13 +78,13 @@ fn came<R: Files<File = File> + Eprint + AllocGlobal + Wait>(
     rt: &R,
     subject: &str,
     words: &str,
-) -> io::Result<String> {
-    if subject != "each" {
-        return outcome(rt, subject, words);
+) -> Option<String> {
+    let mut text = String::new(rt.alloc());
+    match subject {
+        "each" => play_each(rt, words, &mut text)?,
+        _ => play(rt, subject, words, &mut text)?,
     }
-    let (first, rest) = found(words.split_once(' '))?;
-    let (last, line) = found(rest.split_once(' '))?;
-    outcomes(rt, found(number_of(first))?, found(number_of(last))?, line)
+    Some(text)
 }
 
 /// Writes a line, and what comes of it.
@@ -86,9 +97,8 @@ fn try_line<R: Files<File = File> + Print + Eprint + AllocGlobal + Wait>(
         return Ok(());
     };
     match came(rt, subject, words) {
-        Ok(text) => print_outcome(rt, text.as_str()),
-        Err(error) if error.kind() == io::ErrorKind::InvalidInput => print_unread(rt),
-        Err(error) => Err(error),
+        Some(text) => print_outcome(rt, text.as_str()),
+        None => print_unread(rt),
     }
 }
 

@@ -1,10 +1,9 @@
 //! Phases of a journal or of a desk, one after another over the same two disks: each opens what a crash or the end of the
 //! phase before left, and makes calls of it.
-use crate::words::{bytes_of, bytes_text, found, number_of, unread, value_of};
+use crate::words::{bytes_of, number_of, push_named, value_of};
 use crate::{desks, journals};
 use edge_kit::{Crash, Disks, MemDisk};
 use std::alloc::{AllocError, Global};
-use std::io;
 
 /// What is opened over the disks.
 #[derive(Clone, Copy)]
@@ -14,15 +13,14 @@ pub enum Opened {
 }
 
 /// The bytes that are left of a disk: those that a read sees, or those that the crash leaves that the options name.
-fn left_of(alloc: Global, options: &str, disk: &MemDisk) -> io::Result<Vec<u8>> {
-    let image = match value_of(options, "crash") {
-        None => disk.bytes().to_vec(alloc)?,
-        Some("written") => disk.image(alloc, Crash::Written)?,
-        Some("before") => disk.image(alloc, Crash::Before)?,
-        Some("torn") => disk.image(alloc, Crash::Torn)?,
-        Some(_) => return Err(unread()),
-    };
-    Ok(image)
+fn left_of(alloc: Global, options: &str, disk: &MemDisk) -> Option<Vec<u8>> {
+    match value_of(options, "crash") {
+        None => disk.bytes().to_vec(alloc).ok(),
+        Some("written") => disk.image(alloc, Crash::Written).ok(),
+        Some("before") => disk.image(alloc, Crash::Before).ok(),
+        Some("torn") => disk.image(alloc, Crash::Torn).ok(),
+        Some(_) => None,
+    }
 }
 
 /// The disk of a file: its bytes are those that the options name, or what is left of it. It stops at the call that the
@@ -33,21 +31,21 @@ fn disk_of(
     name: &str,
     stop: &str,
     before: &MemDisk,
-) -> io::Result<MemDisk> {
+) -> Option<MemDisk> {
     let stop = match value_of(options, stop) {
-        Some(word) => Some(found(number_of(word))?),
+        Some(word) => Some(number_of(word)?),
         None => None,
     };
     let bytes = match value_of(options, name) {
         Some(text) => bytes_of(alloc, text)?,
         None => left_of(alloc, options, before)?,
     };
-    Ok(MemDisk::new(alloc, bytes, Vec::new(alloc), stop)?)
+    MemDisk::new(alloc, bytes, Vec::new(alloc), stop).ok()
 }
 
 /// The disks of a phase.
-fn disks_of(alloc: Global, options: &str, before: &Disks<MemDisk>) -> io::Result<Disks<MemDisk>> {
-    Ok(Disks {
+fn disks_of(alloc: Global, options: &str, before: &Disks<MemDisk>) -> Option<Disks<MemDisk>> {
+    Some(Disks {
         first: disk_of(alloc, options, "first", "stop-first", &before.first)?,
         second: disk_of(alloc, options, "second", "stop-second", &before.second)?,
     })
@@ -61,12 +59,14 @@ pub fn empty_disks(alloc: Global) -> Result<Disks<MemDisk>, AllocError> {
     })
 }
 
-/// Puts the bytes of both files to a text.
-fn push_files(alloc: Global, text: &mut String, disks: &Disks<MemDisk>) -> Result<(), AllocError> {
-    let first = bytes_text(alloc, disks.first.bytes())?;
-    let second = bytes_text(alloc, disks.second.bytes())?;
-    let (first, second) = (first.as_str(), second.as_str());
-    write!(text, "first [{first}]\nsecond [{second}]\n")
+/// Puts the bytes of both files to a text, where the options say so.
+fn push_files(text: &mut String, options: &str, disks: &Disks<MemDisk>) -> Option<()> {
+    if value_of(options, "files").is_none() {
+        return Some(());
+    }
+    push_named(text, "first [", disks.first.bytes())?;
+    push_named(text, "]\nsecond [", disks.second.bytes())?;
+    text.push_str("]\n").ok()
 }
 
 /// Plays a phase, which is options, a colon and calls with commas between, and gives the disks as it leaves them.
@@ -76,25 +76,22 @@ fn play(
     phase: &str,
     before: &Disks<MemDisk>,
     text: &mut String,
-) -> io::Result<Disks<MemDisk>> {
-    let (options, calls) = found(phase.split_once(':'))?;
+) -> Option<Disks<MemDisk>> {
+    let (options, calls) = phase.split_once(':')?;
     let disks = disks_of(alloc, options, before)?;
     let left = match opened {
         Opened::Journal => journals::play(alloc, options, calls, disks, text)?,
         Opened::Desk => desks::play(alloc, options, calls, disks, text)?,
     };
-    if value_of(options, "files").is_some() {
-        push_files(alloc, text, &left)?;
-    }
-    Ok(left)
+    push_files(text, options, &left)?;
+    Some(left)
 }
 
-/// What comes of phases, which stand with a bar between.
-pub fn play_all(alloc: Global, opened: Opened, phases: &str) -> io::Result<String> {
-    let mut text = String::new(alloc);
-    let mut disks = empty_disks(alloc)?;
+/// Puts what comes of phases to a text, which stand with a bar between.
+pub fn play_all(alloc: Global, opened: Opened, phases: &str, text: &mut String) -> Option<()> {
+    let mut disks = empty_disks(alloc).ok()?;
     for phase in phases.split(" | ") {
-        disks = play(alloc, opened, phase, &disks, &mut text)?;
+        disks = play(alloc, opened, phase, &disks, text)?;
     }
-    Ok(text)
+    Some(())
 }

@@ -1,41 +1,36 @@
 //! Replies of a desk, in words.
 ghost use Rattle.journal_trials.specs.Replies.{IsNoGrant};
 
-use crate::entries::{entry_of, entry_text, push_book};
-use crate::words::bytes_text;
+use crate::entries::{push_book, push_vote};
+use crate::words::push_named;
 use check_sign::{DeskReply, KeyStanding};
 use edge_kit::PubKey;
 use protect_record::Verdict;
-use slash_defs::Entry;
-use std::alloc::{AllocError, Global};
-
-/// Puts what was done to a key to a text.
-fn push_key(alloc: Global, text: &mut String, done: &str, key: &PubKey) -> Result<(), AllocError> {
-    let key = bytes_text(alloc, &key.0)?;
-    write!(text, "{done} {}", key.as_str())
-}
+use slash_defs::Book;
 
 /// Puts keys to a text, each with how it stands.
-fn push_keys(
-    alloc: Global,
-    text: &mut String,
-    keys: &[(PubKey, KeyStanding)],
-) -> Result<(), AllocError> {
-    text.push_str("keys")?;
+fn push_keys(text: &mut String, keys: &[(PubKey, KeyStanding)]) -> Option<()> {
+    text.push_str("keys").ok()?;
     for (key, standing) in keys {
-        push_key(alloc, text, ",", key)?;
-        write!(text, " {standing:?}")?;
+        push_named(text, ", ", &key.0)?;
+        write!(text, " {standing:?}").ok()?;
     }
-    Ok(())
+    Some(())
 }
 
 /// Puts a verdict to a text.
-fn push_verdict(alloc: Global, text: &mut String, verdict: &Verdict) -> Result<(), AllocError> {
+fn push_verdict(text: &mut String, verdict: &Verdict) -> Option<()> {
     let Verdict::DoubleVote(kept) = verdict else {
-        return write!(text, "refused, {verdict:?}");
+        return write!(text, "refused, {verdict:?}").ok();
     };
-    let kept = entry_text(alloc, &Entry::Vote(*kept))?;
-    write!(text, "refused, double to {}", kept.as_str())
+    text.push_str("refused, double to ").ok()?;
+    push_vote(text, kept)
+}
+
+/// Puts the book that a close hands over to a text.
+fn push_closed(text: &mut String, book: &Book) -> Option<()> {
+    text.push_str("closed").ok()?;
+    push_book(text, book)
 }
 
 /// The words of a reply that says no more.
@@ -58,23 +53,20 @@ fn plain_words(reply: &DeskReply) -> &'static str {
 }
 
 /// Puts a reply that is no grant to a text.
-pub fn push_reply(alloc: Global, text: &mut String, reply: DeskReply) -> Result<(), AllocError>
+pub fn push_reply(text: &mut String, reply: DeskReply) -> Option<()>
     requires { IsNoGrant reply }
 {
     let words = plain_words(&reply);
     match reply {
         DeskReply::Granted(_grant) => unreachable!(),
-        DeskReply::Closed(book) => {
-            text.push_str("closed")?;
-            push_book(alloc, text, &book)
-        }
-        DeskReply::Keys(keys) => push_keys(alloc, text, keys.as_slice()),
-        DeskReply::Refused(verdict) => push_verdict(alloc, text, &verdict),
+        DeskReply::Closed(book) => push_closed(text, &book),
+        DeskReply::Keys(keys) => push_keys(text, keys.as_slice()),
+        DeskReply::Refused(verdict) => push_verdict(text, &verdict),
         DeskReply::Compacted { before, after } => {
-            write!(text, "compacted from {before} to {after}")
+            write!(text, "compacted from {before} to {after}").ok()
         }
-        DeskReply::Busy { grants } => write!(text, "busy with {grants}"),
-        DeskReply::Watching { first, second } => write!(text, "watching {first}, {second:?}"),
+        DeskReply::Busy { grants } => write!(text, "busy with {grants}").ok(),
+        DeskReply::Watching { first, second } => write!(text, "watching {first}, {second:?}").ok(),
         DeskReply::Active
         | DeskReply::Already
         | DeskReply::Noted
@@ -96,6 +88,6 @@ pub fn push_reply(alloc: Global, text: &mut String, reply: DeskReply) -> Result<
         | DeskReply::Live { epoch: _ }
         | DeskReply::GenesisDiffers { kept: _, given: _ }
         | DeskReply::TooManyKeys { have: _, new: _ }
-        | DeskReply::Full { size: _, wanted: _ } => text.push_str(words),
+        | DeskReply::Full { size: _, wanted: _ } => text.push_str(words).ok(),
     }
 }

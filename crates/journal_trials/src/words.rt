@@ -1,26 +1,10 @@
 //! The notation of lines: numbers, bytes, keys and roots.
-ghost use Rattle.std.specs.Prelude.{◌≡◌, ◌≤◌, IfOk, IfSome, Some};
+ghost use Rattle.std.specs.Prelude.{◌≤◌, IfSome};
 ghost use Rattle.desk_machine.specs.Machine.{moment_limit};
 
 use check_sign::MOMENT_LIMIT;
 use edge_kit::{PubKey, Root};
-use std::alloc::{AllocError, Global};
-use std::io;
-
-/// A line that no subject reads.
-pub fn unread() -> io::Error {
-    io::Error::from(io::ErrorKind::InvalidInput)
-}
-
-/// What there is, or a line that no subject reads.
-pub fn found<V>(value: Option<V>) -> io::Result<V>
-    ensures { IfOk result (λ v. value ≡ Some v) }
-{
-    match value {
-        Some(value) => Ok(value),
-        None => Err(unread()),
-    }
-}
+use std::alloc::Global;
 
 /// A number in decimal digits.
 pub fn number_of(word: &str) -> Option<u64> {
@@ -53,43 +37,57 @@ pub fn root_of(word: &str) -> Option<Root> {
 }
 
 /// Puts digits to others: `11*48` is 48 times `11`.
-fn push_digits(alloc: Global, digits: &mut String, piece: &str) -> io::Result<()> {
-    let Some((repeated, count)) = piece.split_once('*') else {
-        return Ok(digits.push_str(piece)?);
-    };
-    let count = found(number_of(count))?;
-    let all = repeated.repeat(alloc, count as usize)?;
-    Ok(digits.push_str(all.as_str())?)
+fn push_repeated(digits: &mut String, piece: &str) -> Option<()> {
+    let (repeated, count) = piece.split_once('*').unwrap_or((piece, "1"));
+    for _ in 0..number_of(count)? {
+        digits.push_str(repeated).ok()?;
+    }
+    Some(())
 }
 
-/// Bytes in hex digits, of which those in parentheses stand there several times: `04(11*48)`.
-pub fn bytes_of(alloc: Global, text: &str) -> io::Result<Vec<u8>> {
+/// Digits, of which those in parentheses stand there several times: `04(11*48)`.
+fn digits_of(alloc: Global, text: &str) -> Option<String> {
     let mut digits = String::new(alloc);
     for piece in text.split(['(', ')']) {
-        push_digits(alloc, &mut digits, piece)?;
+        push_repeated(&mut digits, piece)?;
     }
-    found(hex::decode(alloc, digits.as_str()).ok())
+    Some(digits)
+}
+
+/// Bytes in hex digits, of which those in parentheses stand there several times.
+pub fn bytes_of(alloc: Global, text: &str) -> Option<Vec<u8>> {
+    let digits = digits_of(alloc, text)?;
+    hex::decode(alloc, digits.as_str()).ok()
+}
+
+/// Puts the digits of bytes to a text.
+fn push_digits(text: &mut String, bytes: &[u8]) -> Option<()> {
+    for byte in bytes {
+        write!(text, "{byte:02x}").ok()?;
+    }
+    Some(())
 }
 
 /// Puts bytes that are the same to a text.
-fn push_run(alloc: Global, text: &mut String, run: &[u8]) -> Result<(), AllocError> {
-    let count = run.len();
-    if count < 4 {
-        let digits = hex::encode(alloc, run)?;
-        return text.push_str(digits.as_str());
+fn push_run(text: &mut String, run: &[u8]) -> Option<()> {
+    match run {
+        [byte, _, _, _, ..] => write!(text, "({byte:02x}*{})", run.len()).ok(),
+        _ => push_digits(text, run),
     }
-    let digits = hex::encode(alloc, &run[..1])?;
-    let digits = digits.as_str();
-    write!(text, "({digits}*{count})")
 }
 
-/// Bytes in the notation in which they are read. Four or more that are the same stand in parentheses.
-pub fn bytes_text(alloc: Global, bytes: &[u8]) -> Result<String, AllocError> {
-    let mut text = String::new(alloc);
+/// Puts bytes to a text in the notation in which they are read. Four or more that are the same stand in parentheses.
+pub fn push_bytes(text: &mut String, bytes: &[u8]) -> Option<()> {
     for run in bytes.chunk_by(|one, other| one == other) {
-        push_run(alloc, &mut text, run)?;
+        push_run(text, run)?;
     }
-    Ok(text)
+    Some(())
+}
+
+/// Puts a word and the bytes after it to a text.
+pub fn push_named(text: &mut String, name: &str, bytes: &[u8]) -> Option<()> {
+    text.push_str(name).ok()?;
+    push_bytes(text, bytes)
 }
 
 /// The value of an option, of those that a line names as `NAME=VALUE`.

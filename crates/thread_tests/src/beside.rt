@@ -221,6 +221,6 @@ fn a_close_waits_for_a_grant_of_another_seat(rt: HostRuntime) -> Result<(), Fail
     let (one, other) = (owner.pass().unwrap(), owner.pass().unwrap());
     let (one, other) = close_over_seats(&rt, &owner.shared, one, other, &flags);
     back(rt.alloc(), owner, one, other)?;
-    assert_eq!(rt; flags.late_waits.load(Ordering::SeqCst), 0);
+    assert!(rt; flags.late_waits.load(Ordering::SeqCst) == 0);
     Ok(())
 }

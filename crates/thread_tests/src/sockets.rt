@@ -67,32 +67,31 @@ const ENDED: [Step; 3] = [
     Step::Connect(Err(Failed)),
 ];
 
-/// Receives a byte, and compares it with what is wanted.
-fn receive<T: Abort, L: Link>(rt: &T, link: &mut L, wanted: (Result<usize, Failed>, u8)) {
+/// Whether a link answers a call as is wanted.
+fn answers<L: Link>(link: &mut L, step: Step) -> bool {
     let mut byte = [0];
-    let answer = link.recv(&mut byte);
-    assert_eq!(rt; (answer, byte[0]), wanted);
-}
-
-/// Makes calls of a link, and compares what they answer.
-fn play<T: Abort, L: Link>(rt: &T, link: &mut L, steps: &[Step]) {
-    for step in steps {
-        match *step {
-            Step::Connect(wanted) => assert_eq!(rt; link.connect(), wanted),
-            Step::Send(wanted) => assert_eq!(rt; link.send(b"z"), wanted),
-            Step::Recv(wanted, byte) => receive(rt, link, (wanted, byte)),
-            Step::HangUp => assert_eq!(rt; link.hang_up(), Ok(())),
-        }
+    match step {
+        Step::Connect(wanted) => link.connect() == wanted,
+        Step::Send(wanted) => link.send(b"z") == wanted,
+        Step::Recv(wanted, heard) => link.recv(&mut byte) == wanted && byte[0] == heard,
+        Step::HangUp => link.hang_up().is_ok(),
     }
 }
 
-/// Sends a byte to a peer, which hears it.
-fn speak<T: Abort, L: Link, S: Read>(rt: &T, link: &mut L, peer: &mut S) -> io::Result<()> {
-    play(rt, link, &[Step::Send(Ok(1))]);
+/// Makes calls of a link, up to the first that it answers otherwise than is wanted. Whether there is none.
+fn play<L: Link>(link: &mut L, steps: &[Step]) -> bool {
+    for step in steps {
+        if !answers(link, *step) {
+            return false;
+        }
+    }
+    true
+}
+
+/// Sends a byte to a peer. Whether the peer hears it.
+fn speak<L: Link, S: Read>(link: &mut L, peer: &mut S) -> bool {
     let mut byte = [0];
-    peer.read_exact(&mut byte)?;
-    assert_eq!(rt; byte, *b"z");
-    Ok(())
+    play(link, &[Step::Send(Ok(1))]) && peer.read_exact(&mut byte).is_ok() && byte == *b"z"
 }
 
 /// A door at a port of this machine, which can't be opened while another listener has the port.
@@ -109,47 +108,54 @@ fn shut_door<'a, N: Net + Eprint + Clock + Abort + Copy + Drop>(
     Ok((door, port))
 }
 
-/// Talks with a peer that has said a byte, over a connection, and ends it. Each call of a twin of it fails.
-fn talk<T: Abort, S: Read + Write + OpenStream + Drop, C: Eprint + Clock + Copy + Drop>(
-    rt: &T,
+/// Whether each call of the twin of a connection fails.
+fn fails_as_twin<S: Read + Write + OpenStream + Drop, C: Eprint + Clock + Copy + Drop>(
+    alloc: Global,
+    conn: &TcpConn<S, C>,
+) -> bool {
+    match conn.twin(alloc) {
+        Ok(mut twin) => play(&mut twin, &ABSENT) && twin.faults() == 3,
+        Err(_) => false,
+    }
+}
+
+/// Talks with a peer that has said a byte, over a connection, and ends it. Each call of a twin of it fails. Whether all goes
+/// as is wanted.
+fn talk<S: Read + Write + OpenStream + Drop, C: Eprint + Clock + Copy + Drop>(
     alloc: Global,
     conn: &mut TcpConn<S, C>,
     peer: &mut S,
-) -> Result<(), Fail> {
-    play(rt, conn, &[Step::Recv(Ok(1), b'a')]);
-    let mut twin = conn.twin(alloc)?;
-    play(rt, &mut twin, &ABSENT);
-    assert_eq!(rt; twin.faults(), 3);
-    speak(rt, conn, peer)?;
-    play(rt, conn, &ENDED);
-    assert_eq!(rt; conn.faults(), 2);
-    Ok(())
+) -> bool {
+    play(conn, &[Step::Recv(Ok(1), b'a')])
+        && fails_as_twin(alloc, conn)
+        && speak(conn, peer)
+        && play(conn, &ENDED)
+        && conn.faults() == 2
 }
 
-/// Talks with a peer over the connection that a door accepts next.
-fn serve<N: Net + Eprint + Clock + Abort + Copy + Drop>(
-    rt: N,
+/// Talks with a peer over the connection that a door accepts next. Whether all goes as is wanted.
+fn serve<N: Net + Eprint + Clock + Copy + Drop>(
     alloc: Global,
     door: &mut TcpDoor<'_, N>,
-    port: u16,
-) -> Result<(), Fail> {
-    let mut peer = TcpStream::connect(&rt, ("127.0.0.1", port))?;
-    peer.write_all(b"a")?;
+    peer: &mut N::Stream,
+) -> bool {
     let Ok(Some(mut conn)) = door.accept() else {
-        return Err(Fail::new("a door accepts none"));
+        return false;
     };
-    talk(&rt, alloc, &mut conn, &mut peer)?;
+    let is_wanted = talk(alloc, &mut conn, peer);
     door.finish(conn);
-    Ok(())
+    is_wanted
 }
 
 #[test]
 fn a_listener_is_a_door(rt: HostRuntime) -> Result<(), Fail> {
     let halt = Halt::new();
     let (mut door, port) = shut_door(&rt, rt.alloc(), &halt)?;
-    assert_eq!(rt; door.listen(), Ok(()));
-    serve(&rt, rt.alloc(), &mut door, port)?;
-    assert_eq!(rt; door.faults(), 1);
+    assert!(rt; door.listen().is_ok());
+    let mut peer = TcpStream::connect(&rt, ("127.0.0.1", port))?;
+    peer.write_all(b"a")?;
+    assert!(rt; serve(rt.alloc(), &mut door, &mut peer));
+    assert!(rt; door.faults() == 1);
     Ok(())
 }
 
@@ -190,31 +196,28 @@ fn is_answered<N: Net>(rt: &N, port: u16) -> io::Result<bool> {
     Ok(reply == *b"zzz" && peer.read(&mut reply)? == 0)
 }
 
-/// Refuses the peer of the connection that a door accepts next.
-fn refuse<N: Net + Eprint + Clock + Abort + Copy + Drop>(
-    rt: N,
-    door: &mut TcpDoor<'_, N>,
-) -> Result<(), Fail> {
+/// Refuses the peer of the connection that a door accepts next. Whether all goes as is wanted.
+fn refuse<N: Net + Eprint + Clock + Copy + Drop>(door: &mut TcpDoor<'_, N>) -> bool {
     let Ok(Some(mut conn)) = door.accept() else {
-        return Err(Fail::new("a door accepts none"));
+        return false;
     };
-    play(&rt, &mut conn, &REFUSED);
+    let is_wanted = play(&mut conn, &REFUSED);
     door.finish(conn);
-    Ok(())
+    is_wanted
 }
 
 #[test]
 fn a_peer_that_is_refused_gets_its_reply_whole(rt: HostRuntime) -> Result<(), Fail> {
     let halt = Halt::new();
     let (mut door, port) = shut_door(&rt, rt.alloc(), &halt)?;
-    assert_eq!(rt; door.listen(), Ok(()));
-    let (answered, refused) = join(
+    assert!(rt; door.listen().is_ok());
+    let (is_answered, is_refused) = join(
         &rt,
         || is_answered(&rt, port).unwrap_or(false),
-        || refuse(&rt, &mut door),
+        || refuse(&mut door),
     );
-    assert!(rt; answered);
-    refused
+    assert!(rt; is_answered && is_refused);
+    Ok(())
 }
 
 /// A link to a listener at a free port of this machine, whose exchanges may last that many milliseconds.
@@ -230,76 +233,83 @@ fn link_to<N: Net + Eprint + Clock + Drop>(
     Ok(link)
 }
 
-/// Connects a link to a listener, after a send that fails, and says a byte to the peer, which is given.
-fn connected<T: Abort, L: Link, O: OpenListener>(
-    rt: &T,
-    link: &mut L,
-    listener: &O,
-) -> Result<O::Stream, Fail>
+/// Connects a link to a listener, after a send that fails, and says a byte to the peer, which is given. None where something
+/// is not as is wanted.
+fn connected<L: Link, O: OpenListener>(link: &mut L, listener: &O) -> Option<O::Stream>
 where
     O::Stream: Read,
 {
-    play(rt, link, &BEGUN);
-    let (mut peer, _) = listener.accept()?;
-    speak(rt, link, &mut peer)?;
-    Ok(peer)
+    if !play(link, &BEGUN) {
+        return None;
+    }
+    let (mut peer, _) = listener.accept().ok()?;
+    if speak(link, &mut peer) {
+        Some(peer)
+    } else {
+        None
+    }
 }
 
-/// Talks over a link with the peer at a listener, which says two bytes and then ends.
-fn hear<T: Abort, L: Link, O: OpenListener>(rt: &T, link: &mut L, listener: &O) -> Result<(), Fail>
+/// Talks over a link with the peer at a listener, which says two bytes and then ends. Whether all goes as is wanted.
+fn hear<L: Link, O: OpenListener>(link: &mut L, listener: &O) -> bool
 where
     O::Stream: Read + Write,
 {
-    let mut peer = connected(rt, link, listener)?;
-    peer.write_all(b"ab")?;
+    let Some(mut peer) = connected(link, listener) else {
+        return false;
+    };
+    let is_said = peer.write_all(b"ab").is_ok();
     drop(peer);
-    play(rt, link, &HEARD);
-    Ok(())
+    is_said && play(link, &HEARD)
 }
 
 #[test]
 fn a_connection_is_a_link(rt: HostRuntime) -> Result<(), Fail> {
     let listener = TcpListener::bind(&rt, "127.0.0.1:0")?;
     let mut link = link_to(&rt, rt.alloc(), &listener, 20_000)?;
-    hear(&rt, &mut link, &listener)?;
+    assert!(rt; hear(&mut link, &listener));
     drop(listener);
-    play(&rt, &mut link, &[Step::Connect(Err(Failed))]);
-    assert_eq!(rt; link.faults(), 2);
+    assert!(rt; play(&mut link, &[Step::Connect(Err(Failed))]));
+    assert!(rt; link.faults() == 2);
     Ok(())
 }
 
-/// Talks over the twin of a link with a peer of its own.
-fn talk_as_twin<N: Net + Eprint + Clock + Abort + Copy + Drop>(
-    rt: N,
-    alloc: Global,
-    link: &mut TcpLink<N>,
-    listener: &N::Listener,
-) -> Result<(), Fail> {
-    let mut twin = link.twin(alloc)?;
-    assert_eq!(rt; twin.faults(), 0);
-    let _peer = connected(&rt, &mut twin, listener)?;
-    play(&rt, &mut twin, &[Step::HangUp, Step::Send(Err(Failed))]);
-    assert_eq!(rt; twin.faults(), 2);
-    Ok(())
+/// Talks over a new twin of a link with a peer of its own. Whether all goes as is wanted.
+fn talk_as_twin<L: Link, O: OpenListener>(twin: &mut L, listener: &O) -> bool
+where
+    O::Stream: Read + Drop,
+{
+    match connected(twin, listener) {
+        Some(_peer) => play(twin, &[Step::HangUp, Step::Send(Err(Failed))]),
+        None => false,
+    }
 }
 
 #[test]
 fn a_twin_is_a_connection_of_its_own(rt: HostRuntime) -> Result<(), Fail> {
     let listener = TcpListener::bind(&rt, "127.0.0.1:0")?;
     let mut link = link_to(&rt, rt.alloc(), &listener, 20_000)?;
-    play(&rt, &mut link, &BEGUN);
+    assert!(rt; play(&mut link, &BEGUN));
     let (mut peer, _) = listener.accept()?;
-    talk_as_twin(&rt, rt.alloc(), &mut link, &listener)?;
-    speak(&rt, &mut link, &mut peer)?;
-    assert_eq!(rt; link.faults(), 1);
+    let mut twin = link.twin(rt.alloc())?;
+    assert!(rt; twin.faults() == 0 && talk_as_twin(&mut twin, &listener));
+    assert!(rt; twin.faults() == 2);
+    assert!(rt; speak(&mut link, &mut peer) && link.faults() == 1);
     Ok(())
 }
 
-/// Asks a peer that says nothing, and answers how long that took.
-fn time_unheard<T: Abort + Clock, L: Link>(rt: &T, link: &mut L) -> io::Result<Duration> {
+/// Asks a peer that says nothing, and answers how long that took; nothing where something is not as is wanted.
+fn time_unheard<T: Clock, L: Link>(rt: &T, link: &mut L) -> io::Result<Option<Duration>> {
     let begun = Instant::now(rt)?;
-    play(rt, link, &UNHEARD);
-    begun.elapsed(rt)
+    if !play(link, &UNHEARD) {
+        return Ok(None);
+    }
+    Ok(Some(begun.elapsed(rt)?))
+}
+
+/// Whether so long is the limit of two seconds, once.
+fn is_one_limit(spent: Duration) -> bool {
+    spent >= Duration::from_millis(1_900) && spent < Duration::from_millis(3_800)
 }
 
 #[test]
@@ -307,8 +317,7 @@ fn a_silent_peer_costs_the_limit_once(rt: HostRuntime) -> Result<(), Fail> {
     let listener = TcpListener::bind(&rt, "127.0.0.1:0")?;
     let mut link = link_to(&rt, rt.alloc(), &listener, 2_000)?;
     let spent = time_unheard(&rt, &mut link)?;
-    assert!(rt; spent >= Duration::from_millis(1_900));
-    assert!(rt; spent < Duration::from_millis(3_800));
+    assert!(rt; spent.is_some_and(is_one_limit));
     Ok(())
 }
 
@@ -328,10 +337,11 @@ fn count_drips<C: Clock, L: Link, W: Write>(rt: &C, link: &mut L, peer: &mut W) 
 fn a_peer_that_drips_is_cut_off(rt: HostRuntime) -> Result<(), Fail> {
     let listener = TcpListener::bind(&rt, "127.0.0.1:0")?;
     let mut link = link_to(&rt, rt.alloc(), &listener, 2_000)?;
-    let mut peer = connected(&rt, &mut link, &listener)?;
+    let Some(mut peer) = connected(&mut link, &listener) else {
+        return Err(Fail::new("not connected"));
+    };
     let count = count_drips(&rt, &mut link, &mut peer)?;
-    assert!(rt; count > 0);
-    assert!(rt; count <= 40);
+    assert!(rt; 0 < count && count <= 40);
     Ok(())
 }
 
@@ -346,10 +356,10 @@ fn a_silent_peer_is_set_aside_for_a_twin(rt: HostRuntime) -> Result<(), Fail> {
     let mut link = link_to(&rt, rt.alloc(), &listener, 300)?;
     link.set_aside_among(two_peers(rt.alloc())?, 0);
     let mut twin = link.twin(rt.alloc())?;
-    play(&rt, &mut link, &UNHEARD);
-    play(&rt, &mut twin, &[Step::Connect(Err(Failed))]);
+    assert!(rt; play(&mut link, &UNHEARD));
+    assert!(rt; play(&mut twin, &[Step::Connect(Err(Failed))]));
     thread::sleep(&rt, Duration::from_millis(1_100));
-    play(&rt, &mut twin, &[Step::Connect(Ok(()))]);
+    assert!(rt; play(&mut twin, &[Step::Connect(Ok(()))]));
     Ok(())
 }
 
@@ -360,8 +370,8 @@ fn a_peer_that_refuses_is_not_set_aside(rt: HostRuntime) -> Result<(), Fail> {
     let port = listener.local_addr()?.port();
     link.set_aside_among(two_peers(rt.alloc())?, 0);
     drop(listener);
-    play(&rt, &mut link, &[Step::Connect(Err(Failed))]);
+    assert!(rt; play(&mut link, &[Step::Connect(Err(Failed))]));
     let _listener = TcpListener::bind(&rt, ("127.0.0.1", port))?;
-    play(&rt, &mut link, &[Step::Connect(Ok(()))]);
+    assert!(rt; play(&mut link, &[Step::Connect(Ok(()))]));
     Ok(())
 }

@@ -3,6 +3,7 @@
 //! begins with `#` is a heading. So what is wanted is a file of the same lines, and a difference stands below its line.
 #![tactic(auto)]
 
+use std::alloc::{AllocError, Global};
 use std::io;
 use std::io::{Input, Print, Read};
 
@@ -35,4 +36,10 @@ pub fn print_outcome<R: Print>(rt: &R, text: &str) -> io::Result<()> {
 /// Writes what came of a line that no subject reads.
 pub fn print_unread<R: Print>(rt: &R) -> io::Result<()> {
     println!(rt; "  no subject reads this line")
+}
+
+/// Puts bytes after a text; what is no UTF-8 in them is replaced.
+pub fn push_lossy(alloc: Global, text: &mut String, bytes: &[u8]) -> Result<(), AllocError> {
+    let more = String::from_utf8_lossy(alloc, bytes)?;
+    text.push_str(more.as_str())
 }

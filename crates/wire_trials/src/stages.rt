@@ -1,15 +1,15 @@
 //! Several nodes in memory, and the schedule that takes their answers.
-use crate::answers::answer_words;
+use crate::answers::push_answer;
 use crate::nodes::post_of;
 use crate::permits::PERMIT;
 use crate::questions::{answer_of, ask_of, keys_of};
-use crate::reading::{Stop, first_part, numbers_in};
+use crate::reading::{first_part, numbers_in};
 use crate::scenes::Scene;
 use duty_schedule::{DutyRows, Schedule, Taken};
 use edge_kit::Items;
 use node_calls::{Answer, Ask, MemNode, NodeCall};
 use node_fallback::{NoAnswer, Nodes};
-use std::alloc::{AllocError, Global};
+use std::alloc::Global;
 
 /// Nodes in their order, and a schedule.
 #[derive(Drop)]
@@ -19,68 +19,68 @@ pub struct Stage {
 }
 
 /// A node with these answers, whose calls of these numbers fail, each after a semicolon.
-fn mem_node(alloc: Global, setting: &str) -> Result<MemNode, Stop> {
+fn mem_node(alloc: Global, setting: &str) -> Option<MemNode> {
     let mut answers = Vec::new(alloc);
     let mut failing = Vec::new(alloc);
     for part in setting.split("; ") {
         if part.starts_with("fails") {
             failing = numbers_in(alloc, part)?;
         } else if part != "silent" {
-            answers.push(answer_of(alloc, part)?)?;
+            answers.push(answer_of(alloc, part)?).ok()?;
         }
     }
-    Ok(MemNode::new(alloc, answers, failing))
+    Some(MemNode::new(alloc, answers, failing))
 }
 
 /// Nodes, each after a slash.
-pub fn stage_of(alloc: Global, setting: &str) -> Result<Stage, Stop> {
+fn nodes_of(alloc: Global, setting: &str) -> Option<Nodes<MemNode>> {
     let mut nodes = Vec::new(alloc);
     for node in setting.split(" / ") {
-        nodes.push(mem_node(alloc, node)?)?;
+        nodes.push(mem_node(alloc, node)?).ok()?;
     }
-    Ok(Stage {
-        nodes: Nodes::new(alloc, nodes),
+    Some(Nodes::new(alloc, nodes))
+}
+
+/// Nodes, each after a slash, and a schedule that holds no answer.
+pub fn stage_of(alloc: Global, setting: &str) -> Option<Stage> {
+    Some(Stage {
+        nodes: nodes_of(alloc, setting)?,
         schedule: Schedule::new(alloc),
     })
 }
 
-/// Why no node gave anything.
-fn why_none(alloc: Global, why: &NoAnswer) -> Result<String, Stop> {
+/// Puts to a text why no node gave anything.
+fn push_why_none(text: &mut String, why: &NoAnswer) -> Option<()> {
     let NoAnswer::NoNode(causes) = why else {
-        return Err(Stop::OutOfMemory);
+        return None;
     };
-    let mut text = String::from_str(alloc, "none:")?;
+    text.push_str("none:").ok()?;
     for cause in causes.as_slice() {
-        write!(text, " {cause}")?;
+        write!(text, " {cause}").ok()?;
     }
-    Ok(text)
+    Some(())
 }
 
-/// What the nodes answer to a question.
-fn ask(alloc: Global, stage: &mut Stage, words: &str) -> Result<String, Stop> {
+/// Puts what the nodes answer to a question to a text.
+fn ask(alloc: Global, text: &mut String, stage: &mut Stage, words: &str) -> Option<()> {
     let ask = ask_of(alloc, words)?;
-    match stage.nodes.ask(&ask) {
-        Ok(answer) => Ok(answer_words(alloc, &answer)?),
-        Err(why) => why_none(alloc, &why),
+    match &stage.nodes.ask(&ask) {
+        Ok(answer) => push_answer(text, answer),
+        Err(why) => push_why_none(text, why),
     }
 }
 
-/// Whether a node takes something signed.
-fn post(alloc: Global, stage: &mut Stage, words: &str) -> Result<String, Stop> {
+/// Puts to a text whether a node takes something signed.
+fn post(alloc: Global, text: &mut String, stage: &mut Stage, words: &str) -> Option<()> {
     let post = post_of(alloc, words)?;
-    match stage.nodes.post(&PERMIT, &post) {
-        Ok(()) => Ok(String::from_str(alloc, "taken")?),
-        Err(why) => why_none(alloc, &why),
+    match &stage.nodes.post(&PERMIT, &post) {
+        Ok(()) => text.push_str("taken").ok(),
+        Err(why) => push_why_none(text, why),
     }
 }
 
 /// What becomes of the answer to a question about duties.
-fn take_in(
-    alloc: Global,
-    schedule: &mut Schedule,
-    ask: Ask,
-    answer: Answer,
-) -> Result<Taken, Stop> {
+fn taken(alloc: Global, schedule: &mut Schedule, ask: Ask, answer: Answer) -> Option<Taken> {
     match (ask, answer) {
         (
             Ask::Attester { epoch, indices },
@@ -88,7 +88,7 @@ fn take_in(
                 dependent_root,
                 rows,
             },
-        ) => Ok(schedule.take_answer(epoch, indices, dependent_root, DutyRows::Attester(rows))),
+        ) => Some(schedule.take_answer(epoch, indices, dependent_root, DutyRows::Attester(rows))),
         (
             Ask::Proposer { epoch },
             Answer::Proposer {
@@ -98,43 +98,50 @@ fn take_in(
         ) => {
             let indices = Items::new(alloc);
             let rows = DutyRows::Proposer(rows);
-            Ok(schedule.take_answer(epoch, indices, dependent_root, rows))
+            Some(schedule.take_answer(epoch, indices, dependent_root, rows))
         }
-        _ => Err(Stop::Unread),
+        _ => None,
     }
 }
 
-/// What becomes of what the nodes answer to a question about duties.
-fn take(alloc: Global, stage: &mut Stage, words: &str) -> Result<String, Stop> {
+/// Puts what becomes of the answer to a question about duties to a text.
+fn push_taken(
+    alloc: Global,
+    text: &mut String,
+    schedule: &mut Schedule,
+    ask: Ask,
+    answer: Answer,
+) -> Option<()> {
+    let taken = taken(alloc, schedule, ask, answer)?;
+    write!(text, "{taken:?}").ok()
+}
+
+/// Puts what becomes of what the nodes answer to a question about duties to a text.
+fn take(alloc: Global, text: &mut String, stage: &mut Stage, words: &str) -> Option<()> {
     let ask = ask_of(alloc, words)?;
     match stage.nodes.ask(&ask) {
-        Ok(answer) => {
-            let taken = take_in(alloc, &mut stage.schedule, ask, answer)?;
-            Ok(format!(in alloc; "{taken:?}")?)
-        }
-        Err(why) => why_none(alloc, &why),
+        Ok(answer) => push_taken(alloc, text, &mut stage.schedule, ask, answer),
+        Err(why) => push_why_none(text, &why),
     }
 }
 
-/// What becomes of an answer, which is given after its question.
-fn hold(alloc: Global, stage: &mut Stage, words: &str) -> Result<String, Stop> {
+/// Puts what becomes of an answer to a text, which is given after its question.
+fn hold(alloc: Global, text: &mut String, stage: &mut Stage, words: &str) -> Option<()> {
     let (ask, answer) = first_part(words, ": ");
     let ask = ask_of(alloc, ask)?;
     let answer = answer_of(alloc, answer)?;
-    let taken = take_in(alloc, &mut stage.schedule, ask, answer)?;
-    Ok(format!(in alloc; "{taken:?}")?)
+    push_taken(alloc, text, &mut stage.schedule, ask, answer)
 }
 
-/// What is due at a slot for these keys.
-fn due(alloc: Global, stage: &Stage, words: &str) -> Result<String, Stop> {
-    match numbers_in(alloc, words)?.as_slice() {
-        [slot, keys @ ..] => {
-            let keys = keys_of(alloc, keys)?;
-            let duties = stage.schedule.due(*slot, keys.as_slice())?;
-            Ok(format!(in alloc; "{duties:?}")?)
-        }
-        [] => Err(Stop::Unread),
-    }
+/// Puts what is due at a slot for these keys to a text.
+fn due(alloc: Global, text: &mut String, stage: &Stage, words: &str) -> Option<()> {
+    let numbers = numbers_in(alloc, words)?;
+    let [slot, keys @ ..] = numbers.as_slice() else {
+        return None;
+    };
+    let keys = keys_of(alloc, keys)?;
+    let duties = stage.schedule.due(*slot, keys.as_slice()).ok()?;
+    write!(text, "{duties:?}").ok()
 }
 
 /// What a node was asked or given.
@@ -147,43 +154,48 @@ fn call_name(call: &NodeCall) -> &'static str {
     }
 }
 
-/// Adds what a node was asked or given, after a bar.
-fn push_calls(node: &MemNode, text: &mut String) -> Result<(), AllocError> {
-    text.push('|')?;
+/// Puts what a node was asked or given to a text, after a bar.
+fn push_calls(text: &mut String, node: &MemNode) -> Option<()> {
+    text.push('|').ok()?;
     for call in node.told() {
-        text.push_str(call_name(call))?;
+        text.push_str(call_name(call)).ok()?;
     }
-    Ok(())
+    Some(())
 }
 
-/// What each node was asked or given.
-fn calls(alloc: Global, stage: &Stage) -> Result<String, Stop> {
-    let nodes = stage.nodes.twin(alloc)?.into_nodes();
-    let mut text = String::new(alloc);
+/// Puts what each node was asked or given to a text.
+fn calls(alloc: Global, text: &mut String, stage: &Stage) -> Option<()> {
+    let nodes = stage.nodes.twin(alloc).ok()?.into_nodes();
     for node in nodes.as_slice() {
-        push_calls(node, &mut text)?;
+        push_calls(text, node)?;
     }
-    Ok(text)
+    Some(())
 }
 
 impl Scene for Stage {
-    fn call(&mut self, alloc: Global, name: &str, arguments: &str) -> Result<String, Stop> {
+    fn call(
+        &mut self,
+        alloc: Global,
+        text: &mut String,
+        name: &str,
+        arguments: &str,
+    ) -> Option<()> {
         match name {
-            "ask" => ask(alloc, self, arguments),
-            "refresh" => Ok(format!(in alloc; "{:?}", self.nodes.refresh())?),
-            "post" => post(alloc, self, arguments),
-            "take" => take(alloc, self, arguments),
-            "hold" => hold(alloc, self, arguments),
-            "due" => due(alloc, self, arguments),
-            "calls" => calls(alloc, self),
-            _ => Err(Stop::Unread),
+            "ask" => ask(alloc, text, self, arguments),
+            "refresh" => write!(text, "{:?}", self.nodes.refresh()).ok(),
+            "post" => post(alloc, text, self, arguments),
+            "take" => take(alloc, text, self, arguments),
+            "hold" => hold(alloc, text, self, arguments),
+            "due" => due(alloc, text, self, arguments),
+            "calls" => calls(alloc, text, self),
+            _ => None,
         }
     }
 
     /// The nodes' twins, with a schedule that holds no answer.
-    fn another(&self, alloc: Global) -> Result<Self, Stop> {
-        Ok(Stage {
-            nodes: self.nodes.twin(alloc)?,
+    fn another(&self, alloc: Global) -> Option<Self> {
+        Some(Stage {
+            nodes: self.nodes.twin(alloc).ok()?,
             schedule: Schedule::new(alloc),
         })
     }

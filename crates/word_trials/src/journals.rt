@@ -1,5 +1,5 @@
 //! Commands over disks in memory, lines of keys, and inputs that are read whole.
-use crate::reading::{Stop, file, number, numbers, parts, push_ended, state};
+use crate::reading::{file, numbers, push_ended, state};
 use command_line::{PathText, Plan};
 use edge_kit::{Disks, MemDisk, MemSink, MemSource, Root, read_quoted};
 use journal_commands::{key_line, read_whole, run_merge, run_show};
@@ -16,10 +16,9 @@ const GENESIS: Root = Root([7; 32]);
 const ROOM: usize = 4096;
 
 /// Appends what comes of a text that is merged into an empty journal, and what is shown of the journal then.
-pub(crate) fn push_journal(alloc: Global, text: &str, out: &mut String) -> Result<(), Stop> {
-    let disks = merge_text(alloc, text, out)?;
-    show(alloc, disks, out)?;
-    Ok(())
+pub(crate) fn push_journal(alloc: Global, text: &str, out: &mut String) -> Option<()> {
+    let disks = merge_text(alloc, text, out).ok()?;
+    show(alloc, disks, out).ok()
 }
 
 /// The path of a journal.
@@ -70,6 +69,15 @@ fn show(alloc: Global, disks: Disks<MemDisk>, out: &mut String) -> Result<(), Al
     push_end(alloc, out, "show", status, sink)
 }
 
+/// Appends what a command wrote, if it wrote anything.
+fn push_written(alloc: Global, out: &mut String, bytes: &[u8]) -> Result<(), AllocError> {
+    if bytes.is_empty() {
+        return Ok(());
+    }
+    let text = String::from_utf8_lossy(alloc, bytes)?;
+    push_ended(out, text.as_str())
+}
+
 /// Appends the status of a command, its number, and what the command wrote.
 fn push_end(
     alloc: Global,
@@ -79,25 +87,20 @@ fn push_end(
     sink: MemSink,
 ) -> Result<(), AllocError> {
     writeln!(out, "{command} {status:?} {}", status.code())?;
-    let bytes = sink.into_bytes();
-    if bytes.is_empty() {
-        return Ok(());
-    }
-    let text = String::from_utf8_lossy(alloc, bytes.as_slice())?;
-    push_ended(out, text.as_str())
+    push_written(alloc, out, sink.into_bytes().as_slice())
 }
 
 /// Appends the lines of keys: their state, the floors of their records, and a file with what else is kept of each.
-pub(crate) fn push_keys(alloc: Global, text: &str, out: &mut String) -> Result<(), Stop> {
-    let (word, rest) = parts(text, '|')?;
-    let (block, rest) = parts(rest, '|')?;
-    let (vote, text) = parts(rest, '|')?;
+pub(crate) fn push_keys(alloc: Global, text: &str, out: &mut String) -> Option<()> {
+    let (word, rest) = text.split_once('|')?;
+    let (block, rest) = rest.split_once('|')?;
+    let (vote, text) = rest.split_once('|')?;
     let floors = Floors {
         block: read_quoted(block),
-        vote: numbers(vote).ok(),
+        vote: numbers(vote),
     };
-    push_kept(alloc, out, state(word)?, floors, file(alloc, text)?)?;
-    Ok(())
+    let state = state(word)?;
+    push_kept(alloc, out, state, floors, file(alloc, text)?).ok()
 }
 
 /// Appends the line of each key of a file.
@@ -117,24 +120,27 @@ fn push_kept(
 }
 
 /// Appends how many bytes of an input are read: of its length, the limit, and the call that fails, if one does.
-pub(crate) fn push_reading(alloc: Global, text: &str, out: &mut String) -> Result<(), Stop> {
-    let (len, rest) = parts(text, ' ')?;
-    let (limit, call) = parts(rest, ' ')?;
+pub(crate) fn push_reading(alloc: Global, text: &str, out: &mut String) -> Option<()> {
+    let (len, rest) = text.split_once(' ')?;
+    let (limit, call) = rest.split_once(' ')?;
     let mut input = input_of(alloc, len, call)?;
-    match read_whole(alloc, &mut input, number(limit)?) {
-        Ok(bytes) => write!(out, "{} bytes", bytes.len())?,
-        Err(fault) => write!(out, "{fault:?}: {fault}")?,
+    match read_whole(alloc, &mut input, read_quoted(limit)?) {
+        Ok(bytes) => write!(out, "{} bytes", bytes.len()).ok(),
+        Err(fault) => write!(out, "{fault:?}: {fault}").ok(),
     }
-    Ok(())
+}
+
+/// The call of this number, if it is one.
+fn failing_of(alloc: Global, call: &str) -> Option<Vec<u64>> {
+    match read_quoted(call) {
+        Some(call) => vec![in alloc; call; 1].ok(),
+        None => Some(Vec::new(alloc)),
+    }
 }
 
 /// An input of that many bytes, with the call that fails, if one does.
-fn input_of(alloc: Global, len: &str, call: &str) -> Result<MemSource, Stop> {
-    let len = len.parse::<usize>().ok().ok_or(Stop::Unread)?;
-    let bytes = vec![in alloc; 7u8; len]?;
-    let mut failing = Vec::new(alloc);
-    if let Some(call) = read_quoted(call) {
-        failing.push(call)?;
-    }
-    Ok(MemSource::new(bytes, failing))
+fn input_of(alloc: Global, len: &str, call: &str) -> Option<MemSource> {
+    let len = len.parse::<usize>().ok()?;
+    let bytes = vec![in alloc; 7u8; len].ok()?;
+    Some(MemSource::new(bytes, failing_of(alloc, call)?))
 }

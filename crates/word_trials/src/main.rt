@@ -14,20 +14,14 @@ mod requests;
 use crate::answers::push_line_of;
 use crate::journals::{push_journal, push_keys, push_reading};
 use crate::plans::{push_debug_of, push_plan_of, push_token_of};
-use crate::reading::Stop;
 use crate::requests::push_request_of;
-use std::alloc::{AllocError, Global};
+use std::alloc::Global;
 use std::io;
 use std::io::Print;
 use trial_lines::{case_of, print_outcome, print_unread, read_input};
 
 /// Appends what comes of a case.
-fn push_outcome(
-    alloc: Global,
-    subject: &str,
-    arguments: &str,
-    out: &mut String,
-) -> Result<(), Stop> {
+fn push_outcome(alloc: Global, subject: &str, arguments: &str, out: &mut String) -> Option<()> {
     match subject {
         "plan" => push_plan_of(alloc, arguments, out),
         "plan-debug" => push_debug_of(alloc, arguments, out),
@@ -37,7 +31,7 @@ fn push_outcome(
         "merge-and-show" => push_journal(alloc, arguments, out),
         "key-line" => push_keys(alloc, arguments, out),
         "read-whole" => push_reading(alloc, arguments, out),
-        _ => Err(Stop::Unread),
+        _ => None,
     }
 }
 
@@ -45,9 +39,8 @@ fn push_outcome(
 fn run_case<R: Print + AllocGlobal>(rt: &R, subject: &str, arguments: &str) -> io::Result<()> {
     let mut out = String::new(rt.alloc());
     match push_outcome(rt.alloc(), subject, arguments, &mut out) {
-        Ok(()) => print_outcome(rt, out.as_str()),
-        Err(Stop::Unread) => print_unread(rt),
-        Err(Stop::Memory) => Err(io::Error::from(AllocError)),
+        Some(()) => print_outcome(rt, out.as_str()),
+        None => print_unread(rt),
     }
 }
 

@@ -1,5 +1,5 @@
 //! Words of the command line, and the plans that they are.
-use crate::reading::{Stop, push_digits, push_ended};
+use crate::reading::{push_digits, push_ended};
 use command_line::{PathText, Plan, ServeOptions, Usage, plan};
 use edge_kit::{Root, push_hex};
 use plan_places::{token_path, with_token};
@@ -34,28 +34,25 @@ fn plan_of(alloc: Global, line: &str) -> Result<Result<Plan, Usage>, AllocError>
 }
 
 /// Appends what words come to: a plan in words, or what is said of words that are none.
-pub(crate) fn push_plan_of(alloc: Global, line: &str, out: &mut String) -> Result<(), Stop> {
-    match &plan_of(alloc, line)? {
-        Ok(planned) => push_plan(alloc, planned, out)?,
-        Err(usage) => push_text(out, "usage ", usage.as_str())?,
+pub(crate) fn push_plan_of(alloc: Global, line: &str, out: &mut String) -> Option<()> {
+    match &plan_of(alloc, line).ok()? {
+        Ok(planned) => push_plan(alloc, planned, out).ok(),
+        Err(usage) => push_text(out, "usage ", usage.as_str()).ok(),
     }
-    Ok(())
 }
 
 /// Appends what `{:?}` writes of what words come to.
-pub(crate) fn push_debug_of(alloc: Global, line: &str, out: &mut String) -> Result<(), Stop> {
-    let planned = plan_of(alloc, line)?;
-    write!(out, "{planned:?}")?;
-    Ok(())
+pub(crate) fn push_debug_of(alloc: Global, line: &str, out: &mut String) -> Option<()> {
+    let planned = plan_of(alloc, line).ok()?;
+    write!(out, "{planned:?}").ok()
 }
 
 /// Appends the path of the file of the token that words name, and the words with the token `read`.
-pub(crate) fn push_token_of(alloc: Global, line: &str, out: &mut String) -> Result<(), Stop> {
-    let words = words_of(alloc, line)?;
-    push_path(token_path(words.as_slice()), out)?;
-    let words = with_token(alloc, words, "read")?;
-    push_words(words.as_slice(), out)?;
-    Ok(())
+pub(crate) fn push_token_of(alloc: Global, line: &str, out: &mut String) -> Option<()> {
+    let words = words_of(alloc, line).ok()?;
+    push_path(token_path(words.as_slice()), out).ok()?;
+    let words = with_token(alloc, words, "read").ok()?;
+    push_words(words.as_slice(), out).ok()
 }
 
 /// Appends a path, or that there is none.
@@ -91,7 +88,7 @@ fn push_plan(alloc: Global, planned: &Plan, out: &mut String) -> Result<(), Allo
             watch,
         } => {
             push_place(alloc, out, "session", genesis, journal.as_ref())?;
-            push_signing(alloc, out, fork, signer.is_some(), *watch)
+            push_signing(out, fork, signer.is_some(), *watch)
         }
         Plan::Serve(options) => push_options(alloc, out, options),
         Plan::Merge { genesis, journal } => {
@@ -123,16 +120,15 @@ fn push_place(
 
 /// Appends a fork, whether a service signs, and whether keys are watched.
 fn push_signing(
-    alloc: Global,
     out: &mut String,
     fork: &Fork,
     has_signer: bool,
     watch: bool,
 ) -> Result<(), AllocError> {
     out.push(' ')?;
-    push_digits(alloc, out, &fork.previous_version)?;
+    push_digits(out, &fork.previous_version)?;
     out.push(' ')?;
-    push_digits(alloc, out, &fork.current_version)?;
+    push_digits(out, &fork.current_version)?;
     write!(out, " {} {has_signer} {watch}", fork.epoch)
 }
 

@@ -1,5 +1,6 @@
 //! What the desk, a session or the past of a key refuses.
-use crate::reading::{Stop, bytes, number, numbers, parts, root, state};
+use crate::reading::{bytes, numbers, root, state};
+use edge_kit::read_quoted;
 use interchange_io::{ReadFault, read};
 use key_custody::DeskRefusal;
 use protect_record::Verdict;
@@ -8,21 +9,16 @@ use slash_defs::{BlockEntry, VoteEntry};
 use std::alloc::Global;
 use trial_lines::case_of;
 
-/// A name, and what follows it.
-pub(crate) fn named(text: &str) -> Result<(&str, &str), Stop> {
-    case_of(text).ok_or(Stop::Unread)
-}
-
 /// What the desk refuses.
-pub(crate) fn desk_refusal(text: &str) -> Result<DeskRefusal, Stop> {
-    let (name, rest) = named(text)?;
+pub(crate) fn desk_refusal(text: &str) -> Option<DeskRefusal> {
+    let (name, rest) = case_of(text)?;
     match name {
-        "disk" => Ok(DeskRefusal::Disk),
-        "closing" => Ok(DeskRefusal::Closing),
-        "unknown" => Ok(DeskRefusal::Unknown),
-        "not_closing" => Ok(DeskRefusal::NotClosing(state(rest)?)),
-        "busy" => Ok(DeskRefusal::Busy {
-            grants: number(rest)?,
+        "disk" => Some(DeskRefusal::Disk),
+        "closing" => Some(DeskRefusal::Closing),
+        "unknown" => Some(DeskRefusal::Unknown),
+        "not_closing" => Some(DeskRefusal::NotClosing(state(rest)?)),
+        "busy" => Some(DeskRefusal::Busy {
+            grants: read_quoted(rest)?,
         }),
         "genesis_differs" => genesis_differs(rest),
         _ => desk_limit(name, rest),
@@ -30,99 +26,96 @@ pub(crate) fn desk_refusal(text: &str) -> Result<DeskRefusal, Stop> {
 }
 
 /// The chain that is kept, and the one that is given.
-fn genesis_differs(text: &str) -> Result<DeskRefusal, Stop> {
-    let (kept, given) = parts(text, ' ')?;
-    Ok(DeskRefusal::GenesisDiffers {
+fn genesis_differs(text: &str) -> Option<DeskRefusal> {
+    let (kept, given) = text.split_once(' ')?;
+    Some(DeskRefusal::GenesisDiffers {
         kept: root(kept)?,
         given: root(given)?,
     })
 }
 
 /// What the desk has no room for.
-fn desk_limit(name: &str, rest: &str) -> Result<DeskRefusal, Stop> {
+fn desk_limit(name: &str, rest: &str) -> Option<DeskRefusal> {
     let (first, second) = numbers(rest)?;
     match name {
-        "too_many_keys" => Ok(DeskRefusal::TooManyKeys {
+        "too_many_keys" => Some(DeskRefusal::TooManyKeys {
             have: first,
             new: second,
         }),
-        "full" => Ok(DeskRefusal::Full {
+        "full" => Some(DeskRefusal::Full {
             size: first,
             wanted: second,
         }),
-        _ => Err(Stop::Unread),
+        _ => None,
     }
 }
 
 /// What a session refuses.
-pub(crate) fn refused(alloc: Global, text: &str) -> Result<Answer, Stop> {
-    let (name, rest) = named(text)?;
+pub(crate) fn refused(alloc: Global, text: &str) -> Option<Answer> {
+    let (name, rest) = case_of(text)?;
     match name {
-        "not_active" => Ok(Answer::NotActive),
-        "last_generation" => Ok(Answer::LastGeneration),
-        "live" => Ok(Answer::Live {
-            epoch: number(rest)?,
+        "not_active" => Some(Answer::NotActive),
+        "last_generation" => Some(Answer::LastGeneration),
+        "live" => Some(Answer::Live {
+            epoch: read_quoted(rest)?,
         }),
         "watching" => watching(rest),
-        "bad_file" => Ok(Answer::BadFile(fault(alloc, rest)?)),
-        "too_long" => match rest.parse::<usize>() {
-            Ok(len) => Ok(Answer::BadFile(ReadFault::TooLong(len))),
-            Err(_) => Err(Stop::Unread),
-        },
-        _ => Err(Stop::Unread),
+        "bad_file" => Some(Answer::BadFile(fault(alloc, rest)?)),
+        "too_long" => {
+            let len = rest.parse::<usize>().ok()?;
+            Some(Answer::BadFile(ReadFault::TooLong(len)))
+        }
+        _ => None,
     }
 }
 
 /// A key that is watched, and the epochs that are missing: one, or two with a space between them.
-fn watching(text: &str) -> Result<Answer, Stop> {
-    let (first, second) = named(text)?;
-    let first = number(first)?;
+fn watching(text: &str) -> Option<Answer> {
+    let (first, second) = case_of(text)?;
+    let first = read_quoted(first)?;
     if second.is_empty() {
-        return Ok(Answer::Watching {
+        return Some(Answer::Watching {
             first,
             second: None,
         });
     }
-    Ok(Answer::Watching {
+    Some(Answer::Watching {
         first,
-        second: Some(number(second)?),
+        second: Some(read_quoted(second)?),
     })
 }
 
 /// Why a text is no interchange file.
-fn fault(alloc: Global, text: &str) -> Result<ReadFault, Stop> {
+fn fault(alloc: Global, text: &str) -> Option<ReadFault> {
     let bytes = bytes(alloc, text)?;
-    match read(alloc, bytes.as_slice())? {
-        Ok(_file) => Err(Stop::Unread),
-        Err(fault) => Ok(fault),
-    }
+    read(alloc, bytes.as_slice()).ok()?.err()
 }
 
 /// Why a key's past forbids a message: its floor, or what is kept.
-pub(crate) fn verdict(text: &str) -> Result<Verdict, Stop> {
-    let (name, rest) = named(text)?;
+pub(crate) fn verdict(text: &str) -> Option<Verdict> {
+    let (name, rest) = case_of(text)?;
     match name {
-        "slot_below" => Ok(Verdict::SlotBelow(number(rest)?)),
-        "target_below" => Ok(Verdict::TargetBelow(number(rest)?)),
-        "double_block" => Ok(Verdict::DoubleBlock(kept_block(rest)?)),
-        "surrounds" => Ok(Verdict::Surrounds(kept_vote(rest)?)),
-        _ => Err(Stop::Unread),
+        "slot_below" => Some(Verdict::SlotBelow(read_quoted(rest)?)),
+        "target_below" => Some(Verdict::TargetBelow(read_quoted(rest)?)),
+        "double_block" => Some(Verdict::DoubleBlock(kept_block(rest)?)),
+        "surrounds" => Some(Verdict::Surrounds(kept_vote(rest)?)),
+        _ => None,
     }
 }
 
 /// A kept block: its slot and its signing root.
-fn kept_block(text: &str) -> Result<BlockEntry, Stop> {
-    let (slot, signed) = parts(text, ' ')?;
-    Ok(BlockEntry {
-        slot: number(slot)?,
+fn kept_block(text: &str) -> Option<BlockEntry> {
+    let (slot, signed) = text.split_once(' ')?;
+    Some(BlockEntry {
+        slot: read_quoted(slot)?,
         root: Some(root(signed)?),
     })
 }
 
 /// A kept vote whose signing root is not known: its source and its target.
-fn kept_vote(text: &str) -> Result<VoteEntry, Stop> {
+fn kept_vote(text: &str) -> Option<VoteEntry> {
     let (source, target) = numbers(text)?;
-    Ok(VoteEntry {
+    Some(VoteEntry {
         target,
         source,
         root: None,

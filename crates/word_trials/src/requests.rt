@@ -1,5 +1,5 @@
 //! Lines of a session, and the requests that they are.
-use crate::reading::{Stop, bytes, push_digits, push_ended};
+use crate::reading::{bytes, push_digits, push_ended};
 use edge_kit::Root;
 use session_format::{Answer, Member, Op, Request, read_request};
 use sign_roots::{Domains, Fork};
@@ -18,13 +18,12 @@ fn domains() -> Domains {
 }
 
 /// Appends the request that a line is, or the member that it is refused for and the answer.
-pub(crate) fn push_request_of(alloc: Global, text: &str, out: &mut String) -> Result<(), Stop> {
+pub(crate) fn push_request_of(alloc: Global, text: &str, out: &mut String) -> Option<()> {
     let line = bytes(alloc, text)?;
-    match &read_request(alloc, &domains(), line.as_slice())? {
-        Ok(request) => push_request(alloc, out, request)?,
-        Err(member) => push_refusal(alloc, out, *member)?,
+    match &read_request(alloc, &domains(), line.as_slice()).ok()? {
+        Ok(request) => push_request(out, request).ok(),
+        Err(member) => push_refusal(alloc, out, *member).ok(),
     }
-    Ok(())
 }
 
 /// Appends the name of a member, and the answer that names it.
@@ -36,8 +35,8 @@ fn push_refusal(alloc: Global, out: &mut String, member: Member) -> Result<(), A
 }
 
 /// Appends a request in words.
-fn push_request(alloc: Global, out: &mut String, request: &Request) -> Result<(), AllocError> {
-    push_op(alloc, out, &request.op)?;
+fn push_request(out: &mut String, request: &Request) -> Result<(), AllocError> {
+    push_op(out, &request.op)?;
     match request.epoch {
         Some(epoch) => write!(out, " at {epoch}"),
         None => Ok(()),
@@ -45,7 +44,7 @@ fn push_request(alloc: Global, out: &mut String, request: &Request) -> Result<()
 }
 
 /// Appends what a request asks for.
-fn push_op(alloc: Global, out: &mut String, op: &Op) -> Result<(), AllocError> {
+fn push_op(out: &mut String, op: &Op) -> Result<(), AllocError> {
     match op {
         Op::Merge { file } => write!(out, "merge {}", file.books.len()),
         Op::BadFile { fault } => write!(out, "{fault}"),
@@ -61,7 +60,7 @@ fn push_op(alloc: Global, out: &mut String, op: &Op) -> Result<(), AllocError> {
             message,
             object,
             ..
-        } => push_proposal(alloc, out, message, object.as_ref()),
+        } => push_proposal(out, message, object.as_ref()),
         Op::Export { keys: Some(keys) } => write!(out, "export {}", keys.len()),
         Op::Export { keys: None } => out.push_str("export all"),
         Op::Prune { .. } => out.push_str("prune"),
@@ -72,7 +71,6 @@ fn push_op(alloc: Global, out: &mut String, op: &Op) -> Result<(), AllocError> {
 
 /// Appends a message, and the kind of the object that it is of.
 fn push_proposal(
-    alloc: Global,
     out: &mut String,
     message: &Message,
     object: Option<&SignObject>,
@@ -81,7 +79,7 @@ fn push_proposal(
         Message::Block { slot, .. } => write!(out, "block {slot} ")?,
         Message::Vote { source, target, .. } => write!(out, "vote {source} {target} ")?,
     }
-    push_digits(alloc, out, &message.signing_root().0)?;
+    push_digits(out, &message.signing_root().0)?;
     out.push_str(object_words(object))
 }
 
