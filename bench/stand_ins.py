@@ -113,6 +113,8 @@ def tell(due, method, target, body):
         return 200, {'data': FORK}
     if path == '/eth/v1/node/syncing':
         return 200, {'data': {'is_syncing': False, 'head_slot': '1', 'sync_distance': '0'}}
+    if path == '/eth/v1/node/version':
+        return 200, {'data': {'version': 'stand-in/1'}}
     if path == '/eth/v1/beacon/states/head/validators':
         return 200, {'data': [{'index': str(int(k, 16) - 1), 'validator': {'pubkey': k}} for _, k in asked]}
     if path.startswith('/eth/v1/validator/duties/proposer/'):

@@ -423,6 +423,8 @@ static int tell(const char *target, const char *target_end, const char *body, co
         take_votes(body, end);
     } else if (is_path(target, target_end, "/eth/v1/node/syncing")) {
         put_text(&answer, "{\"data\":{\"is_syncing\":false,\"head_slot\":\"1\",\"sync_distance\":\"0\"}}");
+    } else if (is_path(target, target_end, "/eth/v1/node/version")) {
+        put_text(&answer, "{\"data\":{\"version\":\"stand-in/1\"}}");
     } else if ((rest = below(target, target_end, "/eth/v1/validator/duties/proposer/"))) {
         put_proposers(number_at(rest, target_end));
     } else if ((rest = below(target, target_end, "/eth/v1/validator/duties/attester/"))) {
