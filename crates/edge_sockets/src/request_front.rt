@@ -117,28 +117,3 @@ fn number_of(digits: &[u8]) -> u64 {
     }
     number
 }
-
-#[cfg(test)]
-mod tests {
-    use super::is_ready;
-
-    #[test]
-    fn a_head_without_the_token_is_ready() {
-        assert!(!is_ready(b"POST / HTTP/1.1\r\nContent-Length: 2\r\n", "abc"));
-        assert!(is_ready(b"POST / HTTP/1.1\r\nContent-Length: 2\r\n\r\n", "abc"));
-        assert!(!is_ready(
-            b"POST / HTTP/1.1\r\nContent-Length: 2\r\nAuthorization: Bearer abc\r\n\r\n1",
-            "abc"
-        ));
-    }
-
-    #[test]
-    fn a_whole_request_is_ready() {
-        assert!(is_ready(
-            b"POST / HTTP/1.1\r\nContent-Length: 2\r\nauthorization: bearer abc\r\n\r\n12",
-            "abc"
-        ));
-        assert!(is_ready(b"GET / HTTP/1.1\nAuthorization: Bearer abc\n\n", "abc"));
-        assert!(!is_ready(b"GET / HTTP/1.1\r\nAuthorization: Bearer abc\r\n", "abc"));
-    }
-}
