@@ -1,39 +1,38 @@
 //! What beacon nodes answer, in words.
-use crate::reading::push_bytes;
+use crate::reading::{Stop, with_bytes};
 use node_calls::{Answer, NodeFault};
-use std::alloc::Global;
+use std::alloc::{AllocError, Global};
 
-/// Puts an answer to a text.
-pub fn push_answer(text: &mut String, answer: &Answer) -> Option<()> {
-    let pushed = match answer {
+/// An answer.
+pub fn answer_words(alloc: Global, answer: &Answer) -> Result<String, AllocError> {
+    match answer {
         Answer::Genesis {
             genesis_time,
             genesis_validators_root,
-        } => write!(text, "genesis {genesis_time} {genesis_validators_root:?}"),
-        Answer::Fork(fork) => write!(text, "{fork:?}"),
-        Answer::Syncing { is_syncing } => write!(text, "syncing {is_syncing}"),
-        Answer::Validators(rows) => write!(text, "{:?}", rows.as_slice()),
+        } => format!(in alloc; "genesis {genesis_time} {genesis_validators_root:?}"),
+        Answer::Fork(fork) => format!(in alloc; "{fork:?}"),
+        Answer::Syncing { is_syncing } => format!(in alloc; "syncing {is_syncing}"),
+        Answer::Validators(rows) => format!(in alloc; "{:?}", rows.as_slice()),
         Answer::Proposer {
             dependent_root,
             rows,
-        } => write!(text, "{dependent_root:?} {:?}", rows.as_slice()),
+        } => format!(in alloc; "{dependent_root:?} {:?}", rows.as_slice()),
         Answer::Attester {
             dependent_root,
             rows,
-        } => write!(text, "{dependent_root:?} {:?}", rows.as_slice()),
-        Answer::Data(details) => write!(text, "{details:?}"),
-        Answer::Block(block) => write!(text, "{block:?}"),
-        Answer::Liveness(rows) => write!(text, "{:?}", rows.as_slice()),
-    };
-    pushed.ok()
+        } => format!(in alloc; "{dependent_root:?} {:?}", rows.as_slice()),
+        Answer::Data(details) => format!(in alloc; "{details:?}"),
+        Answer::Block(block) => format!(in alloc; "{block:?}"),
+        Answer::Liveness(rows) => format!(in alloc; "{:?}", rows.as_slice()),
+    }
 }
 
-/// Puts why a node gave nothing to a text.
-pub fn push_fault(alloc: Global, text: &mut String, fault: &NodeFault) -> Option<()> {
+/// Why a node gave nothing.
+pub fn fault_words(alloc: Global, fault: &NodeFault) -> Result<String, Stop> {
     match fault {
-        NodeFault::Fault => text.push_str("fault").ok(),
-        NodeFault::Status(status) => write!(text, "status {status}").ok(),
-        NodeFault::Unreadable(body) => push_bytes(alloc, text, "unreadable", body.as_slice()),
-        NodeFault::OutOfMemory => None,
+        NodeFault::Fault => Ok(String::from_str(alloc, "fault")?),
+        NodeFault::Status(status) => Ok(format!(in alloc; "status {status}")?),
+        NodeFault::Unreadable(body) => with_bytes(alloc, "unreadable", body.as_slice()),
+        NodeFault::OutOfMemory => Err(Stop::OutOfMemory),
     }
 }

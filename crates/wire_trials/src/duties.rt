@@ -1,7 +1,7 @@
 //! Slots, data of votes, questions and watches.
 use crate::nodes::bits_of;
 use crate::questions::{answer_of, ask_of, attester};
-use crate::reading::{first_part, number_at};
+use crate::reading::{Stop, first_part, numbers_in};
 use doppel_watch::{MOMENT_LIMIT, Watch};
 use duty_schedule::{check_data, slot_at};
 use edge_kit::{Items, Root};
@@ -9,93 +9,100 @@ use node_fallback::Cause;
 use phase0_types::{AttestationData, Checkpoint};
 use std::alloc::Global;
 
-/// Puts what comes of a subject of this module to a text.
-pub fn push_outcome(
-    alloc: Global,
-    text: &mut String,
-    subject: &str,
-    arguments: &str,
-) -> Option<()> {
+/// What comes of a subject of this module.
+pub fn outcome(alloc: Global, subject: &str, arguments: &str) -> Result<String, Stop> {
     match subject {
-        "slot" => push_slot(text, arguments),
-        "check-data" => push_differing(alloc, text, arguments),
-        "fits" => push_fitting(alloc, text, arguments),
-        "bits" => write!(text, "{:?}", bits_of(alloc, arguments)?.as_slice()).ok(),
-        "cause" => push_cause(alloc, text, arguments),
-        "watch" => push_watch(text, arguments),
-        _ => None,
+        "slot" => slot(alloc, arguments),
+        "check-data" => data(alloc, arguments),
+        "fits" => fits(alloc, arguments),
+        "bits" => Ok(format!(in alloc; "{:?}", bits_of(alloc, arguments)?.as_slice())?),
+        "cause" => cause(alloc, arguments),
+        "watch" => watch(alloc, arguments),
+        _ => Err(Stop::Unread),
     }
 }
 
-/// Puts the slot of a moment to a text.
-fn push_slot(text: &mut String, words: &str) -> Option<()> {
-    let slot = slot_at(number_at(words, 0)?, number_at(words, 1)?);
-    write!(text, "{slot:?}").ok()
+/// The slot of a moment.
+fn slot(alloc: Global, words: &str) -> Result<String, Stop> {
+    match numbers_in(alloc, words)?.as_slice() {
+        [genesis_time, moment] => {
+            let slot = slot_at(*genesis_time, *moment);
+            Ok(format!(in alloc; "{slot:?}")?)
+        }
+        _ => Err(Stop::Unread),
+    }
 }
 
 /// The data of a vote.
-fn details_of(words: &str) -> Option<AttestationData> {
+fn details_of(alloc: Global, words: &str) -> Result<AttestationData, Stop> {
     let root = Root([0; 32]);
-    let slot = number_at(words, 0)?;
-    let index = number_at(words, 1)?;
-    let epoch = number_at(words, 2)?;
-    Some(AttestationData {
-        slot,
-        index,
-        beacon_block_root: root,
-        source: Checkpoint { epoch: 0, root },
-        target: Checkpoint { epoch, root },
-    })
-}
-
-/// Puts to a text what differs between a vote that is due and the data that a node gives for it.
-fn push_differing(alloc: Global, text: &mut String, words: &str) -> Option<()> {
-    let (due, given) = first_part(words, ": ");
-    match check_data(&attester(alloc, due)?, &details_of(given)?) {
-        Ok(()) => text.push_str("nothing differs").ok(),
-        Err(differs) => write!(text, "{differs}").ok(),
+    match numbers_in(alloc, words)?.as_slice() {
+        [slot, index, epoch] => Ok(AttestationData {
+            slot: *slot,
+            index: *index,
+            beacon_block_root: root,
+            source: Checkpoint { epoch: 0, root },
+            target: Checkpoint {
+                epoch: *epoch,
+                root,
+            },
+        }),
+        _ => Err(Stop::Unread),
     }
 }
 
-/// Puts to a text whether an answer fits its question.
-fn push_fitting(alloc: Global, text: &mut String, words: &str) -> Option<()> {
+/// What differs between a vote that is due and the data that a node gives for it.
+fn data(alloc: Global, words: &str) -> Result<String, Stop> {
+    let (due, given) = first_part(words, ": ");
+    let due = attester(alloc, due)?;
+    let given = details_of(alloc, given)?;
+    match check_data(&due, &given) {
+        Ok(()) => Ok(String::from_str(alloc, "nothing differs")?),
+        Err(differs) => Ok(format!(in alloc; "{differs}")?),
+    }
+}
+
+/// Whether an answer fits its question.
+fn fits(alloc: Global, words: &str) -> Result<String, Stop> {
     let (ask, answer) = first_part(words, ": ");
     let ask = ask_of(alloc, ask)?;
-    let fits = answer_of(alloc, answer)?.fits(alloc, &ask).ok()?;
-    write!(text, "{fits}").ok()
+    let fits = answer_of(alloc, answer)?.fits(alloc, &ask)?;
+    Ok(format!(in alloc; "{fits}")?)
 }
 
-/// The cause that is given by what a node did, or by the status that it answered.
-fn cause_of(alloc: Global, words: &str) -> Option<Cause> {
-    match words {
-        "failed" => Some(Cause::Fault),
-        "answered something else" => Some(Cause::Unreadable(Items::new(alloc))),
-        "catching up" => Some(Cause::Syncing),
-        _ => Some(Cause::Status(words.parse::<u16>().ok()?)),
-    }
-}
-
-/// Puts the name of a cause to a text.
-fn push_cause(alloc: Global, text: &mut String, words: &str) -> Option<()> {
-    let cause = cause_of(alloc, words)?;
-    write!(text, "{cause}").ok()
+/// The name of a cause, which is given by what a node did, or by the status that it answered.
+fn cause(alloc: Global, words: &str) -> Result<String, Stop> {
+    let cause = match words {
+        "failed" => Cause::Fault,
+        "answered something else" => Cause::Unreadable(Items::new(alloc)),
+        "catching up" => Cause::Syncing,
+        _ => match words.parse::<u16>() {
+            Ok(status) => Cause::Status(status),
+            Err(_) => return Err(Stop::Unread),
+        },
+    };
+    Ok(cause.to_string(alloc)?)
 }
 
 /// Takes in what was told of a key.
-fn tell(watch: &mut Watch, words: &str) -> Option<()> {
-    let (epoch, now) = (number_at(words, 0)?, number_at(words, 1)?);
-    watch.answer(epoch, words.contains("live"), now.min(MOMENT_LIMIT));
-    Some(())
+fn tell(alloc: Global, watch: &mut Watch, words: &str) -> Result<(), Stop> {
+    match numbers_in(alloc, words)?.as_slice() {
+        [epoch, now] => {
+            watch.answer(*epoch, words.contains("live"), (*now).min(MOMENT_LIMIT));
+            Ok(())
+        }
+        _ => Err(Stop::Unread),
+    }
 }
 
-/// Puts to a text how the watch of a key that becomes active at epoch 5 stands at epoch 20, after what was told, each after a
-/// bar.
-fn push_watch(text: &mut String, told: &str) -> Option<()> {
+/// How the watch of a key that becomes active at epoch 5 stands at epoch 20, after what was told, each after a bar.
+fn watch(alloc: Global, told: &str) -> Result<String, Stop> {
     let mut watch = Watch::start(5);
     for words in told.split(" | ") {
         if words != "nothing" {
-            tell(&mut watch, words)?;
+            tell(alloc, &mut watch, words)?;
         }
     }
-    write!(text, "{:?}", watch.state(20)).ok()
+    let state = watch.state(20);
+    Ok(format!(in alloc; "{state:?}")?)
 }

@@ -20,88 +20,74 @@ mod signers;
 mod stages;
 mod wires;
 
-use crate::reading::{first_part, number_at};
-use std::alloc::Global;
+use crate::reading::{Stop, first_part, numbers_in};
+use std::alloc::{AllocError, Global};
 use std::io;
 use std::rt::Clock;
 use std::sync::Wait;
 use trial_lines::{case_of, print_outcome, print_unread, read_input};
 
-/// Puts what comes of a subject and its arguments to a text.
-fn push_outcome<R: Wait + Clock + Sync>(
+/// What comes of a subject and its arguments.
+fn outcome<R: Wait + Clock + Sync>(
     rt: &R,
     alloc: Global,
-    text: &mut String,
     subject: &str,
     arguments: &str,
-) -> Option<()> {
+) -> Result<String, Stop> {
     match subject {
         "failing" => {
             let (range, case) = first_part(arguments, ": ");
-            push_each_failing(alloc, text, range, case)
+            each_failing(alloc, range, case)
         }
         "url" | "json" | "json-bytes" | "request" | "response" => {
-            wires::push_outcome(alloc, text, subject, arguments)
+            wires::outcome(alloc, subject, arguments)
         }
-        "link" | "signer" | "node" | "nodes" => {
-            scenes::push_outcome(alloc, text, subject, arguments, &[])
-        }
-        "clock" => clocks::push_mem_clock(rt, alloc, text, arguments),
-        "system-clock" => clocks::push_system_clock(rt, text),
-        "halted-clock" => clocks::push_halted_clock(rt, text),
-        "halting-clock" => clocks::push_halting_clock(rt, text),
-        _ => duties::push_outcome(alloc, text, subject, arguments),
+        "link" | "signer" | "node" | "nodes" => { scenes::outcome(alloc, subject, arguments, &[]) }
+        "clock" => clocks::mem_clock(rt, alloc, arguments),
+        "system-clock" => clocks::system_clock(rt, alloc),
+        "halted-clock" => clocks::halted_clock(rt, alloc),
+        "halting-clock" => clocks::halting_clock(rt, alloc),
+        _ => duties::outcome(alloc, subject, arguments),
     }
 }
 
-/// What comes of a case where a call of the link fails.
-fn outcome_failing(alloc: Global, case: &str, call: u64) -> Option<String> {
+/// What comes of a case where the first of these calls of the link fails, then where the next one does, and so on to the
+/// last: each outcome that differs from the one before it.
+fn each_failing(alloc: Global, range: &str, case: &str) -> Result<String, Stop> {
     let (subject, arguments) = first_part(case, " ");
+    let (first, last) = range_of(alloc, range)?;
     let mut text = String::new(alloc);
-    scenes::push_outcome(alloc, &mut text, subject, arguments, &[call])?;
-    Some(text)
-}
-
-/// Puts what comes of a case where a call fails to a text, if it differs from what came of the one before.
-fn push_changed(text: &mut String, call: u64, before: &str, words: &str) -> Option<()> {
-    if words == before {
-        return Some(());
-    }
-    write!(text, "from call {call}:\n{words}").ok()
-}
-
-/// Puts to a text what comes of a case where the first of these calls of the link fails, then where the next one does, and so
-/// on to the last: each outcome that differs from the one before it.
-fn push_each_failing(alloc: Global, text: &mut String, range: &str, case: &str) -> Option<()> {
-    let (first, last) = (number_at(range, 0)?, number_at(range, 1)?);
     let mut before = String::new(alloc);
     for call in first..=last {
-        let words = outcome_failing(alloc, case, call)?;
-        push_changed(text, call, before.as_str(), words.as_str())?;
+        let words = scenes::outcome(alloc, subject, arguments, &[call])?;
+        if words.as_str() != before.as_str() {
+            let words = words.as_str();
+            write!(text, "from call {call}:\n{words}")?;
+        }
         before = words;
     }
-    write!(text, "to call {last}").ok()
+    write!(text, "to call {last}")?;
+    Ok(text)
 }
 
-/// Writes what comes of a subject and its arguments.
-fn write_outcome<R: Print + AllocGlobal + Wait + Clock + Sync>(
-    rt: &R,
-    subject: &str,
-    arguments: &str,
-) -> io::Result<()> {
-    let mut text = String::new(rt.alloc());
-    match push_outcome(rt, rt.alloc(), &mut text, subject, arguments) {
-        Some(()) => print_outcome(rt, text.as_str()),
-        None => print_unread(rt),
+/// The first and the last of a range.
+fn range_of(alloc: Global, range: &str) -> Result<(u64, u64), Stop> {
+    match numbers_in(alloc, range)?.as_slice() {
+        [first, last] => Ok((*first, *last)),
+        _ => Err(Stop::Unread),
     }
 }
 
 /// Writes a line and what comes of it.
 fn write_line<R: Print + AllocGlobal + Wait + Clock + Sync>(rt: &R, line: &str) -> io::Result<()> {
     println!(rt; "{line}")?;
-    match case_of(line) {
-        Some((subject, arguments)) => write_outcome(rt, subject, arguments),
-        None => Ok(()),
+    let Some((subject, arguments)) = case_of(line) else {
+        return Ok(());
+    };
+    match outcome(rt, rt.alloc(), subject, arguments) {
+        Ok(text) => print_outcome(rt, text.as_str()),
+        Err(Stop::Unread) => print_unread(rt),
+        Err(Stop::OutOfMemory) => Err(AllocError)?,
     }
 }
 

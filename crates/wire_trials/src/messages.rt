@@ -1,9 +1,9 @@
 //! HTTP messages that a peer says in pieces.
 ghost use Rattle.std.specs.Prelude.{None};
 
-use crate::reading::text_of;
+use crate::reading::{Stop, text_of};
 use edge_kit::{Failed, Link};
-use http_wire::{Response, read_request, read_response};
+use http_wire::{Request, Response, WireFault, read_request, read_response};
 use std::alloc::{AllocError, Global};
 
 /// A link whose peer says these bytes, that many of them in a first piece, and then in pieces of at most that many. It tells
@@ -58,107 +58,84 @@ impl<'a> Link for CutLink<'a> {
     }
 }
 
-/// Puts the body of a message to a text.
-fn push_body(alloc: Global, text: &mut String, body: &[u8]) -> Option<()> {
-    let body = String::from_utf8_lossy(alloc, body).ok()?;
-    write!(text, "{:?}", body.as_str()).ok()
+/// The status and the body of a response.
+pub fn response_words(alloc: Global, response: &Response) -> Result<String, AllocError> {
+    let status = response.status;
+    let body = String::from_utf8_lossy(alloc, response.body.as_slice())?;
+    let body = body.as_str();
+    format!(in alloc; "{status} {body:?}")
 }
 
-/// Puts the status and the body of a response to a text.
-pub fn push_response(alloc: Global, text: &mut String, response: &Response) -> Option<()> {
-    write!(text, "{} ", response.status).ok()?;
-    push_body(alloc, text, response.body.as_slice())
+/// The body of a request.
+fn request_words(alloc: Global, request: &Request) -> Result<String, AllocError> {
+    let body = String::from_utf8_lossy(alloc, request.body.as_slice())?;
+    let body = body.as_str();
+    format!(in alloc; "{body:?}")
 }
 
-/// Puts what is read of the request that a peer says to a text, or why none is. Tells whether one is.
-fn push_request_of<L: Link>(alloc: Global, text: &mut String, link: &mut L) -> Option<bool> {
-    match &read_request(alloc, link) {
-        Ok(request) => push_body(alloc, text, request.body.as_slice())?,
-        Err(fault) => {
-            write!(text, "{fault:?}").ok()?;
-            return Some(false);
-        }
-    }
-    Some(true)
-}
-
-/// Puts what is read of the response that a peer says to a text, or why none is. Tells whether one is.
-fn push_response_of<L: Link>(alloc: Global, text: &mut String, link: &mut L) -> Option<bool> {
-    match &read_response(alloc, link) {
-        Ok(response) => push_response(alloc, text, response)?,
-        Err(fault) => {
-            write!(text, "{fault:?}").ok()?;
-            return Some(false);
-        }
-    }
-    Some(true)
-}
-
-/// Puts what is read of the message of this kind that a peer says to a text, or why none is. Tells whether one is.
-pub fn push_message<L: Link>(
-    alloc: Global,
-    text: &mut String,
-    kind: &str,
-    link: &mut L,
-) -> Option<bool> {
+/// What is read of the message of this kind that a peer says.
+pub fn read_message<L: Link>(alloc: Global, kind: &str, link: &mut L) -> Result<String, WireFault> {
     if kind == "request" {
-        push_request_of(alloc, text, link)
+        let request = read_request(alloc, link)?;
+        Ok(request_words(alloc, &request)?)
     } else {
-        push_response_of(alloc, text, link)
+        let response = read_response(alloc, link)?;
+        Ok(response_words(alloc, &response)?)
     }
 }
 
 /// What is read of the message that bytes begin with, which come so, and how many are left; or why none is.
-fn read_cut(alloc: Global, kind: &str, mut link: CutLink<'_>) -> Option<String> {
-    let mut words = String::new(alloc);
-    if push_message(alloc, &mut words, kind, &mut link)? {
-        write!(words, ", {} left", link.bytes.len()).ok()?;
+fn read_cut(alloc: Global, kind: &str, mut link: CutLink<'_>) -> Result<String, Stop> {
+    match read_message(alloc, kind, &mut link) {
+        Ok(words) => {
+            let words = words.as_str();
+            let left = link.bytes.len();
+            Ok(format!(in alloc; "{words}, {left} left")?)
+        }
+        Err(fault) => Ok(format!(in alloc; "{fault:?}")?),
     }
-    Some(words)
 }
 
-/// Puts the first way to cut bytes to a text by which something else than this is read, or that there is none.
-fn push_differing(
+/// The first way to cut bytes by which something else than this is read, or that there is none.
+fn first_that_differs(
     alloc: Global,
-    text: &mut String,
     kind: &str,
     bytes: &[u8],
     whole: &str,
-) -> Option<()> {
+) -> Result<String, Stop> {
     for first in 0..bytes.len() {
         let others = if first == 0 { 1 } else { usize::MAX };
-        let link = CutLink {
-            bytes,
-            first,
-            others,
-        };
-        let words = read_cut(alloc, kind, link)?;
+        let words = read_cut(
+            alloc,
+            kind,
+            CutLink {
+                bytes,
+                first,
+                others,
+            },
+        )?;
         if words.as_str() != whole {
-            return write!(text, "cut after {first}: {}", words.as_str()).ok();
+            let words = words.as_str();
+            return Ok(format!(in alloc; "cut after {first}: {words}")?);
         }
     }
     let count = bytes.len();
-    write!(
-        text,
+    Ok(format!(in alloc;
         "the same byte by byte and cut in two after each but the last of {count} bytes"
-    )
-    .ok()
+    )?)
 }
 
-/// Puts what is read of the message that bytes begin with to a text, and whether the same is read however it is cut.
-fn push_cuts(alloc: Global, text: &mut String, kind: &str, bytes: &[u8]) -> Option<()> {
+/// What is read of the message that a text begins with, and whether the same is read however it is cut.
+pub fn read_however_cut(alloc: Global, kind: &str, words: &str) -> Result<String, Stop> {
+    let text = text_of(alloc, words)?;
     let link = CutLink {
-        bytes,
+        bytes: text.as_bytes(),
         first: 0,
         others: usize::MAX,
     };
     let whole = read_cut(alloc, kind, link)?;
-    writeln!(text, "{}", whole.as_str()).ok()?;
-    push_differing(alloc, text, kind, bytes, whole.as_str())
-}
-
-/// Puts what is read of the message that words begin with to a text, and whether the same is read however it is cut.
-pub fn push_however_cut(alloc: Global, text: &mut String, kind: &str, words: &str) -> Option<()> {
-    let message = text_of(alloc, words)?;
-    push_cuts(alloc, text, kind, message.as_bytes())
+    let whole = whole.as_str();
+    let differs = first_that_differs(alloc, kind, text.as_bytes(), whole)?;
+    let differs = differs.as_str();
+    Ok(format!(in alloc; "{whole}\n{differs}")?)
 }

@@ -1,9 +1,9 @@
 //! A beacon node over a link in memory.
-use crate::answers::{push_answer, push_fault};
-use crate::links::{link, push_sent};
+use crate::answers::{answer_words, fault_words};
+use crate::links::{link, sent};
 use crate::permits::PERMIT;
 use crate::questions::ask_of;
-use crate::reading::{first_part, number_at, service_of, value_of};
+use crate::reading::{Stop, first_part, numbers_in, service_of, value_of};
 use crate::scenes::Scene;
 use beacon_node::BeaconNode;
 use edge_kit::{MemLink, Sig};
@@ -13,100 +13,85 @@ use phase0_types::BoundedList;
 use std::alloc::Global;
 
 /// A node over a link whose peer says this, and whose calls of these numbers fail.
-pub fn node(alloc: Global, setting: &str, failing: &[u64]) -> Option<BeaconNode<MemLink>> {
+pub fn node(alloc: Global, setting: &str, failing: &[u64]) -> Result<BeaconNode<MemLink>, Stop> {
     let link = link(alloc, setting, failing)?;
     let service = service_of(alloc, "http://node:5052/base/")?;
-    Some(BeaconNode::telling(link, service))
+    Ok(BeaconNode::telling(link, service))
 }
 
 /// The bits of a vote by the member at this place of a committee of that many.
-pub fn bits_of(alloc: Global, words: &str) -> Option<BoundedList<bool, 2048>> {
-    let (place, length) = (number_at(words, 0)?, number_at(words, 1)?);
-    if place >= length || length > 2048 {
-        return None;
+pub fn bits_of(alloc: Global, words: &str) -> Result<BoundedList<bool, 2048>, Stop> {
+    match numbers_in(alloc, words)?.as_slice() {
+        [place, length] if *place < *length && *length <= 2048 => {
+            Ok(aggregation_bits(alloc, *place, *length)?)
+        }
+        _ => Err(Stop::Unread),
     }
-    aggregation_bits(alloc, place, length).ok()
 }
 
 /// A vote by the member at this place for this data.
-fn vote_of(alloc: Global, words: &str) -> Option<Post> {
+fn vote_of(alloc: Global, words: &str) -> Result<Post, Stop> {
     let (place, data) = first_part(words, " for ");
-    let details = value_of(alloc, data)?;
-    Some(Post::Vote(Attestation {
+    Ok(Post::Vote(Attestation {
         aggregation_bits: bits_of(alloc, place)?,
-        details,
+        details: value_of(alloc, data)?,
         signature: Sig([0x44; 96]),
     }))
 }
 
 /// The block that a node gives which says this.
-fn block_of(alloc: Global, setting: &str) -> Option<Post> {
+fn block_of(alloc: Global, setting: &str) -> Result<Post, Stop> {
     let ask = Ask::Block {
         slot: 100,
         randao_reveal: Sig([0x44; 96]),
     };
     match node(alloc, setting, &[])?.ask(&ask) {
-        Ok(Answer::Block(message)) => Some(Post::Block(Signed {
+        Ok(Answer::Block(message)) => Ok(Post::Block(Signed {
             message,
             signature: Sig([0x55; 96]),
         })),
-        _ => None,
+        _ => Err(Stop::Unread),
     }
 }
 
 /// Something signed: a vote, or a block that another node gives.
-pub fn post_of(alloc: Global, words: &str) -> Option<Post> {
-    match words.strip_prefix("block of a node that ") {
-        Some(setting) => block_of(alloc, setting),
-        None => vote_of(alloc, words),
+pub fn post_of(alloc: Global, words: &str) -> Result<Post, Stop> {
+    if let Some(setting) = words.strip_prefix("block of a node that ") {
+        block_of(alloc, setting)
+    } else {
+        vote_of(alloc, words)
     }
 }
 
-/// Puts what a node answers to a question to a text.
-fn ask(
-    alloc: Global,
-    text: &mut String,
-    node: &mut BeaconNode<MemLink>,
-    words: &str,
-) -> Option<()> {
+/// What a node answers to a question.
+fn ask(alloc: Global, node: &mut BeaconNode<MemLink>, words: &str) -> Result<String, Stop> {
     let ask = ask_of(alloc, words)?;
-    match &node.ask(&ask) {
-        Ok(answer) => push_answer(text, answer),
-        Err(fault) => push_fault(alloc, text, fault),
+    match node.ask(&ask) {
+        Ok(answer) => Ok(answer_words(alloc, &answer)?),
+        Err(fault) => fault_words(alloc, &fault),
     }
 }
 
-/// Puts to a text whether a node takes something signed.
-fn post(
-    alloc: Global,
-    text: &mut String,
-    node: &mut BeaconNode<MemLink>,
-    words: &str,
-) -> Option<()> {
+/// Whether a node takes something signed.
+fn post(alloc: Global, node: &mut BeaconNode<MemLink>, words: &str) -> Result<String, Stop> {
     let post = post_of(alloc, words)?;
-    match &node.post(&PERMIT, &post) {
-        Ok(()) => text.push_str("taken").ok(),
-        Err(fault) => push_fault(alloc, text, fault),
+    match node.post(&PERMIT, &post) {
+        Ok(()) => Ok(String::from_str(alloc, "taken")?),
+        Err(fault) => fault_words(alloc, &fault),
     }
 }
 
 impl Scene for BeaconNode<MemLink> {
-    fn call(
-        &mut self,
-        alloc: Global,
-        text: &mut String,
-        name: &str,
-        arguments: &str,
-    ) -> Option<()> {
+    fn call(&mut self, alloc: Global, name: &str, arguments: &str) -> Result<String, Stop> {
         match name {
-            "ask" => ask(alloc, text, self, arguments),
-            "post" => post(alloc, text, self, arguments),
-            "sent" => push_sent(alloc, text, self.twin(alloc).ok()?.into_link()),
-            _ => None,
+            "ask" => ask(alloc, self, arguments),
+            "post" => post(alloc, self, arguments),
+            "sent" => sent(alloc, self.twin(alloc)?.into_link()),
+            _ => Err(Stop::Unread),
         }
     }
 
-    fn another(&self, alloc: Global) -> Option<Self> {
-        self.twin(alloc).ok()
+    fn another(&self, alloc: Global) -> Result<Self, Stop> {
+        Ok(self.twin(alloc)?)
     }
 }

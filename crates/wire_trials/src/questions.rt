@@ -1,8 +1,8 @@
 //! Questions to beacon nodes, and their answers, as lines give them.
-use crate::reading::{byte_of, first_part, number_at, numbers_in};
+use crate::reading::{Stop, byte_of, first_part, numbers_in};
 use edge_kit::{Items, PubKey, Root, Sig};
 use node_calls::{Answer, Ask, AttesterRow, ProposerRow};
-use std::alloc::Global;
+use std::alloc::{AllocError, Global};
 
 /// The key whose bytes are a number.
 fn key_of(number: u64) -> PubKey {
@@ -15,144 +15,118 @@ fn root_of(number: u64) -> Root {
 }
 
 /// The keys whose bytes are numbers.
-pub fn keys_of(alloc: Global, numbers: &[u64]) -> Option<Vec<PubKey>> {
-    let mut keys = Vec::new(alloc);
-    for number in numbers {
-        keys.push(key_of(*number)).ok()?;
-    }
-    Some(keys)
+pub fn keys_of(alloc: Global, numbers: &[u64]) -> Result<Vec<PubKey>, AllocError> {
+    numbers.iter().map(|number| key_of(*number)).collect(alloc)
+}
+
+fn indices_of(alloc: Global, numbers: &[u64]) -> Result<Items<u64>, AllocError> {
+    Ok(Items::from_vec(Vec::from_slice(alloc, numbers)?))
 }
 
 /// A question.
-pub fn ask_of(alloc: Global, words: &str) -> Option<Ask> {
-    let (kind, rest) = first_part(words, " ");
-    match kind {
-        "genesis" => Some(Ask::Genesis),
-        "fork" => Some(Ask::Fork),
-        "syncing" => Some(Ask::Syncing),
-        "proposer" => Some(Ask::Proposer {
-            epoch: number_at(rest, 0)?,
+pub fn ask_of(alloc: Global, words: &str) -> Result<Ask, Stop> {
+    let (kind, _) = first_part(words, " ");
+    match (kind, numbers_in(alloc, words)?.as_slice()) {
+        ("genesis", []) => Ok(Ask::Genesis),
+        ("fork", []) => Ok(Ask::Fork),
+        ("syncing", []) => Ok(Ask::Syncing),
+        ("proposer", [epoch]) => Ok(Ask::Proposer { epoch: *epoch }),
+        ("data", [slot, committee_index]) => Ok(Ask::Data {
+            slot: *slot,
+            committee_index: *committee_index,
         }),
-        "data" => data_asked(rest),
-        "block" => block_asked(rest),
-        _ => ask_with_list(alloc, kind, rest),
+        ("block", [slot, reveal]) => Ok(Ask::Block {
+            slot: *slot,
+            randao_reveal: Sig([byte_of(*reveal); 96]),
+        }),
+        (_, numbers) => ask_with_list(alloc, kind, numbers),
     }
-}
-
-/// The question for the data of a vote.
-fn data_asked(words: &str) -> Option<Ask> {
-    Some(Ask::Data {
-        slot: number_at(words, 0)?,
-        committee_index: number_at(words, 1)?,
-    })
-}
-
-/// The question for a block.
-fn block_asked(words: &str) -> Option<Ask> {
-    let (slot, reveal) = (number_at(words, 0)?, number_at(words, 1)?);
-    Some(Ask::Block {
-        slot,
-        randao_reveal: Sig([byte_of(reveal); 96]),
-    })
 }
 
 /// A question with a list.
-fn ask_with_list(alloc: Global, kind: &str, words: &str) -> Option<Ask> {
-    let numbers = numbers_in(alloc, words)?;
-    match kind {
-        "validators" => Some(Ask::Validators {
-            keys: Items::from_vec(keys_of(alloc, numbers.as_slice())?),
+fn ask_with_list(alloc: Global, kind: &str, numbers: &[u64]) -> Result<Ask, Stop> {
+    match (kind, numbers) {
+        ("validators", keys) => Ok(Ask::Validators {
+            keys: Items::from_vec(keys_of(alloc, keys)?),
         }),
-        _ => ask_by_indices(alloc, kind, numbers.as_slice()),
-    }
-}
-
-/// A question with an epoch and the indices of validators.
-fn ask_by_indices(alloc: Global, kind: &str, numbers: &[u64]) -> Option<Ask> {
-    let [epoch, indices @ ..] = numbers else {
-        return None;
-    };
-    let epoch = *epoch;
-    let indices = Items::from_vec(Vec::from_slice(alloc, indices).ok()?);
-    match kind {
-        "attester" => Some(Ask::Attester { epoch, indices }),
-        "liveness" => Some(Ask::Liveness { epoch, indices }),
-        _ => None,
+        ("attester", [epoch, indices @ ..]) => Ok(Ask::Attester {
+            epoch: *epoch,
+            indices: indices_of(alloc, indices)?,
+        }),
+        ("liveness", [epoch, indices @ ..]) => Ok(Ask::Liveness {
+            epoch: *epoch,
+            indices: indices_of(alloc, indices)?,
+        }),
+        _ => Err(Stop::Unread),
     }
 }
 
 /// An attester.
-pub fn attester(alloc: Global, words: &str) -> Option<AttesterRow> {
-    let numbers = numbers_in(alloc, words)?;
-    let [key, validator, committee, length, committees, place, slot] = *numbers.as_slice() else {
-        return None;
-    };
-    Some(AttesterRow {
-        pubkey: key_of(key),
-        validator_index: validator,
-        committee_index: committee,
-        committee_length: length,
-        committees_at_slot: committees,
-        validator_committee_index: place,
-        slot,
-    })
+pub fn attester(alloc: Global, words: &str) -> Result<AttesterRow, Stop> {
+    match numbers_in(alloc, words)?.as_slice() {
+        [key, validator, committee, length, committees, place, slot] => Ok(AttesterRow {
+            pubkey: key_of(*key),
+            validator_index: *validator,
+            committee_index: *committee,
+            committee_length: *length,
+            committees_at_slot: *committees,
+            validator_committee_index: *place,
+            slot: *slot,
+        }),
+        _ => Err(Stop::Unread),
+    }
 }
 
 /// Attesters.
-fn attesters(alloc: Global, text: &str) -> Option<Items<AttesterRow>> {
+fn attesters(alloc: Global, text: &str) -> Result<Items<AttesterRow>, Stop> {
     let mut rows = Vec::new(alloc);
     for words in text.split(", ") {
-        rows.push(attester(alloc, words)?).ok()?;
+        rows.push(attester(alloc, words)?)?;
     }
-    Some(Items::from_vec(rows))
+    Ok(Items::from_vec(rows))
 }
 
 /// A proposer.
-fn proposer(words: &str) -> Option<ProposerRow> {
-    let key = number_at(words, 0)?;
-    Some(ProposerRow {
-        pubkey: key_of(key),
-        validator_index: number_at(words, 1)?,
-        slot: number_at(words, 2)?,
-    })
+fn proposer(alloc: Global, words: &str) -> Result<ProposerRow, Stop> {
+    match numbers_in(alloc, words)?.as_slice() {
+        [key, validator, slot] => Ok(ProposerRow {
+            pubkey: key_of(*key),
+            validator_index: *validator,
+            slot: *slot,
+        }),
+        _ => Err(Stop::Unread),
+    }
 }
 
 /// Proposers.
-fn proposers(alloc: Global, text: &str) -> Option<Items<ProposerRow>> {
+fn proposers(alloc: Global, text: &str) -> Result<Items<ProposerRow>, Stop> {
     let mut rows = Vec::new(alloc);
     for words in text.split(", ") {
-        rows.push(proposer(words)?).ok()?;
+        rows.push(proposer(alloc, words)?)?;
     }
-    Some(Items::from_vec(rows))
-}
-
-/// Duties on a root.
-fn duties_of(alloc: Global, kind: &str, root: Root, rows: &str) -> Option<Answer> {
-    match kind {
-        "attester" => Some(Answer::Attester {
-            dependent_root: root,
-            rows: attesters(alloc, rows)?,
-        }),
-        "proposer" => Some(Answer::Proposer {
-            dependent_root: root,
-            rows: proposers(alloc, rows)?,
-        }),
-        _ => None,
-    }
+    Ok(Items::from_vec(rows))
 }
 
 /// An answer: when the chain began, whether a node is syncing, or duties on a root, each row of them after a comma.
-pub fn answer_of(alloc: Global, text: &str) -> Option<Answer> {
+pub fn answer_of(alloc: Global, text: &str) -> Result<Answer, Stop> {
     let (head, rows) = first_part(text, ", ");
     let (kind, rest) = first_part(head, " ");
-    match kind {
-        "genesis" => Some(Answer::Genesis {
-            genesis_time: number_at(rest, 0)?,
+    match (kind, numbers_in(alloc, head)?.as_slice()) {
+        ("genesis", [genesis_time]) => Ok(Answer::Genesis {
+            genesis_time: *genesis_time,
             genesis_validators_root: Root([0; 32]),
         }),
-        "syncing" => Some(Answer::Syncing {
+        ("syncing", []) => Ok(Answer::Syncing {
             is_syncing: rest == "true",
         }),
-        _ => duties_of(alloc, kind, root_of(number_at(rest, 0)?), rows),
+        ("attester", [root]) => Ok(Answer::Attester {
+            dependent_root: root_of(*root),
+            rows: attesters(alloc, rows)?,
+        }),
+        ("proposer", [root]) => Ok(Answer::Proposer {
+            dependent_root: root_of(*root),
+            rows: proposers(alloc, rows)?,
+        }),
+        _ => Err(Stop::Unread),
     }
 }

@@ -2,36 +2,46 @@
 use json_members::json_of;
 use phase0_types::Shaped;
 use service_url::ServiceUrl;
-use std::alloc::Global;
-use trial_lines::push_lossy;
+use std::alloc::{AllocError, AllocFailed, Global};
+
+/// Why nothing comes of a line.
+#[derive(Clone, Copy, PartialEq, Eq, Debug)]
+pub enum Stop {
+    /// Its arguments cannot be read.
+    Unread,
+    /// Memory ran out.
+    OutOfMemory,
+}
+
+impl From<AllocError> for Stop {
+    fn from(_error: AllocError) -> Stop {
+        Stop::OutOfMemory
+    }
+}
+
+impl<T: Drop> From<AllocFailed<T>> for Stop {
+    fn from(_error: AllocFailed<T>) -> Stop {
+        Stop::OutOfMemory
+    }
+}
 
 /// The first part of a text, and what follows it after the first of these marks.
 pub fn first_part<'a>(text: &'a str, mark: &str) -> (&'a str, &'a str) {
-    text.split_once(mark).unwrap_or((text, ""))
+    match text.split_once(mark) {
+        Some(parts) => parts,
+        None => (text, ""),
+    }
 }
 
 /// The numbers among the words of a text.
-pub fn numbers_in(alloc: Global, text: &str) -> Option<Vec<u64>> {
+pub fn numbers_in(alloc: Global, text: &str) -> Result<Vec<u64>, Stop> {
     let mut numbers = Vec::new(alloc);
     for word in text.split(' ') {
         if let Ok(number) = word.parse::<u64>() {
-            numbers.push(number).ok()?;
+            numbers.push(number)?;
         }
     }
-    Some(numbers)
-}
-
-/// The number at this place, from 0 on, of those among the words of a text.
-pub fn number_at(text: &str, place: u64) -> Option<u64> {
-    let mut left = place;
-    for word in text.split(' ') {
-        match word.parse::<u64>() {
-            Ok(number) if left == 0 => return Some(number),
-            Ok(_) => left = left.saturating_sub(1),
-            Err(_) => {}
-        }
-    }
-    None
+    Ok(numbers)
 }
 
 /// The byte that a number is.
@@ -40,37 +50,40 @@ pub fn byte_of(number: u64) -> u8 {
 }
 
 /// The text in which `\r` and `\n` stand for the ends of lines.
-pub fn text_of(alloc: Global, words: &str) -> Option<String> {
-    let text = words.replace(alloc, "\\r", "\r").ok()?;
-    text.as_str().replace(alloc, "\\n", "\n").ok()
+pub fn text_of(alloc: Global, words: &str) -> Result<String, Stop> {
+    let text = words.replace(alloc, "\\r", "\r")?;
+    Ok(text.as_str().replace(alloc, "\\n", "\n")?)
 }
 
-/// Puts bytes as a text in which `\r` and `\n` stand for the ends of lines to another, each line of it in a line.
-pub fn push_shown(alloc: Global, text: &mut String, bytes: &[u8]) -> Option<()> {
-    for letter in String::from_utf8_lossy(alloc, bytes).ok()?.as_str().chars() {
-        match letter {
-            '\r' => text.push_str("\\r").ok()?,
-            '\n' => text.push_str("\\n\n").ok()?,
-            _ => text.push(letter).ok()?,
-        }
-    }
-    Some(())
+/// Bytes as a text in which `\r` and `\n` stand for the ends of lines, each line of it in a line.
+pub fn shown(alloc: Global, bytes: &[u8]) -> Result<String, Stop> {
+    let text = String::from_utf8_lossy(alloc, bytes)?;
+    let text = text.as_str().replace(alloc, "\r", "\\r")?;
+    Ok(text.as_str().replace(alloc, "\n", "\\n\n")?)
 }
 
-/// Puts a word and bytes as a text in brackets after it to another text.
-pub fn push_bytes(alloc: Global, text: &mut String, word: &str, bytes: &[u8]) -> Option<()> {
-    write!(text, "{word} [").ok()?;
-    push_lossy(alloc, text, bytes).ok()?;
-    text.push(']').ok()
+/// A word, and bytes as a text in brackets after it.
+pub fn with_bytes(alloc: Global, word: &str, bytes: &[u8]) -> Result<String, Stop> {
+    let text = String::from_utf8_lossy(alloc, bytes)?;
+    let text = text.as_str();
+    Ok(format!(in alloc; "{word} [{text}]")?)
 }
 
 /// The value that a JSON text writes.
-pub fn value_of<T: Shaped>(alloc: Global, text: &str) -> Option<T> {
-    let json = json_of(alloc, text.as_bytes()).ok()??;
-    T::read_value(alloc, &json).ok()?.ok()
+pub fn value_of<T: Shaped>(alloc: Global, text: &str) -> Result<T, Stop> {
+    let Some(json) = json_of(alloc, text.as_bytes())? else {
+        return Err(Stop::Unread);
+    };
+    match T::read_value(alloc, &json)? {
+        Ok(value) => Ok(value),
+        Err(_) => Err(Stop::Unread),
+    }
 }
 
 /// The address of a service.
-pub fn service_of(alloc: Global, text: &str) -> Option<ServiceUrl> {
-    ServiceUrl::read(alloc, text).ok()?
+pub fn service_of(alloc: Global, text: &str) -> Result<ServiceUrl, Stop> {
+    match ServiceUrl::read(alloc, text)? {
+        Some(service) => Ok(service),
+        None => Err(Stop::Unread),
+    }
 }

@@ -1,9 +1,9 @@
 //! The signing service over a link in memory.
-use crate::links::{link, push_sent};
+use crate::links::{link, sent};
 use crate::permits::{KEY, PERMIT};
-use crate::reading::{first_part, number_at, push_bytes, service_of, value_of};
+use crate::reading::{Stop, first_part, numbers_in, service_of, value_of, with_bytes};
 use crate::scenes::Scene;
-use edge_kit::{MemLink, Root, Sig, push_hex};
+use edge_kit::{MemLink, Root, hex_text};
 use phase0_blocks::VoluntaryExit;
 use phase0_types::Fork;
 use signer_link::{
@@ -21,136 +21,120 @@ const FORK: Fork = Fork {
 const GENESIS: Root = Root([3; 32]);
 
 /// A Web3Signer over a link whose peer says this, and whose calls of these numbers fail.
-pub fn signer(alloc: Global, setting: &str, failing: &[u64]) -> Option<Web3Signer<MemLink>> {
+pub fn signer(alloc: Global, setting: &str, failing: &[u64]) -> Result<Web3Signer<MemLink>, Stop> {
     let link = link(alloc, setting, failing)?;
     let service = service_of(alloc, "http://signer:9000/base/")?;
-    Some(Web3Signer::new(link, service))
+    Ok(Web3Signer::new(link, service))
 }
 
 /// The object of a message.
-fn object(alloc: Global, words: &str) -> Option<SignObject> {
+fn object(alloc: Global, words: &str) -> Result<SignObject, Stop> {
     match first_part(words, " ") {
-        ("header", json) => Some(SignObject::Header(value_of(alloc, json)?)),
-        ("block", json) => Some(SignObject::Block(value_of(alloc, json)?)),
-        _ => None,
+        ("header", json) => Ok(SignObject::Header(value_of(alloc, json)?)),
+        ("block", json) => Ok(SignObject::Block(value_of(alloc, json)?)),
+        _ => Err(Stop::Unread),
     }
 }
 
 /// Another object that is signed.
-fn plain_object(words: &str) -> Option<PlainObject> {
-    let (kind, rest) = first_part(words, " ");
-    let first = number_at(rest, 0)?;
-    match kind {
-        "reveal" => Some(PlainObject::RandaoReveal { epoch: first }),
-        "aggregation" => Some(PlainObject::AggregationSlot { slot: first }),
-        "exit" => Some(PlainObject::VoluntaryExit(VoluntaryExit {
-            epoch: first,
-            validator_index: number_at(rest, 1)?,
+fn plain_object(alloc: Global, words: &str) -> Result<PlainObject, Stop> {
+    let (kind, _) = first_part(words, " ");
+    match (kind, numbers_in(alloc, words)?.as_slice()) {
+        ("reveal", [epoch]) => Ok(PlainObject::RandaoReveal { epoch: *epoch }),
+        ("aggregation", [slot]) => Ok(PlainObject::AggregationSlot { slot: *slot }),
+        ("exit", [epoch, validator_index]) => Ok(PlainObject::VoluntaryExit(VoluntaryExit {
+            epoch: *epoch,
+            validator_index: *validator_index,
         })),
-        _ => None,
+        _ => Err(Stop::Unread),
     }
 }
 
-/// Puts a signature to a text.
-fn push_signature(alloc: Global, text: &mut String, signature: &Sig) -> Option<()> {
-    text.push_str("signed ").ok()?;
-    push_hex(alloc, text, &signature.0).ok()
-}
-
-fn push_signed(alloc: Global, text: &mut String, reply: &SignReply) -> Option<()> {
+fn sign_words(alloc: Global, reply: &SignReply) -> Result<String, Stop> {
     match reply {
-        SignReply::Signed(signature) => push_signature(alloc, text, signature),
-        SignReply::NoKey(status) => write!(text, "no key {status:?}").ok(),
-        SignReply::Denied(status) => write!(text, "denied {status}").ok(),
-        SignReply::Fault => text.push_str("fault").ok(),
-        SignReply::BadAnswer(body) => push_bytes(alloc, text, "bad", body.as_slice()),
-        SignReply::OutOfMemory => None,
+        SignReply::Signed(signature) => {
+            let digits = hex_text(alloc, &signature.0)?;
+            let digits = digits.as_str();
+            Ok(format!(in alloc; "signed {digits}")?)
+        }
+        SignReply::NoKey(status) => Ok(format!(in alloc; "no key {status:?}")?),
+        SignReply::Denied(status) => Ok(format!(in alloc; "denied {status}")?),
+        SignReply::Fault => Ok(String::from_str(alloc, "fault")?),
+        SignReply::BadAnswer(body) => with_bytes(alloc, "bad", body.as_slice()),
+        SignReply::OutOfMemory => Err(Stop::OutOfMemory),
     }
 }
 
-fn push_imported(alloc: Global, text: &mut String, reply: &ImportReply) -> Option<()> {
+fn import_words(alloc: Global, reply: &ImportReply) -> Result<String, Stop> {
     match reply {
-        ImportReply::Imported => text.push_str("imported").ok(),
-        ImportReply::Duplicate => text.push_str("duplicate").ok(),
-        ImportReply::Refused(why) => push_bytes(alloc, text, "refused", why.as_slice()),
-        ImportReply::Fault => text.push_str("fault").ok(),
-        ImportReply::BadAnswer(body) => push_bytes(alloc, text, "bad", body.as_slice()),
-        ImportReply::OutOfMemory => None,
+        ImportReply::Imported => Ok(String::from_str(alloc, "imported")?),
+        ImportReply::Duplicate => Ok(String::from_str(alloc, "duplicate")?),
+        ImportReply::Refused(text) => with_bytes(alloc, "refused", text.as_slice()),
+        ImportReply::Fault => Ok(String::from_str(alloc, "fault")?),
+        ImportReply::BadAnswer(body) => with_bytes(alloc, "bad", body.as_slice()),
+        ImportReply::OutOfMemory => Err(Stop::OutOfMemory),
     }
 }
 
-fn push_deleted(alloc: Global, text: &mut String, reply: &DeleteReply) -> Option<()> {
+fn delete_words(alloc: Global, reply: &DeleteReply) -> Result<String, Stop> {
     match reply {
-        DeleteReply::Deleted => text.push_str("deleted").ok(),
-        DeleteReply::NotActive => text.push_str("not active").ok(),
-        DeleteReply::NotFound => text.push_str("not found").ok(),
-        DeleteReply::Refused(why) => push_bytes(alloc, text, "refused", why.as_slice()),
-        DeleteReply::Fault => text.push_str("fault").ok(),
-        DeleteReply::BadAnswer(body) => push_bytes(alloc, text, "bad", body.as_slice()),
-        DeleteReply::OutOfMemory => None,
+        DeleteReply::Deleted => Ok(String::from_str(alloc, "deleted")?),
+        DeleteReply::NotActive => Ok(String::from_str(alloc, "not active")?),
+        DeleteReply::NotFound => Ok(String::from_str(alloc, "not found")?),
+        DeleteReply::Refused(text) => with_bytes(alloc, "refused", text.as_slice()),
+        DeleteReply::Fault => Ok(String::from_str(alloc, "fault")?),
+        DeleteReply::BadAnswer(body) => with_bytes(alloc, "bad", body.as_slice()),
+        DeleteReply::OutOfMemory => Err(Stop::OutOfMemory),
     }
 }
 
 /// Asks for the signature of the block that is allowed, which was made of this object.
-fn sign(
-    alloc: Global,
-    text: &mut String,
-    signer: &mut Web3Signer<MemLink>,
-    words: &str,
-) -> Option<()> {
+fn sign(alloc: Global, signer: &mut Web3Signer<MemLink>, words: &str) -> Result<String, Stop> {
+    let object = object(alloc, words)?;
     let request = SignRequest {
         fork: FORK,
         genesis: GENESIS,
-        object: Some(object(alloc, words)?),
+        object: Some(object),
     };
-    push_signed(alloc, text, &signer.sign(&request, &PERMIT))
+    let reply = signer.sign(&request, &PERMIT);
+    sign_words(alloc, &reply)
 }
 
 /// Asks for the signature of another object.
 fn sign_plain(
     alloc: Global,
-    text: &mut String,
     signer: &mut Web3Signer<MemLink>,
     words: &str,
-) -> Option<()> {
+) -> Result<String, Stop> {
     let request = PlainRequest {
         fork: FORK,
         genesis: GENESIS,
-        object: plain_object(words)?,
+        object: plain_object(alloc, words)?,
     };
-    push_signed(alloc, text, &signer.sign_plain(&request, &PERMIT))
+    let reply = signer.sign_plain(&request, &PERMIT);
+    sign_words(alloc, &reply)
 }
 
 /// Has the key taken in, from this keystore and this password.
-fn import(
-    alloc: Global,
-    text: &mut String,
-    signer: &mut Web3Signer<MemLink>,
-    words: &str,
-) -> Option<()> {
+fn import(alloc: Global, signer: &mut Web3Signer<MemLink>, words: &str) -> Result<String, Stop> {
     let (keystore, password) = first_part(words, " ");
-    push_imported(alloc, text, &signer.import(&KEY, keystore, password))
+    let reply = signer.import(&KEY, keystore, password);
+    import_words(alloc, &reply)
 }
 
 impl Scene for Web3Signer<MemLink> {
-    fn call(
-        &mut self,
-        alloc: Global,
-        text: &mut String,
-        name: &str,
-        arguments: &str,
-    ) -> Option<()> {
+    fn call(&mut self, alloc: Global, name: &str, arguments: &str) -> Result<String, Stop> {
         match name {
-            "sign" => sign(alloc, text, self, arguments),
-            "sign-plain" => sign_plain(alloc, text, self, arguments),
-            "import" => import(alloc, text, self, arguments),
-            "delete" => push_deleted(alloc, text, &self.delete(&KEY)),
-            "sent" => push_sent(alloc, text, self.twin(alloc).ok()?.into_link()),
-            _ => None,
+            "sign" => sign(alloc, self, arguments),
+            "sign-plain" => sign_plain(alloc, self, arguments),
+            "import" => import(alloc, self, arguments),
+            "delete" => delete_words(alloc, &self.delete(&KEY)),
+            "sent" => sent(alloc, self.twin(alloc)?.into_link()),
+            _ => Err(Stop::Unread),
         }
     }
 
-    fn another(&self, alloc: Global) -> Option<Self> {
-        self.twin(alloc).ok()
+    fn another(&self, alloc: Global) -> Result<Self, Stop> {
+        Ok(self.twin(alloc)?)
     }
 }

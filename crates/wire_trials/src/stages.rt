@@ -1,15 +1,15 @@
 //! Several nodes in memory, and the schedule that takes their answers.
-use crate::answers::push_answer;
+use crate::answers::answer_words;
 use crate::nodes::post_of;
 use crate::permits::PERMIT;
 use crate::questions::{answer_of, ask_of, keys_of};
-use crate::reading::{first_part, numbers_in};
+use crate::reading::{Stop, first_part, numbers_in};
 use crate::scenes::Scene;
 use duty_schedule::{DutyRows, Schedule, Taken};
 use edge_kit::Items;
 use node_calls::{Answer, Ask, MemNode, NodeCall};
 use node_fallback::{NoAnswer, Nodes};
-use std::alloc::Global;
+use std::alloc::{AllocError, Global};
 
 /// Nodes in their order, and a schedule.
 #[derive(Drop)]
@@ -19,68 +19,68 @@ pub struct Stage {
 }
 
 /// A node with these answers, whose calls of these numbers fail, each after a semicolon.
-fn mem_node(alloc: Global, setting: &str) -> Option<MemNode> {
+fn mem_node(alloc: Global, setting: &str) -> Result<MemNode, Stop> {
     let mut answers = Vec::new(alloc);
     let mut failing = Vec::new(alloc);
     for part in setting.split("; ") {
         if part.starts_with("fails") {
             failing = numbers_in(alloc, part)?;
         } else if part != "silent" {
-            answers.push(answer_of(alloc, part)?).ok()?;
+            answers.push(answer_of(alloc, part)?)?;
         }
     }
-    Some(MemNode::new(alloc, answers, failing))
+    Ok(MemNode::new(alloc, answers, failing))
 }
 
 /// Nodes, each after a slash.
-fn nodes_of(alloc: Global, setting: &str) -> Option<Nodes<MemNode>> {
+pub fn stage_of(alloc: Global, setting: &str) -> Result<Stage, Stop> {
     let mut nodes = Vec::new(alloc);
     for node in setting.split(" / ") {
-        nodes.push(mem_node(alloc, node)?).ok()?;
+        nodes.push(mem_node(alloc, node)?)?;
     }
-    Some(Nodes::new(alloc, nodes))
-}
-
-/// Nodes, each after a slash, and a schedule that holds no answer.
-pub fn stage_of(alloc: Global, setting: &str) -> Option<Stage> {
-    Some(Stage {
-        nodes: nodes_of(alloc, setting)?,
+    Ok(Stage {
+        nodes: Nodes::new(alloc, nodes),
         schedule: Schedule::new(alloc),
     })
 }
 
-/// Puts to a text why no node gave anything.
-fn push_why_none(text: &mut String, why: &NoAnswer) -> Option<()> {
+/// Why no node gave anything.
+fn why_none(alloc: Global, why: &NoAnswer) -> Result<String, Stop> {
     let NoAnswer::NoNode(causes) = why else {
-        return None;
+        return Err(Stop::OutOfMemory);
     };
-    text.push_str("none:").ok()?;
+    let mut text = String::from_str(alloc, "none:")?;
     for cause in causes.as_slice() {
-        write!(text, " {cause}").ok()?;
+        write!(text, " {cause}")?;
     }
-    Some(())
+    Ok(text)
 }
 
-/// Puts what the nodes answer to a question to a text.
-fn ask(alloc: Global, text: &mut String, stage: &mut Stage, words: &str) -> Option<()> {
+/// What the nodes answer to a question.
+fn ask(alloc: Global, stage: &mut Stage, words: &str) -> Result<String, Stop> {
     let ask = ask_of(alloc, words)?;
-    match &stage.nodes.ask(&ask) {
-        Ok(answer) => push_answer(text, answer),
-        Err(why) => push_why_none(text, why),
+    match stage.nodes.ask(&ask) {
+        Ok(answer) => Ok(answer_words(alloc, &answer)?),
+        Err(why) => why_none(alloc, &why),
     }
 }
 
-/// Puts to a text whether a node takes something signed.
-fn post(alloc: Global, text: &mut String, stage: &mut Stage, words: &str) -> Option<()> {
+/// Whether a node takes something signed.
+fn post(alloc: Global, stage: &mut Stage, words: &str) -> Result<String, Stop> {
     let post = post_of(alloc, words)?;
-    match &stage.nodes.post(&PERMIT, &post) {
-        Ok(()) => text.push_str("taken").ok(),
-        Err(why) => push_why_none(text, why),
+    match stage.nodes.post(&PERMIT, &post) {
+        Ok(()) => Ok(String::from_str(alloc, "taken")?),
+        Err(why) => why_none(alloc, &why),
     }
 }
 
 /// What becomes of the answer to a question about duties.
-fn taken(alloc: Global, schedule: &mut Schedule, ask: Ask, answer: Answer) -> Option<Taken> {
+fn take_in(
+    alloc: Global,
+    schedule: &mut Schedule,
+    ask: Ask,
+    answer: Answer,
+) -> Result<Taken, Stop> {
     match (ask, answer) {
         (
             Ask::Attester { epoch, indices },
@@ -88,7 +88,7 @@ fn taken(alloc: Global, schedule: &mut Schedule, ask: Ask, answer: Answer) -> Op
                 dependent_root,
                 rows,
             },
-        ) => Some(schedule.take_answer(epoch, indices, dependent_root, DutyRows::Attester(rows))),
+        ) => Ok(schedule.take_answer(epoch, indices, dependent_root, DutyRows::Attester(rows))),
         (
             Ask::Proposer { epoch },
             Answer::Proposer {
@@ -98,50 +98,43 @@ fn taken(alloc: Global, schedule: &mut Schedule, ask: Ask, answer: Answer) -> Op
         ) => {
             let indices = Items::new(alloc);
             let rows = DutyRows::Proposer(rows);
-            Some(schedule.take_answer(epoch, indices, dependent_root, rows))
+            Ok(schedule.take_answer(epoch, indices, dependent_root, rows))
         }
-        _ => None,
+        _ => Err(Stop::Unread),
     }
 }
 
-/// Puts what becomes of the answer to a question about duties to a text.
-fn push_taken(
-    alloc: Global,
-    text: &mut String,
-    schedule: &mut Schedule,
-    ask: Ask,
-    answer: Answer,
-) -> Option<()> {
-    let taken = taken(alloc, schedule, ask, answer)?;
-    write!(text, "{taken:?}").ok()
-}
-
-/// Puts what becomes of what the nodes answer to a question about duties to a text.
-fn take(alloc: Global, text: &mut String, stage: &mut Stage, words: &str) -> Option<()> {
+/// What becomes of what the nodes answer to a question about duties.
+fn take(alloc: Global, stage: &mut Stage, words: &str) -> Result<String, Stop> {
     let ask = ask_of(alloc, words)?;
     match stage.nodes.ask(&ask) {
-        Ok(answer) => push_taken(alloc, text, &mut stage.schedule, ask, answer),
-        Err(why) => push_why_none(text, &why),
+        Ok(answer) => {
+            let taken = take_in(alloc, &mut stage.schedule, ask, answer)?;
+            Ok(format!(in alloc; "{taken:?}")?)
+        }
+        Err(why) => why_none(alloc, &why),
     }
 }
 
-/// Puts what becomes of an answer to a text, which is given after its question.
-fn hold(alloc: Global, text: &mut String, stage: &mut Stage, words: &str) -> Option<()> {
+/// What becomes of an answer, which is given after its question.
+fn hold(alloc: Global, stage: &mut Stage, words: &str) -> Result<String, Stop> {
     let (ask, answer) = first_part(words, ": ");
     let ask = ask_of(alloc, ask)?;
     let answer = answer_of(alloc, answer)?;
-    push_taken(alloc, text, &mut stage.schedule, ask, answer)
+    let taken = take_in(alloc, &mut stage.schedule, ask, answer)?;
+    Ok(format!(in alloc; "{taken:?}")?)
 }
 
-/// Puts what is due at a slot for these keys to a text.
-fn due(alloc: Global, text: &mut String, stage: &Stage, words: &str) -> Option<()> {
-    let numbers = numbers_in(alloc, words)?;
-    let [slot, keys @ ..] = numbers.as_slice() else {
-        return None;
-    };
-    let keys = keys_of(alloc, keys)?;
-    let duties = stage.schedule.due(*slot, keys.as_slice()).ok()?;
-    write!(text, "{duties:?}").ok()
+/// What is due at a slot for these keys.
+fn due(alloc: Global, stage: &Stage, words: &str) -> Result<String, Stop> {
+    match numbers_in(alloc, words)?.as_slice() {
+        [slot, keys @ ..] => {
+            let keys = keys_of(alloc, keys)?;
+            let duties = stage.schedule.due(*slot, keys.as_slice())?;
+            Ok(format!(in alloc; "{duties:?}")?)
+        }
+        [] => Err(Stop::Unread),
+    }
 }
 
 /// What a node was asked or given.
@@ -154,48 +147,43 @@ fn call_name(call: &NodeCall) -> &'static str {
     }
 }
 
-/// Puts what a node was asked or given to a text, after a bar.
-fn push_calls(text: &mut String, node: &MemNode) -> Option<()> {
-    text.push('|').ok()?;
+/// Adds what a node was asked or given, after a bar.
+fn push_calls(node: &MemNode, text: &mut String) -> Result<(), AllocError> {
+    text.push('|')?;
     for call in node.told() {
-        text.push_str(call_name(call)).ok()?;
+        text.push_str(call_name(call))?;
     }
-    Some(())
+    Ok(())
 }
 
-/// Puts what each node was asked or given to a text.
-fn calls(alloc: Global, text: &mut String, stage: &Stage) -> Option<()> {
-    let nodes = stage.nodes.twin(alloc).ok()?.into_nodes();
+/// What each node was asked or given.
+fn calls(alloc: Global, stage: &Stage) -> Result<String, Stop> {
+    let nodes = stage.nodes.twin(alloc)?.into_nodes();
+    let mut text = String::new(alloc);
     for node in nodes.as_slice() {
-        push_calls(text, node)?;
+        push_calls(node, &mut text)?;
     }
-    Some(())
+    Ok(text)
 }
 
 impl Scene for Stage {
-    fn call(
-        &mut self,
-        alloc: Global,
-        text: &mut String,
-        name: &str,
-        arguments: &str,
-    ) -> Option<()> {
+    fn call(&mut self, alloc: Global, name: &str, arguments: &str) -> Result<String, Stop> {
         match name {
-            "ask" => ask(alloc, text, self, arguments),
-            "refresh" => write!(text, "{:?}", self.nodes.refresh()).ok(),
-            "post" => post(alloc, text, self, arguments),
-            "take" => take(alloc, text, self, arguments),
-            "hold" => hold(alloc, text, self, arguments),
-            "due" => due(alloc, text, self, arguments),
-            "calls" => calls(alloc, text, self),
-            _ => None,
+            "ask" => ask(alloc, self, arguments),
+            "refresh" => Ok(format!(in alloc; "{:?}", self.nodes.refresh())?),
+            "post" => post(alloc, self, arguments),
+            "take" => take(alloc, self, arguments),
+            "hold" => hold(alloc, self, arguments),
+            "due" => due(alloc, self, arguments),
+            "calls" => calls(alloc, self),
+            _ => Err(Stop::Unread),
         }
     }
 
     /// The nodes' twins, with a schedule that holds no answer.
-    fn another(&self, alloc: Global) -> Option<Self> {
-        Some(Stage {
-            nodes: self.nodes.twin(alloc).ok()?,
+    fn another(&self, alloc: Global) -> Result<Self, Stop> {
+        Ok(Stage {
+            nodes: self.nodes.twin(alloc)?,
             schedule: Schedule::new(alloc),
         })
     }
