@@ -43,15 +43,25 @@ impl Heard {
         hold(&mut self.answered, piece);
     }
 
+    // The front of the request, without what stands before its first line.
+    fn request(&self) -> &[u8] {
+        self.asked.trim_ascii_start()
+    }
+
     // The method and the target of the request.
     pub(crate) fn call(&self) -> Visible<'_> {
-        let line = before(self.asked.as_slice(), b"\r\n");
+        let line = before(self.request(), b"\r\n");
         Visible(before(line, b" HTTP/"))
     }
 
     // Whether a request was begun.
     pub(crate) fn is_begun(&self) -> bool {
         !self.asked.is_empty()
+    }
+
+    // Whether something was answered.
+    pub(crate) fn is_answered(&self) -> bool {
+        !self.answered.is_empty()
     }
 
     // The three digits of the answer's status, if there are any.
@@ -70,9 +80,15 @@ impl Heard {
         matches!(self.status(), Some(status) if !status.starts_with(b"2"))
     }
 
+    // Whether keystores were sent. What answers that may have a part of them, and is not reported.
+    pub(crate) fn is_import(&self) -> bool {
+        let line = before(self.request(), b"\r\n");
+        line.starts_with(b"POST ") && !after(line, b"/keystores").is_empty()
+    }
+
     // Whether what was asked changes something.
     pub(crate) fn changes(&self) -> bool {
-        self.asked.starts_with(b"POST ") || self.asked.starts_with(b"DELETE ")
+        self.request().starts_with(b"POST ") || self.request().starts_with(b"DELETE ")
     }
 }
 

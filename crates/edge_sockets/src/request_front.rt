@@ -6,6 +6,9 @@ const HEAD_LIMIT: usize = 65_536;
 /// How many bytes the body of a request has at most (`http_wire`).
 const BODY_LIMIT: u64 = 16_777_216;
 
+/// How many bytes of a request are read before it is served at most: a body in chunks has more than its size.
+const ARRIVED_LIMIT: usize = 33_554_432;
+
 /// What the head of a request says of its sender and of its body.
 #[derive(Clone, Copy)]
 struct Front {
@@ -26,6 +29,9 @@ pub(crate) fn is_ready(arrived: &[u8], token: &str) -> bool {
     let Some(end) = end_of_head(arrived) else {
         return arrived.len() >= HEAD_LIMIT;
     };
+    if arrived.len() >= ARRIVED_LIMIT {
+        return true;
+    }
     let Some((head, body)) = arrived.split_at_checked(end) else {
         return true;
     };
@@ -47,15 +53,19 @@ fn has_last_chunk(body: &[u8]) -> bool {
     body.ends_with(b"\r\n0\r\n\r\n")
 }
 
-// The place after the empty line that ends a head.
+// The place after the empty line that ends a head. Empty lines before its first line are none of it.
 fn end_of_head(arrived: &[u8]) -> Option<usize> {
-    let mut line = 0;
+    let mut is_begun = false;
+    let mut is_empty = true;
     'bytes: for (at, byte) in arrived.iter().enumerate() {
         match *byte {
-            b'\n' if line == 0 && at > 1 => return at.checked_add(1),
-            b'\n' => line = 0,
+            b'\n' if is_begun && is_empty => return at.checked_add(1),
+            b'\n' => is_empty = true,
             b'\r' => {}
-            _ => line = 1,
+            _ => {
+                is_begun = true;
+                is_empty = false;
+            }
         }
     }
     None

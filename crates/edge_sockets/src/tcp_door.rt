@@ -37,8 +37,8 @@ const LONGEST_LOOK: u64 = 50;
 /// For how many milliseconds a connection that is ended is heard out after its peer fell silent.
 const SILENT_MILLISECONDS: u64 = 500;
 
-/// For how many seconds a connection that is ended is heard out at most.
-const HEARD_OUT_SECONDS: u64 = 5;
+/// For how many seconds a connection that is ended after a reply is heard out at most.
+const HEARD_OUT_SECONDS: u64 = 2;
 
 /// The system's number for a process that may open no more files.
 const NO_MORE_FILES: i32 = 24;
@@ -193,6 +193,7 @@ impl<'a, N: Net + Eprint + Clock + Drop> TcpDoor<'a, N> {
         ensures { self.new.faults ≡ self.old.faults }
     {
         let listener = self.take()?;
+        self.room.resume(&self.handle);
         let next = self.next_of(&listener);
         self.listener = Some(listener);
         next
@@ -280,10 +281,12 @@ impl<N: Net + Eprint + Clock + Copy + Drop> TcpDoor<'_, N> {
         ensures { result.faults ≡ 0 }
     {
         let (stream, span, arrived) = waiting.into_parts();
+        let stream = timed(self.alloc, stream, span).ok();
+        let taken = if stream.is_some() { 0 } else { arrived.len() };
         TcpConn {
-            stream: timed(self.alloc, stream, span).ok(),
+            stream,
             arrived,
-            taken: 0,
+            taken,
             clock: self.handle,
             heard: Heard::new(self.alloc),
             outcomes: KeyOutcomes::new(self.alloc),
@@ -374,24 +377,16 @@ impl<S: Read + Write + OpenStream + Drop, C: Eprint + Clock + Drop> TcpConn<S, C
         ensures bound { ReadsAtMost result buf.new }
         ensures faults { self.new.faults ≡ self.old.faults }
     {
+        if let Some(stream) = &mut self.stream {
+            stream.await_reply();
+        }
         let mut rest = self.arrived.get(self.taken..).unwrap_or(&[]);
         if rest.is_empty() {
-            return self.read_on(buf);
+            return recv_over(&mut self.stream, &self.clock, buf);
         }
         let count = rest.read(buf)?;
         self.taken = self.taken.saturating_add(count);
         Ok(count)
-    }
-
-    // Reads some bytes of the connection.
-    fn read_on(&mut self, buf: &mut [u8]) -> io::Result<usize>
-        ensures bound { ReadsAtMost result buf.new }
-        ensures faults { self.new.faults ≡ self.old.faults }
-    {
-        if let Some(stream) = &mut self.stream {
-            stream.await_reply();
-        }
-        recv_over(&mut self.stream, &self.clock, buf)
     }
 
     // Reports a request that changes something, or that was refused.
@@ -464,7 +459,9 @@ impl<S: Read + Write + OpenStream + Drop, C: Eprint + Clock + Copy + Drop> Link 
     }
 
     fn hang_up(&mut self) -> Result<(), Failed> {
-        if let Some(stream) = &mut self.stream {
+        if self.heard.is_answered()
+            && let Some(stream) = &mut self.stream
+        {
             let silent = Duration::from_millis(SILENT_MILLISECONDS);
             let longest = Duration::from_secs(HEARD_OUT_SECONDS);
             let _ = stream.hear_out(&self.clock, silent, longest);

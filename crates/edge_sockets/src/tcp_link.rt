@@ -178,8 +178,14 @@ impl<N: Net + Eprint + Clock + Drop> TcpLink<N> {
 
     // Reports an answer whose status is not one of success.
     fn note_refusal(&self) {
-        if self.heard.is_refusal() {
-            let address = self.address();
+        if !self.heard.is_refusal() {
+            return;
+        }
+        let address = self.address();
+        if self.heard.is_import() {
+            let call = self.heard.call();
+            let _ = eprintln!(&self.handle; "{address}: {call}: refused");
+        } else {
             let call = Call(&self.heard);
             let _ = eprintln!(&self.handle; "{address}: {call}");
         }

@@ -73,13 +73,21 @@ impl<S: Read + Write + OpenStream + Drop> Room<S> {
         let _ = self.waiting.push(waiting);
     }
 
+    /// Begins the time of each connection anew, since none was looked at while another was served.
+    pub(crate) fn resume<C: Clock>(&mut self, clock: &C) {
+        'waiting: for waiting in self.waiting.iter_mut() {
+            waiting.resume(clock);
+        }
+    }
+
     /// Reads what has come in. The first connection whose request is to be served now waits no longer.
     pub(crate) fn look<C: Clock>(&mut self, clock: &C, token: &str) -> Look<S> {
         let mut ready = None;
         let mut has_come = false;
         'waiting: for (place, waiting) in self.waiting.iter_mut().enumerate() {
-            has_come |= waiting.read(clock);
-            if ready.is_none() && waiting.is_ready(clock, token) {
+            let came = waiting.read(clock);
+            has_come |= came;
+            if ready.is_none() && (waiting.is_whole(token) || !came && waiting.is_late(clock)) {
                 ready = Some(place);
             }
         }
@@ -152,17 +160,26 @@ impl<S: Read + Write + OpenStream + Drop> Waiting<S> {
         }
     }
 
-    // Whether its request is to be served now: it is there, or nothing further comes in. Where it comes in too slowly, whoever
-    // serves it finds its time over.
-    fn is_ready<C: Clock>(&mut self, clock: &C, token: &str) -> bool {
-        if self.is_over || is_ready(self.arrived.as_slice(), token) {
-            return true;
-        }
+    // Whether its request is to be served now: it is there, or nothing further comes in.
+    fn is_whole(&self, token: &str) -> bool {
+        self.is_over || is_ready(self.arrived.as_slice(), token)
+    }
+
+    // Whether its request comes in too slowly. Whoever serves it finds its time over.
+    fn is_late<C: Clock>(&mut self, clock: &C) -> bool {
         let is_late = self.span.left(clock).is_err() || self.silence.left(clock).is_err();
         if is_late {
             self.span = self.span.with_limit(Duration::ZERO);
         }
         is_late
+    }
+
+    // Its time begins now.
+    fn resume<C: Clock>(&mut self, clock: &C) {
+        if let (Ok(span), Ok(silence)) = (self.span.again(clock), self.silence.again(clock)) {
+            self.span = span;
+            self.silence = silence;
+        }
     }
 }
 
