@@ -4,7 +4,7 @@ use crate::lanes::MemLane;
 use crate::words::{number_in, numbers_in};
 use duty_plans::DutySetup;
 use duty_schedule::Duty;
-use duty_workers::{DutyResult, run_slot};
+use duty_workers::{Ended, Task, run_slot};
 use edge_kit::Root;
 use sign_roots::Domains;
 use std::alloc::{AllocError, Global};
@@ -24,7 +24,7 @@ fn vote(
     lane: &mut MemLane,
     slot: u64,
     keys: [u64; 3],
-) -> Result<Vec<DutyResult>, AllocError> {
+) -> Result<Vec<Ended>, AllocError> {
     run_slot(
         alloc,
         SETUP,
@@ -32,9 +32,9 @@ fn vote(
         slot,
         1,
         &[
-            Duty::Vote(attester(keys[0], slot)),
-            Duty::Vote(attester(keys[1], slot)),
-            Duty::Vote(attester(keys[2], slot)),
+            Task::Fresh(Duty::Vote(attester(keys[0], slot))),
+            Task::Fresh(Duty::Vote(attester(keys[1], slot))),
+            Task::Fresh(Duty::Vote(attester(keys[2], slot))),
         ],
         &mut lane.desk,
         &mut lane.signer,
@@ -48,7 +48,7 @@ fn propose(
     lane: &mut MemLane,
     slot: u64,
     keys: [u64; 3],
-) -> Result<Vec<DutyResult>, AllocError> {
+) -> Result<Vec<Ended>, AllocError> {
     run_slot(
         alloc,
         SETUP,
@@ -56,9 +56,9 @@ fn propose(
         slot,
         1,
         &[
-            Duty::Block(proposer(keys[0], slot)),
-            Duty::Block(proposer(keys[1], slot)),
-            Duty::Block(proposer(keys[2], slot)),
+            Task::Fresh(Duty::Block(proposer(keys[0], slot))),
+            Task::Fresh(Duty::Block(proposer(keys[1], slot))),
+            Task::Fresh(Duty::Block(proposer(keys[2], slot))),
         ],
         &mut lane.desk,
         &mut lane.signer,
@@ -66,9 +66,9 @@ fn propose(
     )
 }
 
-fn write_results(text: &mut String, results: &[DutyResult]) -> Option<()> {
-    for result in results {
-        writeln!(text, "{result}").ok()?;
+fn write_results(text: &mut String, ends: &[Ended]) -> Option<()> {
+    for end in ends {
+        writeln!(text, "{}", end.result).ok()?;
     }
     Some(())
 }
@@ -87,10 +87,10 @@ pub fn do_duties(
         return None;
     };
     let keys = [first, second, third];
-    let results = if are_blocks {
+    let ends = if are_blocks {
         propose(alloc, lane, slot, keys).ok()?
     } else {
         vote(alloc, lane, slot, keys).ok()?
     };
-    write_results(text, results.as_slice())
+    write_results(text, ends.as_slice())
 }

@@ -4,6 +4,7 @@
 #![tactic(auto)]
 
 mod answers;
+mod clocks;
 mod custody;
 mod desks;
 mod disks;

@@ -1,12 +1,14 @@
 //! The subject `turns`: turns of the duty loop. The first part of a line has the words `start=N`, when the clock starts;
 //! `turns=N`, how many are taken; `watches=1` where keys are watched; `late=MOMENT,SECONDS`, the wait that is over
-//! late; `keep=N` of how many epochs all is kept, all of it where that is absent; and `joins=KEY`, the keys that become
-//! active after the first of two turns. The second part describes the loop's own desk and node, and each further part a
-//! lane. The chain began at second 1000. Where not all is kept, what is kept at the loop's own desk is written.
+//! late; `again=MOMENT,REACHED`, the moment that is reached where one is waited for once more; `keep=N` of how many
+//! epochs all is kept, all of it where that is absent; and `joins=KEY`, the keys that become active after the first of
+//! two turns. The second part describes the loop's own desk and node, and each further part a lane. The chain began at
+//! second 1000. Where not all is kept, what is kept at the loop's own desk is written.
 ghost use Rattle.std.specs.Prelude.{OnOk};
 ghost use Rattle.duty_work.specs.Houses.{IsHolding};
 
 use crate::answers::FORK;
+use crate::clocks::{Later, TrialClock};
 use crate::lanes::{MemLane, activate_all, lane_of};
 use crate::telling::{write_kept, write_lane};
 use crate::words::{keys_in, number_in, numbers_in, root};
@@ -23,18 +25,23 @@ use trial_lines::push_lossy;
 #[derive(Drop)]
 struct Course {
     setup: DutySetup,
-    clock: MemClock,
+    clock: TrialClock,
     joining: Vec<PubKey>,
 }
 
-fn clock_of(alloc: Global, part: &str) -> Option<MemClock> {
+fn clock_of(alloc: Global, part: &str) -> Option<TrialClock> {
     let start = number_in(part, "start")?;
     let late = numbers_in(alloc, part, "late")?;
     let mut delays = Vec::new(alloc);
     if let [moment, seconds] = *late.as_slice() {
         delays.push(Delay { moment, seconds }).ok()?;
     }
-    Some(MemClock::new(start, delays))
+    let again = numbers_in(alloc, part, "again")?;
+    let later = match *again.as_slice() {
+        [moment, reached] => Some(Later { moment, reached }),
+        _ => None,
+    };
+    Some(TrialClock::new(MemClock::new(start, delays), later))
 }
 
 fn course_of(alloc: Global, part: &str) -> Option<Course> {

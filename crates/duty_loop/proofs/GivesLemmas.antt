@@ -13,7 +13,8 @@ use Rattle.duty_schedule.specs.declared.rows.Duty.{Duty}
 use Rattle.call_plans.specs.Plans.{Done, Stop, Ask as Step, bind, Follows}
 use Rattle.call_plans.proofs.PlanLemmas.{follows_split}
 use Rattle.duty_plans.specs.Steps.{Asks, Calls}
-use Rattle.duty_plans.specs.declared.result.DutyResult.{DutyResult}
+use Rattle.duty_plans.specs.declared.ended.Ended.{Ended}
+use Rattle.duty_plans.specs.declared.task.Task.{Task}
 use Rattle.duty_plans.specs.declared.work.SlotWork.{SlotWork}
 use Rattle.duty_turns.specs.TurnSteps.{TurnCall, TurnPlan, TurnReply, TurnStep, Fits, Waits, Refreshes, RefreshesLanes, Own, LooksUp, Works, Woke, Refreshed, LanesRefreshed, Due, Worked}
 use Rattle.duty_turns.specs.Turns.{asks, calls, found, lanes_refreshed, looks_up, own_answer, own_reply, refreshed, refreshes, refreshes_lanes, waits, woken, worked, works}
@@ -83,8 +84,8 @@ found_always : {X : Type 0} (W : Said X) (next : List Duty → TurnPlan X) → (
 found_always W next h (Due ds) = h ds
 found_always W next h r = stop_always W
 
-worked_always : {X : Type 0} (W : Said X) (next : List DutyResult → TurnPlan X) → ((results : List DutyResult) → Always W (next results)) → (r : TurnReply) → Always W (worked r next)
-worked_always W next h (Worked lanes (Some results)) = h results
+worked_always : {X : Type 0} (W : Said X) (next : List Ended → TurnPlan X) → ((ends : List Ended) → Always W (next ends)) → (r : TurnReply) → Always W (worked r next)
+worked_always W next h (Worked lanes (Some ends)) = h ends
 worked_always W next h r = stop_always W
 
 pub waits_always : {X : Type 0} (W : Said X) (moment : ℕ) (next : ℕ → TurnPlan X) → ((reached : ℕ) → Always W (next reached)) → Always W (waits moment next)
@@ -106,6 +107,6 @@ pub looks_up_always : {X : Type 0} (W : Said X) (answers : List TakenAnswer) (sl
     → ((ds : List Duty) → Always W (next ds)) → Always W (looks_up answers slot active next)
 looks_up_always W answers slot active next h = ask_always W (LooksUp answers slot active) (λ r. found r next) (found_always W next h)
 
-pub works_always : {X : Type 0} (W : Said X) (work : SlotWork) (place : ℕ) (ds : List Duty) (next : List DutyResult → TurnPlan X)
-    → ((results : List DutyResult) → Always W (next results)) → Always W (works work place ds next)
-works_always W work place ds next h = ask_always W (Works work place ds) (λ r. worked r next) (worked_always W next h)
+pub works_always : {X : Type 0} (W : Said X) (work : SlotWork) (place : ℕ) (tasks : List Task) (next : List Ended → TurnPlan X)
+    → ((ends : List Ended) → Always W (next ends)) → Always W (works work place tasks next)
+works_always W work place tasks next h = ask_always W (Works work place tasks) (λ r. worked r next) (worked_always W next h)

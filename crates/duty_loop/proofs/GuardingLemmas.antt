@@ -8,13 +8,13 @@ use Rattle.node_calls.specs.declared.answer.Answer.{Answer}
 use Rattle.node_calls.specs.declared.answer.NodeFault.{NodeFault}
 use Rattle.call_plans.specs.Plans.{Done, Stop, Ask as Step, Follows}
 use Rattle.call_plans.specs.Paths.{Path}
-use Rattle.duty_schedule.specs.declared.rows.Duty.{Duty}
 use Rattle.duty_plans.specs.Hands.{Hand, Free, hand_after}
 use Rattle.duty_plans.specs.Plans.{slot_plan}
 use Rattle.duty_plans.specs.Seats.{Seat}
 use Rattle.duty_plans.specs.Seats as seats
 use Rattle.duty_plans.specs.Steps.{DutyStep, desk_calls, step_calls}
-use Rattle.duty_plans.specs.declared.result.DutyResult.{DutyResult}
+use Rattle.duty_plans.specs.declared.ended.Ended.{Ended}
+use Rattle.duty_plans.specs.declared.task.Task.{Task}
 use Rattle.duty_plans.specs.declared.work.SlotWork.{SlotWork}
 use Rattle.duty_plans.proofs.GuardLemmas.{AllFit, MayAll, follows_fit, hand_over, posted_granted, posts_guarded, signs_guarded}
 use Rattle.duty_plans.proofs.SeatLemmas.{did_all}
@@ -52,11 +52,11 @@ own_fit : (s : TurnStep) → Fits s.0 s.1 → AllFit (own_steps s)
 own_fit (Own c, Owned r) f = (f, tt)
 own_fit s f = tt
 
-share_fit : (work : SlotWork) (place : ℕ) (ds : List Duty) (results : Option (List DutyResult)) (lanes lane : ℕ) (steps : List DutyStep) → DidShare work place ds results lanes lane steps → AllFit steps
+share_fit : (work : SlotWork) (place : ℕ) (ds : List Task) (results : Option (List Ended)) (lanes lane : ℕ) (steps : List DutyStep) → DidShare work place ds results lanes lane steps → AllFit steps
 share_fit work place ds (Some results) lanes lane steps f = follows_fit (slot_plan work (dealt lanes lane place ds)) steps (Some (dealt lanes lane place results)) f
 share_fit work place ds None lanes lane steps f = follows_fit (slot_plan work (dealt lanes lane place ds)) steps f.0 f.1
 
-shares_fit : (work : SlotWork) (place : ℕ) (ds : List Duty) (results : Option (List DutyResult)) (lanes first lane : ℕ) (steps : List (List DutyStep)) → DidShares work place ds results lanes first steps → AllFit (steps_at lane steps)
+shares_fit : (work : SlotWork) (place : ℕ) (ds : List Task) (results : Option (List Ended)) (lanes first lane : ℕ) (steps : List (List DutyStep)) → DidShares work place ds results lanes first steps → AllFit (steps_at lane steps)
 shares_fit work place ds results lanes first lane [] f = tt
 shares_fit work place ds results lanes first zero (own ∷ others) f = share_fit work place ds results lanes first own f.0
 shares_fit work place ds results lanes first (suc lane) (own ∷ others) f = shares_fit work place ds results lanes (first + 1) lane others f.1

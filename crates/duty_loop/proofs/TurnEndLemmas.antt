@@ -9,7 +9,11 @@ use Rattle.desk_machine.specs.declared.call.DeskReply.TheVariants as reply
 use Rattle.duty_schedule.specs.declared.rows.Duty.{Duty}
 use Rattle.call_plans.specs.Plans.{Follows}
 use Rattle.duty_plans.specs.Steps.{Calls, Replies}
+use Rattle.duty_plans.specs.declared.ended.Ended.{Ended}
 use Rattle.duty_plans.specs.declared.result.DutyResult.{DutyResult}
+use Rattle.duty_plans.specs.declared.task.Task.{Task}
+use Rattle.duty_plans.specs.Ends.{merged, results_of}
+use Rattle.duty_plans.specs.Tasks.{again_tasks, fresh}
 use Rattle.duty_plans.specs.declared.setup.DutySetup.{DutySetup}
 use Rattle.duty_turns.specs.declared.held.DutyEnd.{DutyEnd}
 use Rattle.duty_turns.specs.declared.held.DutyEnd.TheVariants as end
@@ -18,7 +22,7 @@ use Rattle.duty_turns.specs.Standing.{Standing}
 use Rattle.duty_pruning.specs.Pruning.{pruning_file}
 use Rattle.duty_turns.specs.Times.{epoch_of, is_first_slot, is_missed, next_slot, slot_start, votes_start}
 use Rattle.duty_turns.specs.TurnSteps.{TurnPlan, TurnReply, TurnStep, Fits, Own, Owned, Writes, Wrote}
-use Rattle.duty_turns.specs.Turns.{Next, NextPlan, active_of, asked_plan, at_moment, at_slot, blocks_in, calls, close_plan, closed_plan, due_plan, exported, exports, failed_plan, keys_of_turn, merges, listed_plan, next_turn, own_reply, prunes, ready_plan, refreshes, refreshes_lanes, is_worth_compacting, shortens, sized, turn_plan, turns_plan, unless_short, votes_in, votes_plan, waits, with_active, woken_plan, work_of, works}
+use Rattle.duty_turns.specs.Turns.{Next, NextPlan, active_of, after_works, again_plan, asked_plan, at_moment, at_slot, blocks_in, calls, close_plan, closed_plan, due_plan, exported, exports, failed_plan, keys_of_turn, left_plan, merges, listed_plan, next_turn, own_reply, prunes, ready_plan, refreshes, refreshes_lanes, is_worth_compacting, shortens, sized, tried_plan, turn_plan, turns_plan, unless_short, votes_in, votes_plan, waits, with_active, woken_plan, work_of, works}
 use Rattle.duty_loop.proofs.GivesLemmas.{Always, Gives, Said, calls_always, gives_ask, gives_bind, gives_done, if_always, looks_up_always, refreshes_always, refreshes_lanes_always, stop_always, waits_always, works_always}
 use Rattle.duty_loop.proofs.PartLemmas.{EndInCut, WhyNone, asked_part}
 
@@ -93,21 +97,33 @@ shortens_turn s p h = if_always (Why Standing) (is_first_slot s.slot) (calls cal
 
 -- ---- a turn
 
-votes_turn : (setup : DutySetup) (s : Standing) (ds : List Duty) (proposed : List DutyResult) (reached : ℕ) → IsTurn (votes_plan setup s ds proposed reached)
+tried_turn : (setup : DutySetup) (s : Standing) (ds : List Duty) (ends : List Ended) (tasks : List Task) (reached : ℕ) → IsTurn (tried_plan setup s ds ends tasks reached)
+tried_turn setup s ds ends tasks reached =
+    let next = after_works setup.genesis_time reached s in
+    let after : List Ended → NextPlan = λ again. close_plan setup s.slot ds (merged ends again) (at_slot (next_slot s.slot) s) in
+    if_always (Why Standing) (is_missed setup.genesis_time s.slot (votes_start setup.genesis_time s.slot) reached) (close_plan setup s.slot ds (results_of ends) next) (works (work_of setup s) 0 tasks after)
+    (close_turn setup s.slot ds (results_of ends) next)
+    (works_always (Why Standing) (work_of setup s) 0 tasks after (λ again. close_turn setup s.slot ds (merged ends again) (at_slot (next_slot s.slot) s)))
+
+left_turn : (setup : DutySetup) (s : Standing) (ds : List Duty) (ends : List Ended) (tasks : List Task) → IsTurn (left_plan setup s ds ends tasks)
+left_turn setup s ds ends [] = close_turn setup s.slot ds (results_of ends) (at_slot (next_slot s.slot) s)
+left_turn setup s ds ends (t ∷ tasks) = waits_always (Why Standing) (votes_start setup.genesis_time s.slot) (tried_plan setup s ds ends (t ∷ tasks)) (tried_turn setup s ds ends (t ∷ tasks))
+
+votes_turn : (setup : DutySetup) (s : Standing) (ds : List Duty) (proposed : List Ended) (reached : ℕ) → IsTurn (votes_plan setup s ds proposed reached)
 votes_turn setup s ds proposed reached =
     let next = at_moment setup.genesis_time (votes_start setup.genesis_time s.slot) reached s in
     let place = length (blocks_in ds) in
     let all : List Duty = blocks_in ds ++ votes_in ds in
-    let behind : List DutyResult → NextPlan = λ cast. close_plan setup s.slot all (proposed ++ cast) (at_slot (next_slot s.slot) s) in
-    if_always (Why Standing) (is_missed setup.genesis_time s.slot (votes_start setup.genesis_time s.slot) reached) (close_plan setup s.slot (blocks_in ds) proposed next) (works (work_of setup s) place (votes_in ds) behind)
-    (close_turn setup s.slot (blocks_in ds) proposed next)
-    (works_always (Why Standing) (work_of setup s) place (votes_in ds) behind (λ cast. close_turn setup s.slot all (proposed ++ cast) (at_slot (next_slot s.slot) s)))
+    let after : List Ended → NextPlan = λ cast. again_plan setup s all (proposed ++ cast) in
+    if_always (Why Standing) (is_missed setup.genesis_time s.slot (votes_start setup.genesis_time s.slot) reached) (close_plan setup s.slot (blocks_in ds) (results_of proposed) next) (works (work_of setup s) place (fresh (votes_in ds)) after)
+    (close_turn setup s.slot (blocks_in ds) (results_of proposed) next)
+    (works_always (Why Standing) (work_of setup s) place (fresh (votes_in ds)) after (λ cast. left_turn setup s all (proposed ++ cast) (again_tasks all (proposed ++ cast))))
 
 due_turn : (setup : DutySetup) (s : Standing) (ds : List Duty) → IsTurn (due_plan setup s ds)
 due_turn setup s ds =
     let moment = votes_start setup.genesis_time s.slot in
-    let behind : List DutyResult → NextPlan = λ proposed. waits moment (votes_plan setup s ds proposed) in
-    works_always (Why Standing) (work_of setup s) 0 (blocks_in ds) behind (λ proposed. waits_always (Why Standing) moment (votes_plan setup s ds proposed) (votes_turn setup s ds proposed))
+    let after : List Ended → NextPlan = λ proposed. waits moment (votes_plan setup s ds proposed) in
+    works_always (Why Standing) (work_of setup s) 0 (fresh (blocks_in ds)) after (λ proposed. waits_always (Why Standing) moment (votes_plan setup s ds proposed) (votes_turn setup s ds proposed))
 
 ready_turn : (setup : DutySetup) (active : List PubKey) (mid : List TurnStep) (o : Option Standing) → WhyNone mid o → Gives (Why Standing) mid (ready_plan setup active o)
 ready_turn setup active mid None w = gives_done (Why Standing) mid (Err end.Write) w

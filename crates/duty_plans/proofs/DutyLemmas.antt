@@ -32,15 +32,23 @@ use Rattle.duty_schedule.specs.declared.rows.Duty.TheVariants as duty
 use Rattle.call_plans.specs.Plans.{Done, Stop, Ask as Step, Follows}
 use Rattle.duty_plans.specs.declared.got.Got.{Got}
 use Rattle.duty_plans.specs.declared.got.Got.TheVariants as got
+use Rattle.duty_plans.specs.declared.ended.Ended.{Ended}
+use Rattle.duty_plans.specs.declared.ended.Unsent.{Unsent}
+use Rattle.duty_plans.specs.declared.ended.Unsent.TheVariants as granted
 use Rattle.duty_plans.specs.declared.result.DutyResult.{DutyResult}
 use Rattle.duty_plans.specs.declared.result.DutyResult.TheVariants as ended
+use Rattle.duty_plans.specs.declared.task.Task.{Task}
+use Rattle.duty_plans.specs.declared.task.Task.TheVariants as task
 use Rattle.duty_plans.specs.declared.work.SlotWork.{SlotWork}
+use Rattle.duty_plans.specs.Ends.{left_by, over}
 use Rattle.duty_plans.specs.Messages.{block_message, block_post, block_request, reveal_request, vote_message, vote_post, vote_request}
 use Rattle.duty_plans.specs.Reading.{block_of, grant_of, judged, matching, nothing_of, posted_of, signature_of, vote_of}
 use Rattle.duty_plans.specs.Steps.{DutyCall, DutyReply, DutyStep, DutyPlan, Calls, Signs, Reveals, Asks, Posts, Replies, Signed, Answered, Taken, Fits}
-use Rattle.duty_plans.specs.Plans.{answer_reply, desk_reply, post_reply, sign_reply, allowed_plan, block_plan, duty_plan, granted_plan, made_plan, post_plan, publish_plan, revealed_plan, sent, settles, under, vote_plan, voted_plan, with_got}
+use Rattle.duty_plans.specs.Plans.{answer_reply, desk_reply, post_reply, sign_reply, allowed_plan, block_plan, granted_plan, made_plan, post_plan, publish_plan, revealed_plan, sent, settles, task_plan, under, vote_plan, voted_plan, with_got}
 use Rattle.duty_plans.specs.Results.{failed_answer, failed_in, failure_of, first_failure, first_of, result_by}
 use Rattle.duty_plans.specs.Owning.{AllOwn, IsGrantOf, IsOwn, IsOwnBlock, IsOwnVote, SignsOwn, PostsOwn, RevealsOwn}
+use Rattle.duty_plans.specs.Repeats.{AllPropose, Proposes}
+use Rattle.duty_plans.specs.Tasks.{IsOwnTask, duty_of, owner_of, unsent_message}
 
 -- ---- what was got
 
@@ -52,14 +60,14 @@ no_nothing : {P T : Type 0} (why : NoAnswer) (x : T) → nothing_of why ≡ got.
 no_nothing (none.NoNode causes) x e = absurd cc
 no_nothing none.OutOfMemory x e = absurd cc
 
-vote_got : (row : AttesterRow) (a : Result Answer NoAnswer) (details : AttestationData) → vote_of row a ≡ got.Given details → first_that_differs (data_members row details) ≡ None
+pub vote_got : (row : AttesterRow) (a : Result Answer NoAnswer) (details : AttestationData) → vote_of row a ≡ got.Given details → first_that_differs (data_members row details) ≡ None
 vote_got row (Ok (answer.Data given)) details e =
     let m = matched (first_that_differs (data_members row given)) given details e in
     subst (λ (x : AttestationData). first_that_differs (data_members row x) ≡ None) m.1 m.0
 vote_got row (Ok a) details e = absurd cc
 vote_got row (Err why) details e = no_nothing why details e
 
-block_got : (row : ProposerRow) (a : Result Answer NoAnswer) (block : BeaconBlock) → block_of row a ≡ got.Given block → first_that_differs (block_members row.slot block) ≡ None
+pub block_got : (row : ProposerRow) (a : Result Answer NoAnswer) (block : BeaconBlock) → block_of row a ≡ got.Given block → first_that_differs (block_members row.slot block) ≡ None
 block_got row (Ok (answer.Block given)) block e =
     let m = matched (first_that_differs (block_members row.slot given)) given block e in
     subst (λ (x : BeaconBlock). first_that_differs (block_members row.slot x) ≡ None) m.1 m.0
@@ -76,7 +84,7 @@ no_judged (verdict.DoubleVote kept) grant e = absurd cc
 no_judged (verdict.Surrounds kept) grant e = absurd cc
 no_judged (verdict.Surrounded kept) grant e = absurd cc
 
-grant_got : (r : DeskReply) (grant : OpenGrant) → grant_of r ≡ got.Given grant → r ≡ reply.Granted grant
+pub grant_got : (r : DeskReply) (grant : OpenGrant) → grant_of r ≡ got.Given grant → r ≡ reply.Granted grant
 grant_got (reply.Granted g) grant e = (let same : g ≡ grant = cc in ap (λ x. reply.Granted x) same)
 grant_got (reply.Refused v) grant e = no_judged v grant e
 grant_got r grant e = absurd cc
@@ -104,72 +112,103 @@ own_follows work d (Done x) (s ∷ steps) v o f = absurd f
 own_follows work d Stop (s ∷ steps) v o f = absurd f
 own_follows work d (Step c k) (s ∷ steps) v o f = (subst (λ (x : DutyCall). IsOwn work d x) (sym f.0) o.0, own_follows work d (k s.1) steps v (o.1 s.1 f.1) f.2)
 
-only_got : {T : Type 0} (P : DutyCall → Type 0) (g : Got T) (k : T → DutyPlan DutyResult) → ((x : T) → g ≡ got.Given x → Only P (k x)) → Only P (with_got g k)
-only_got P (got.Given x) k h = h x refl
-only_got P (got.Failed r) k h = tt
-only_got P got.Nothing k h = tt
+propose_follows : {X : Type 0} (key : PubKey) (m : Message) (plan : DutyPlan X) (steps : List DutyStep) (v : Option X) → Only (Proposes key m) plan → Follows Fits plan steps v → AllPropose key m steps
+propose_follows key m plan [] v o f = tt
+propose_follows key m (Done x) (s ∷ steps) v o f = absurd f
+propose_follows key m Stop (s ∷ steps) v o f = absurd f
+propose_follows key m (Step c k) (s ∷ steps) v o f = (subst (λ (x : DutyCall). Proposes key m x) (sym f.0) o.0, propose_follows key m (k s.1) steps v (o.1 s.1 f.1) f.2)
 
-only_settles : (P : DutyCall → Type 0) (grant : OpenGrant) (o : Outcome) (next : DutyPlan DutyResult) → ((c : DeskCall) → P (Calls c)) → Only P next → Only P (settles grant o next)
-only_settles P grant o next calls h = (calls (call.Settle grant o), λ r f. h)
+only_got : {T : Type 0} (P : DutyCall → Type 0) (ends : DutyResult → Ended) (g : Got T) (k : T → DutyPlan Ended) → ((x : T) → g ≡ got.Given x → Only P (k x)) → Only P (with_got ends g k)
+only_got P ends (got.Given x) k h = h x refl
+only_got P ends (got.Failed by) k h = tt
+only_got P ends got.Nothing k h = tt
 
-only_under : {T : Type 0} (P : DutyCall → Type 0) (grant : OpenGrant) (g : Got T) (k : T → DutyPlan DutyResult) → ((c : DeskCall) → P (Calls c)) → ((x : T) → Only P (k x)) → Only P (under grant g k)
-only_under P grant (got.Given x) k calls h = h x
-only_under P grant (got.Failed r) k calls h = only_settles P grant outcome.Dropped (Done r) calls tt
-only_under P grant got.Nothing k calls h = only_settles P grant outcome.Dropped Stop calls tt
+-- a grant may be settled
+abbrev MaySettle : (DutyCall → Type 0) → Type 0
+MaySettle P = (grant : OpenGrant) (o : Outcome) → P (Calls (call.Settle grant o))
 
-only_post : (P : DutyCall → Type 0) (grant : OpenGrant) (p : Post) → ((c : DeskCall) → P (Calls c)) → P (Posts grant p) → Only P (post_plan grant p)
-only_post P grant p calls posts = (posts, λ r f. only_settles P grant outcome.Sent (with_got (posted_of (post_reply r)) sent) calls (only_got P (posted_of (post_reply r)) sent (λ x e. tt)))
+only_settles : (P : DutyCall → Type 0) (grant : OpenGrant) (o : Outcome) (next : DutyPlan Ended) → MaySettle P → Only P next → Only P (settles grant o next)
+only_settles P grant o next may h = (may grant o, λ r f. h)
 
-only_publish : (P : DutyCall → Type 0) (key : PubKey) (m : Message) (now : ℕ) (q : SignRequest) (made : Sig → Post) → ((c : DeskCall) → P (Calls c))
-    → ((grant : OpenGrant) → IsGrantOf grant key m → P (Signs grant q) × ((s : Sig) → P (Posts grant (made s)))) → Only P (publish_plan key m now q made)
-only_publish P key m now q made calls h = (
-  calls (call.Propose key m now),
-  λ r f. only_got P (grant_of (desk_reply r)) (λ grant. granted_plan q made grant) (λ grant e.
+only_under : {T : Type 0} (P : DutyCall → Type 0) (ends : DutyResult → Ended) (grant : OpenGrant) (g : Got T) (k : T → DutyPlan Ended) → MaySettle P → ((x : T) → Only P (k x)) → Only P (under ends grant g k)
+only_under P ends grant (got.Given x) k may h = h x
+only_under P ends grant (got.Failed by) k may h = only_settles P grant outcome.Dropped (Done (ends by)) may tt
+only_under P ends grant got.Nothing k may h = only_settles P grant outcome.Dropped Stop may tt
+
+only_post : (P : DutyCall → Type 0) (unsent : Unsent) (grant : OpenGrant) (p : Post) → MaySettle P → P (Posts grant p) → Only P (post_plan unsent grant p)
+only_post P unsent grant p may posts = (posts, λ r f. only_settles P grant outcome.Sent (with_got (left_by unsent) (posted_of (post_reply r)) (sent unsent)) may (only_got P (left_by unsent) (posted_of (post_reply r)) (sent unsent) (λ x e. tt)))
+
+only_publish : (P : DutyCall → Type 0) (key : PubKey) (m : Message) (now : ℕ) (unsent : Unsent) (q : SignRequest) (made : Sig → Post) → P (Calls (call.Propose key m now)) → MaySettle P
+    → ((grant : OpenGrant) → IsGrantOf grant key m → P (Signs grant q) × ((s : Sig) → P (Posts grant (made s)))) → Only P (publish_plan key m now unsent q made)
+only_publish P key m now unsent q made proposes may h = (
+  proposes,
+  λ r f. only_got P over (grant_of (desk_reply r)) (λ grant. granted_plan unsent q made grant) (λ grant e.
       let of = proposed_got key m grant (got_for (call.Propose key m now) r grant f e) in
-      ((h grant of).0, λ s f2. only_under P grant (signature_of (sign_reply s)) (λ signature. post_plan grant (made signature)) calls (λ signature. only_post P grant (made signature) calls ((h grant of).1 signature)))),
+      ((h grant of).0, λ s f2. only_under P (left_by unsent) grant (signature_of (sign_reply s)) (λ signature. post_plan unsent grant (made signature)) may (λ signature. only_post P unsent grant (made signature) may ((h grant of).1 signature)))),
 )
 
 voted_own : (work : SlotWork) (row : AttesterRow) (details : AttestationData) (grant : OpenGrant) → first_that_differs (data_members row details) ≡ None
     → IsGrantOf grant row.pubkey (vote_message work.domains details) → IsOwnVote work row grant details
 voted_own work row details grant same of = record { same = same; leave = of }
 
+only_voted : (work : SlotWork) (row : AttesterRow) (details : AttestationData) → first_that_differs (data_members row details) ≡ None → Only (IsOwn work (duty.Vote row)) (voted_plan work row details)
+only_voted work row details same =
+    only_publish (IsOwn work (duty.Vote row)) row.pubkey (vote_message work.domains details) work.moment (granted.Vote details) (vote_request work details) (vote_post row details) tt (λ grant o. tt)
+    (λ grant of. ((details, refl, voted_own work row details grant same of), λ s. (voted_own work row details grant same of, refl)))
+
 only_vote : (work : SlotWork) (row : AttesterRow) → Only (IsOwn work (duty.Vote row)) (vote_plan work row)
-only_vote work row =
-    let P : DutyCall → Type 0 = IsOwn work (duty.Vote row) in (
-      tt,
-      λ r f. only_got P (vote_of row (answer_reply r)) (λ details. voted_plan work row details) (λ details e.
-          let same = vote_got row (answer_reply r) details e in
-          only_publish P row.pubkey (vote_message work.domains details) work.moment (vote_request work details) (vote_post row details) (λ c. tt)
-          (λ grant of. ((details, refl, voted_own work row details grant same of), λ s. (voted_own work row details grant same of, refl)))),
-    )
+only_vote work row = (
+  tt,
+  λ r f. only_got (IsOwn work (duty.Vote row)) over (vote_of row (answer_reply r)) (λ details. voted_plan work row details) (λ details e. only_voted work row details (vote_got row (answer_reply r) details e)),
+)
 
 made_own : (work : SlotWork) (row : ProposerRow) (block : BeaconBlock) (grant : OpenGrant) → first_that_differs (block_members row.slot block) ≡ None
     → IsGrantOf grant row.pubkey (block_message work.domains block) → IsOwnBlock work row grant block
 made_own work row block grant same of = record { same = same; leave = of }
 
+only_made : (work : SlotWork) (row : ProposerRow) (block : BeaconBlock) → first_that_differs (block_members row.slot block) ≡ None → Only (IsOwn work (duty.Block row)) (made_plan work row block)
+only_made work row block same =
+    only_publish (IsOwn work (duty.Block row)) row.pubkey (block_message work.domains block) work.moment (granted.Block block) (block_request work block) (block_post block) tt (λ grant o. tt)
+    (λ given of. ((block, refl, made_own work row block given same of), λ s. made_own work row block given same of))
+
 only_revealed : (work : SlotWork) (row : ProposerRow) (grant : OpenGrant) (reveal : Sig) → Only (IsOwn work (duty.Block row)) (revealed_plan work row grant reveal)
 only_revealed work row grant reveal =
     let P : DutyCall → Type 0 = IsOwn work (duty.Block row) in (
       tt,
-      λ r f. only_settles P grant outcome.Sent (with_got (block_of row (answer_reply r)) (λ block. made_plan work row block)) (λ c. tt)
-          (only_got P (block_of row (answer_reply r)) (λ block. made_plan work row block) (λ block e.
-          let same = block_got row (answer_reply r) block e in
-          only_publish P row.pubkey (block_message work.domains block) work.moment (block_request work block) (block_post block) (λ c. tt)
-          (λ given of. ((block, refl, made_own work row block given same of), λ s. made_own work row block given same of)))),
+      λ r f. only_settles P grant outcome.Sent (with_got over (block_of row (answer_reply r)) (λ block. made_plan work row block)) (λ given o. tt)
+          (only_got P over (block_of row (answer_reply r)) (λ block. made_plan work row block) (λ block e. only_made work row block (block_got row (answer_reply r) block e))),
     )
 
 only_block : (work : SlotWork) (row : ProposerRow) → Only (IsOwn work (duty.Block row)) (block_plan work row)
 only_block work row =
     let P : DutyCall → Type 0 = IsOwn work (duty.Block row) in (
       tt,
-      λ r f. only_got P (grant_of (desk_reply r)) (λ grant. allowed_plan work row grant) (λ grant e.
+      λ r f. only_got P over (grant_of (desk_reply r)) (λ grant. allowed_plan work row grant) (λ grant e.
           let of = got_for (call.Allow row.pubkey work.moment) r grant f e in
-          ((refl, of.0, of.1), λ s f2. only_under P grant (signature_of (sign_reply s)) (λ reveal. revealed_plan work row grant reveal) (λ c. tt) (λ reveal. only_revealed work row grant reveal))),
+          ((refl, of.0, of.1), λ s f2. only_under P over grant (signature_of (sign_reply s)) (λ reveal. revealed_plan work row grant reveal) (λ given o. tt) (λ reveal. only_revealed work row grant reveal))),
     )
 
-pub duty_own : (work : SlotWork) (d : Duty) (steps : List DutyStep) (v : Option DutyResult) → Follows Fits (duty_plan work d) steps v → AllOwn work d steps
-duty_own work (duty.Vote row) steps v f = own_follows work (duty.Vote row) (vote_plan work row) steps v (only_vote work row) f
-duty_own work (duty.Block row) steps v f = own_follows work (duty.Block row) (block_plan work row) steps v (only_block work row) f
+pub task_own : (work : SlotWork) (t : Task) (steps : List DutyStep) (v : Option Ended) → IsOwnTask t → Follows Fits (task_plan work t) steps v → AllOwn work (duty_of t) steps
+task_own work (task.Fresh (duty.Vote row)) steps v own f = own_follows work (duty.Vote row) (vote_plan work row) steps v (only_vote work row) f
+task_own work (task.Fresh (duty.Block row)) steps v own f = own_follows work (duty.Block row) (block_plan work row) steps v (only_block work row) f
+task_own work (task.Again (duty.Vote row) (granted.Vote details)) steps v own f = own_follows work (duty.Vote row) (voted_plan work row details) steps v (only_voted work row details own) f
+task_own work (task.Again (duty.Block row) (granted.Block block)) steps v own f = own_follows work (duty.Block row) (made_plan work row block) steps v (only_made work row block own) f
+task_own work (task.Again (duty.Vote row) (granted.Block block)) steps v own f = absurd own
+task_own work (task.Again (duty.Block row) (granted.Vote details)) steps v own f = absurd own
+
+-- ---- what is proposed once more
+
+only_proposes : (key : PubKey) (m : Message) (now : ℕ) (unsent : Unsent) (q : SignRequest) (made : Sig → Post) → Only (Proposes key m) (publish_plan key m now unsent q made)
+only_proposes key m now unsent q made = only_publish (Proposes key m) key m now unsent q made (refl, refl) (λ grant o. tt) (λ grant of. (tt, λ s. tt))
+
+pub again_proposes : (work : SlotWork) (d : Duty) (unsent : Unsent) (steps : List DutyStep) (v : Option Ended) → Follows Fits (task_plan work (task.Again d unsent)) steps v
+    → AllPropose (owner_of d) (unsent_message work.domains unsent) steps
+again_proposes work (duty.Vote row) (granted.Vote details) steps v f = propose_follows row.pubkey (vote_message work.domains details) (voted_plan work row details) steps v
+    (only_proposes row.pubkey (vote_message work.domains details) work.moment (granted.Vote details) (vote_request work details) (vote_post row details)) f
+again_proposes work (duty.Block row) (granted.Block block) steps v f = propose_follows row.pubkey (block_message work.domains block) (made_plan work row block) steps v
+    (only_proposes row.pubkey (block_message work.domains block) work.moment (granted.Block block) (block_request work block) (block_post block)) f
+again_proposes work (duty.Vote row) (granted.Block block) steps v f = propose_follows row.pubkey (block_message work.domains block) Stop steps v tt f
+again_proposes work (duty.Block row) (granted.Vote details) steps v f = propose_follows row.pubkey (vote_message work.domains details) Stop steps v tt f
 
 -- ---- what it gives
 
@@ -181,30 +220,34 @@ first_on : {A : Type 0} (a b c : Option A) → first_of (first_of a b) c ≡ fir
 first_on None b c = refl
 first_on (Some x) b c = refl
 
--- after steps of which the first failure is this, the plan gives what the first failure of all says
-abbrev pub Gives : Duty → Option DutyResult → DutyPlan DutyResult → Type 0
-Gives d so (Done x) = x ≡ unwrap_or so ended.Sent
+-- after steps of which the first failure is this, the plan ends as the first failure of all says
+abbrev pub Gives : Duty → Option DutyResult → DutyPlan Ended → Type 0
+Gives d so (Done x) = x.result ≡ unwrap_or so ended.Sent
 Gives d so Stop = Unit {0}
 Gives d so (Step c k) = (r : DutyReply) → Fits c r → Gives d (first_of so (failure_of d (c, r))) (k r)
 
-abbrev GivesBy : Duty → Option DutyResult → List DutyStep → DutyResult → Type 0
-GivesBy d so steps r = r ≡ unwrap_or (first_of so (first_failure d steps)) ended.Sent
+abbrev GivesBy : Duty → Option DutyResult → List DutyStep → Ended → Type 0
+GivesBy d so steps e = e.result ≡ unwrap_or (first_of so (first_failure d steps)) ended.Sent
 
-gives_follows : (d : Duty) (so : Option DutyResult) (plan : DutyPlan DutyResult) (steps : List DutyStep) (r : DutyResult) → Gives d so plan → Follows Fits plan steps (Some r) → GivesBy d so steps r
-gives_follows d so (Done x) [] r g f = f ∙ g ∙ ap (λ o. unwrap_or o ended.Sent) (sym (first_none so))
-gives_follows d so (Done x) (s ∷ steps) r g f = absurd f
-gives_follows d so Stop [] r g f = absurd f
-gives_follows d so Stop (s ∷ steps) r g f = absurd f
-gives_follows d so (Step c k) [] r g f = absurd f
-gives_follows d so (Step c k) (s ∷ steps) r g f =
-    let rest = gives_follows d (first_of so (failure_of d (c, s.1))) (k s.1) steps r (g s.1 f.1) f.2 in
+gives_follows : (d : Duty) (so : Option DutyResult) (plan : DutyPlan Ended) (steps : List DutyStep) (e : Ended) → Gives d so plan → Follows Fits plan steps (Some e) → GivesBy d so steps e
+gives_follows d so (Done x) [] e g f = ap (λ (y : Ended). y.result) f ∙ g ∙ ap (λ o. unwrap_or o ended.Sent) (sym (first_none so))
+gives_follows d so (Done x) (s ∷ steps) e g f = absurd f
+gives_follows d so Stop [] e g f = absurd f
+gives_follows d so Stop (s ∷ steps) e g f = absurd f
+gives_follows d so (Step c k) [] e g f = absurd f
+gives_follows d so (Step c k) (s ∷ steps) e g f =
+    let rest = gives_follows d (first_of so (failure_of d (c, s.1))) (k s.1) steps e (g s.1 f.1) f.2 in
     let same : failure_of d (c, s.1) ≡ failure_of d s = ap (λ (x : DutyCall). failure_of d (x, s.1)) (sym f.0) in
     rest ∙ ap (λ o. unwrap_or o ended.Sent) (first_on so (failure_of d (c, s.1)) (first_failure d steps) ∙ ap (λ o. first_of so (first_of o (first_failure d steps))) same)
 
-gives_got : {T : Type 0} (d : Duty) (so : Option DutyResult) (g : Got T) (k : T → DutyPlan DutyResult) → so ≡ failed_in g → ((x : T) → Gives d None (k x)) → Gives d so (with_got g k)
-gives_got d so (got.Given x) k e h = subst (λ (o : Option DutyResult). Gives d o (k x)) (sym e) (h x)
-gives_got d so (got.Failed r) k e h = ap (λ o. unwrap_or o ended.Sent) (sym e)
-gives_got d so got.Nothing k e h = tt
+-- an end by this is one
+abbrev EndsSo : (DutyResult → Ended) → Type 0
+EndsSo ends = (by : DutyResult) → (ends by).result ≡ by
+
+gives_got : {T : Type 0} (d : Duty) (so : Option DutyResult) (ends : DutyResult → Ended) (g : Got T) (k : T → DutyPlan Ended) → EndsSo ends → so ≡ failed_in g → ((x : T) → Gives d None (k x)) → Gives d so (with_got ends g k)
+gives_got d so ends (got.Given x) k is e h = subst (λ (o : Option DutyResult). Gives d o (k x)) (sym e) (h x)
+gives_got d so ends (got.Failed by) k is e h = is by ∙ ap (λ o. unwrap_or o ended.Sent) (sym e)
+gives_got d so ends got.Nothing k is e h = tt
 
 settled_none : (c : DeskReply) (grant : OpenGrant) (o : Outcome) → Fits (Calls (call.Settle grant o)) (Replies c) → failed_in (grant_of c) ≡ None
 settled_none reply.Settled grant o f = refl
@@ -216,14 +259,14 @@ settle_none d (Signed s) grant o f = absurd f
 settle_none d (Answered tried) grant o f = absurd f
 settle_none d (Taken tried) grant o f = absurd f
 
-gives_settles : (d : Duty) (so : Option DutyResult) (grant : OpenGrant) (o : Outcome) (next : DutyPlan DutyResult) → Gives d so next → Gives d so (settles grant o next)
+gives_settles : (d : Duty) (so : Option DutyResult) (grant : OpenGrant) (o : Outcome) (next : DutyPlan Ended) → Gives d so next → Gives d so (settles grant o next)
 gives_settles d so grant o next g r f =
     subst (λ (x : Option DutyResult). Gives d x next) (sym (ap (λ x. first_of so x) (settle_none d r grant o f) ∙ first_none so)) g
 
-gives_under : {T : Type 0} (d : Duty) (so : Option DutyResult) (grant : OpenGrant) (g : Got T) (k : T → DutyPlan DutyResult) → so ≡ failed_in g → ((x : T) → Gives d None (k x)) → Gives d so (under grant g k)
-gives_under d so grant (got.Given x) k e h = subst (λ (o : Option DutyResult). Gives d o (k x)) (sym e) (h x)
-gives_under d so grant (got.Failed r) k e h = gives_settles d so grant outcome.Dropped (Done r) (ap (λ o. unwrap_or o ended.Sent) (sym e))
-gives_under d so grant got.Nothing k e h = gives_settles d so grant outcome.Dropped Stop tt
+gives_under : {T : Type 0} (d : Duty) (so : Option DutyResult) (ends : DutyResult → Ended) (grant : OpenGrant) (g : Got T) (k : T → DutyPlan Ended) → EndsSo ends → so ≡ failed_in g → ((x : T) → Gives d None (k x)) → Gives d so (under ends grant g k)
+gives_under d so ends grant (got.Given x) k is e h = subst (λ (o : Option DutyResult). Gives d o (k x)) (sym e) (h x)
+gives_under d so ends grant (got.Failed by) k is e h = gives_settles d so grant outcome.Dropped (Done (ends by)) (is by ∙ ap (λ o. unwrap_or o ended.Sent) (sym e))
+gives_under d so ends grant got.Nothing k is e h = gives_settles d so grant outcome.Dropped Stop tt
 
 -- the failure of a reply is that of what was read of it
 sign_failure : (d : Duty) (grant : OpenGrant) (q : SignRequest) (r : DutyReply) → Fits (Signs grant q) r → failure_of d (Signs grant q, r) ≡ failed_in (signature_of (sign_reply r))
@@ -256,27 +299,41 @@ ask_failure d a (Replies c) f = absurd f
 ask_failure d a (Signed s) f = absurd f
 ask_failure d a (Taken tried) f = absurd f
 
-gives_post : (d : Duty) (grant : OpenGrant) (p : Post) → Gives d None (post_plan grant p)
-gives_post d grant p r f = gives_settles d (failure_of d (Posts grant p, r)) grant outcome.Sent (with_got (posted_of (post_reply r)) sent)
-    (gives_got d (failure_of d (Posts grant p, r)) (posted_of (post_reply r)) sent (post_failure d grant p r f) (λ x. refl))
+over_so : EndsSo over
+over_so by = refl
 
-gives_publish : (d : Duty) (key : PubKey) (m : Message) (now : ℕ) (q : SignRequest) (made : Sig → Post) → Gives d None (publish_plan key m now q made)
-gives_publish d key m now q made r f = gives_got d (failure_of d (Calls (call.Propose key m now), r)) (grant_of (desk_reply r)) (λ grant. granted_plan q made grant) (call_failure d (call.Propose key m now) r f)
-    (λ grant s f2. gives_under d (failure_of d (Signs grant q, s)) grant (signature_of (sign_reply s)) (λ signature. post_plan grant (made signature)) (sign_failure d grant q s f2) (λ signature. gives_post d grant (made signature)))
+left_so : (unsent : Unsent) → EndsSo (left_by unsent)
+left_so unsent by = refl
+
+gives_post : (d : Duty) (unsent : Unsent) (grant : OpenGrant) (p : Post) → Gives d None (post_plan unsent grant p)
+gives_post d unsent grant p r f = gives_settles d (failure_of d (Posts grant p, r)) grant outcome.Sent (with_got (left_by unsent) (posted_of (post_reply r)) (sent unsent))
+    (gives_got d (failure_of d (Posts grant p, r)) (left_by unsent) (posted_of (post_reply r)) (sent unsent) (left_so unsent) (post_failure d grant p r f) (λ x. refl))
+
+gives_publish : (d : Duty) (key : PubKey) (m : Message) (now : ℕ) (unsent : Unsent) (q : SignRequest) (made : Sig → Post) → Gives d None (publish_plan key m now unsent q made)
+gives_publish d key m now unsent q made r f = gives_got d (failure_of d (Calls (call.Propose key m now), r)) over (grant_of (desk_reply r)) (λ grant. granted_plan unsent q made grant) over_so (call_failure d (call.Propose key m now) r f)
+    (λ grant s f2. gives_under d (failure_of d (Signs grant q, s)) (left_by unsent) grant (signature_of (sign_reply s)) (λ signature. post_plan unsent grant (made signature)) (left_so unsent) (sign_failure d grant q s f2) (λ signature. gives_post d unsent grant (made signature)))
+
+gives_voted : (work : SlotWork) (row : AttesterRow) (details : AttestationData) → Gives (duty.Vote row) None (voted_plan work row details)
+gives_voted work row details = gives_publish (duty.Vote row) row.pubkey (vote_message work.domains details) work.moment (granted.Vote details) (vote_request work details) (vote_post row details)
 
 gives_vote : (work : SlotWork) (row : AttesterRow) → Gives (duty.Vote row) None (vote_plan work row)
-gives_vote work row r f = gives_got (duty.Vote row) (failure_of (duty.Vote row) (Asks (ask.Data work.slot row.committee_index), r)) (vote_of row (answer_reply r)) (λ details. voted_plan work row details) (ask_failure (duty.Vote row) (ask.Data work.slot row.committee_index) r f)
-    (λ details. gives_publish (duty.Vote row) row.pubkey (vote_message work.domains details) work.moment (vote_request work details) (vote_post row details))
+gives_vote work row r f = gives_got (duty.Vote row) (failure_of (duty.Vote row) (Asks (ask.Data work.slot row.committee_index), r)) over (vote_of row (answer_reply r)) (λ details. voted_plan work row details) over_so (ask_failure (duty.Vote row) (ask.Data work.slot row.committee_index) r f) (gives_voted work row)
+
+gives_made : (work : SlotWork) (row : ProposerRow) (block : BeaconBlock) → Gives (duty.Block row) None (made_plan work row block)
+gives_made work row block = gives_publish (duty.Block row) row.pubkey (block_message work.domains block) work.moment (granted.Block block) (block_request work block) (block_post block)
 
 gives_revealed : (work : SlotWork) (row : ProposerRow) (grant : OpenGrant) (reveal : Sig) → Gives (duty.Block row) None (revealed_plan work row grant reveal)
-gives_revealed work row grant reveal r f = gives_settles (duty.Block row) (failure_of (duty.Block row) (Asks (ask.Block work.slot reveal), r)) grant outcome.Sent (with_got (block_of row (answer_reply r)) (λ block. made_plan work row block))
-    (gives_got (duty.Block row) (failure_of (duty.Block row) (Asks (ask.Block work.slot reveal), r)) (block_of row (answer_reply r)) (λ block. made_plan work row block) (ask_failure (duty.Block row) (ask.Block work.slot reveal) r f)
-    (λ block. gives_publish (duty.Block row) row.pubkey (block_message work.domains block) work.moment (block_request work block) (block_post block)))
+gives_revealed work row grant reveal r f = gives_settles (duty.Block row) (failure_of (duty.Block row) (Asks (ask.Block work.slot reveal), r)) grant outcome.Sent (with_got over (block_of row (answer_reply r)) (λ block. made_plan work row block))
+    (gives_got (duty.Block row) (failure_of (duty.Block row) (Asks (ask.Block work.slot reveal), r)) over (block_of row (answer_reply r)) (λ block. made_plan work row block) over_so (ask_failure (duty.Block row) (ask.Block work.slot reveal) r f) (gives_made work row))
 
 gives_block : (work : SlotWork) (row : ProposerRow) → Gives (duty.Block row) None (block_plan work row)
-gives_block work row r f = gives_got (duty.Block row) (failure_of (duty.Block row) (Calls (call.Allow row.pubkey work.moment), r)) (grant_of (desk_reply r)) (λ grant. allowed_plan work row grant) (call_failure (duty.Block row) (call.Allow row.pubkey work.moment) r f)
-    (λ grant s f2. gives_under (duty.Block row) (failure_of (duty.Block row) (Reveals grant (reveal_request work), s)) grant (signature_of (sign_reply s)) (λ reveal. revealed_plan work row grant reveal) (reveal_failure (duty.Block row) grant work s f2) (λ reveal. gives_revealed work row grant reveal))
+gives_block work row r f = gives_got (duty.Block row) (failure_of (duty.Block row) (Calls (call.Allow row.pubkey work.moment), r)) over (grant_of (desk_reply r)) (λ grant. allowed_plan work row grant) over_so (call_failure (duty.Block row) (call.Allow row.pubkey work.moment) r f)
+    (λ grant s f2. gives_under (duty.Block row) (failure_of (duty.Block row) (Reveals grant (reveal_request work), s)) over grant (signature_of (sign_reply s)) (λ reveal. revealed_plan work row grant reveal) over_so (reveal_failure (duty.Block row) grant work s f2) (λ reveal. gives_revealed work row grant reveal))
 
-pub duty_result : (work : SlotWork) (d : Duty) (steps : List DutyStep) (r : DutyResult) → Follows Fits (duty_plan work d) steps (Some r) → r ≡ result_by d steps
-duty_result work (duty.Vote row) steps r f = gives_follows (duty.Vote row) None (vote_plan work row) steps r (gives_vote work row) f
-duty_result work (duty.Block row) steps r f = gives_follows (duty.Block row) None (block_plan work row) steps r (gives_block work row) f
+pub task_result : (work : SlotWork) (t : Task) (steps : List DutyStep) (e : Ended) → Follows Fits (task_plan work t) steps (Some e) → e.result ≡ result_by (duty_of t) steps
+task_result work (task.Fresh (duty.Vote row)) steps e f = gives_follows (duty.Vote row) None (vote_plan work row) steps e (gives_vote work row) f
+task_result work (task.Fresh (duty.Block row)) steps e f = gives_follows (duty.Block row) None (block_plan work row) steps e (gives_block work row) f
+task_result work (task.Again (duty.Vote row) (granted.Vote details)) steps e f = gives_follows (duty.Vote row) None (voted_plan work row details) steps e (gives_voted work row details) f
+task_result work (task.Again (duty.Block row) (granted.Block block)) steps e f = gives_follows (duty.Block row) None (made_plan work row block) steps e (gives_made work row block) f
+task_result work (task.Again (duty.Vote row) (granted.Block block)) steps e f = gives_follows (duty.Vote row) None Stop steps e tt f
+task_result work (task.Again (duty.Block row) (granted.Vote details)) steps e f = gives_follows (duty.Block row) None Stop steps e tt f

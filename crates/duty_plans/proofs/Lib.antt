@@ -3,3 +3,5 @@ pub mod GuardLemmas
 pub mod SeatLemmas
 pub mod DutyLemmas
 pub mod SlotLemmas
+pub mod LeftLemmas
+pub mod EndLemmas

@@ -1,6 +1,8 @@
 pub mod Texts
 pub mod Messages
 pub mod Reading
+pub mod Ends
+pub mod Tasks
 pub mod Steps
 pub mod Hands
 pub mod Guards
@@ -9,3 +11,4 @@ pub mod Plans
 pub mod Results
 pub mod Owning
 pub mod Slots
+pub mod Repeats

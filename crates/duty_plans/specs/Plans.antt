@@ -31,9 +31,15 @@ use Rattle.duty_schedule.specs.declared.rows.Duty.TheVariants as duty
 use Rattle.call_plans.specs.Plans.{Done, Stop, Ask as Step, each_plan}
 use Rattle.duty_plans.specs.declared.got.Got.{Got}
 use Rattle.duty_plans.specs.declared.got.Got.TheVariants as got
+use Rattle.duty_plans.specs.declared.ended.Ended.{Ended}
+use Rattle.duty_plans.specs.declared.ended.Unsent.{Unsent}
+use Rattle.duty_plans.specs.declared.ended.Unsent.TheVariants as granted
 use Rattle.duty_plans.specs.declared.result.DutyResult.{DutyResult}
 use Rattle.duty_plans.specs.declared.result.DutyResult.TheVariants as ended
+use Rattle.duty_plans.specs.declared.task.Task.{Task}
+use Rattle.duty_plans.specs.declared.task.Task.TheVariants as task
 use Rattle.duty_plans.specs.declared.work.SlotWork.{SlotWork}
+use Rattle.duty_plans.specs.Ends.{left_by, over}
 use Rattle.duty_plans.specs.Messages.{block_message, block_post, block_request, reveal_request, vote_message, vote_post, vote_request}
 use Rattle.duty_plans.specs.Reading.{block_of, grant_of, posted_of, signature_of, vote_of}
 use Rattle.duty_plans.specs.Steps.{DutyPlan, DutyReply, Calls, Signs, Reveals, Asks, Posts, Replies, Signed, Answered, Taken, came_of}
@@ -74,70 +80,80 @@ posts grant p next_by = Step (Posts grant p) (λ r. next_by (post_reply r))
 abbrev pub settles : {X : Type 0} → OpenGrant → Outcome → DutyPlan X → DutyPlan X
 settles grant o next = calls (call.Settle grant o) (λ r. next)
 
--- what was got is gone on with; a call that failed ends the duty
-abbrev pub with_got : {T : Type 0} → Got T → (T → DutyPlan DutyResult) → DutyPlan DutyResult
-with_got (got.Given x) next_by = next_by x
-with_got (got.Failed r) next_by = Done r
-with_got got.Nothing next_by = Stop
+-- what was got is gone on with; a call that failed ends the duty, which leaves what this says
+abbrev pub with_got : {T : Type 0} → (DutyResult → Ended) → Got T → (T → DutyPlan Ended) → DutyPlan Ended
+with_got ends (got.Given x) next_by = next_by x
+with_got ends (got.Failed by) next_by = Done (ends by)
+with_got ends got.Nothing next_by = Stop
 
 -- the same with a grant in hand: where nothing was got, nothing is sent under it
-abbrev pub under : {T : Type 0} → OpenGrant → Got T → (T → DutyPlan DutyResult) → DutyPlan DutyResult
-under grant (got.Given x) next_by = next_by x
-under grant (got.Failed r) next_by = settles grant outcome.Dropped (Done r)
-under grant got.Nothing next_by = settles grant outcome.Dropped Stop
+abbrev pub under : {T : Type 0} → (DutyResult → Ended) → OpenGrant → Got T → (T → DutyPlan Ended) → DutyPlan Ended
+under ends grant (got.Given x) next_by = next_by x
+under ends grant (got.Failed by) next_by = settles grant outcome.Dropped (Done (ends by))
+under ends grant got.Nothing next_by = settles grant outcome.Dropped Stop
 
--- ---- what is to be sent
+-- ---- what is to be sent; another try may send it, where it was granted and is not sent
 
-abbrev pub sent : Unit {0} → DutyPlan DutyResult
-sent done = Done ended.Sent
+abbrev pub sent : Unsent → Unit {0} → DutyPlan Ended
+sent unsent done = Done (left_by unsent ended.Sent)
 
 -- what was signed is posted, and its grant is settled as sent, whether or not a node took it
-abbrev pub post_plan : OpenGrant → Post → DutyPlan DutyResult
-post_plan grant p = posts grant p (λ taken. settles grant outcome.Sent (with_got (posted_of taken) sent))
+abbrev pub post_plan : Unsent → OpenGrant → Post → DutyPlan Ended
+post_plan unsent grant p = posts grant p (λ taken. settles grant outcome.Sent (with_got (left_by unsent) (posted_of taken) (sent unsent)))
 
 -- the grant's message is signed, and what is made with the signature is posted
-abbrev pub granted_plan : SignRequest → (Sig → Post) → OpenGrant → DutyPlan DutyResult
-granted_plan q made grant = signs grant q (λ s. under grant (signature_of s) (λ signature. post_plan grant (made signature)))
+abbrev pub granted_plan : Unsent → SignRequest → (Sig → Post) → OpenGrant → DutyPlan Ended
+granted_plan unsent q made grant = signs grant q (λ s. under (left_by unsent) grant (signature_of s) (λ signature. post_plan unsent grant (made signature)))
 
 -- leave is asked for a message first
-abbrev pub publish_plan : PubKey → Message → ℕ → SignRequest → (Sig → Post) → DutyPlan DutyResult
-publish_plan key m now q made = calls (call.Propose key m now) (λ r. with_got (grant_of r) (λ grant. granted_plan q made grant))
+abbrev pub publish_plan : PubKey → Message → ℕ → Unsent → SignRequest → (Sig → Post) → DutyPlan Ended
+publish_plan key m now unsent q made = calls (call.Propose key m now) (λ r. with_got over (grant_of r) (λ grant. granted_plan unsent q made grant))
 
 -- ---- a vote
 
-abbrev pub voted_plan : SlotWork → AttesterRow → AttestationData → DutyPlan DutyResult
-voted_plan work row details = publish_plan row.pubkey (vote_message work.domains details) work.moment (vote_request work details) (vote_post row details)
+abbrev pub voted_plan : SlotWork → AttesterRow → AttestationData → DutyPlan Ended
+voted_plan work row details = publish_plan row.pubkey (vote_message work.domains details) work.moment (granted.Vote details) (vote_request work details) (vote_post row details)
 
 -- what its committee is to vote is asked for
-abbrev pub vote_plan : SlotWork → AttesterRow → DutyPlan DutyResult
-vote_plan work row = asks (ask.Data work.slot row.committee_index) (λ a. with_got (vote_of row a) (λ details. voted_plan work row details))
+abbrev pub vote_plan : SlotWork → AttesterRow → DutyPlan Ended
+vote_plan work row = asks (ask.Data work.slot row.committee_index) (λ a. with_got over (vote_of row a) (λ details. voted_plan work row details))
 
 -- ---- a block
 
-abbrev pub made_plan : SlotWork → ProposerRow → BeaconBlock → DutyPlan DutyResult
-made_plan work row block = publish_plan row.pubkey (block_message work.domains block) work.moment (block_request work block) (block_post block)
+abbrev pub made_plan : SlotWork → ProposerRow → BeaconBlock → DutyPlan Ended
+made_plan work row block = publish_plan row.pubkey (block_message work.domains block) work.moment (granted.Block block) (block_request work block) (block_post block)
 
 -- a block is asked for with the reveal, whose grant is then settled as sent
-abbrev pub revealed_plan : SlotWork → ProposerRow → OpenGrant → Sig → DutyPlan DutyResult
-revealed_plan work row grant reveal = asks (ask.Block work.slot reveal) (λ a. settles grant outcome.Sent (with_got (block_of row a) (λ block. made_plan work row block)))
+abbrev pub revealed_plan : SlotWork → ProposerRow → OpenGrant → Sig → DutyPlan Ended
+revealed_plan work row grant reveal = asks (ask.Block work.slot reveal) (λ a. settles grant outcome.Sent (with_got over (block_of row a) (λ block. made_plan work row block)))
 
 -- the randomness is revealed
-abbrev pub allowed_plan : SlotWork → ProposerRow → OpenGrant → DutyPlan DutyResult
-allowed_plan work row grant = reveals grant (reveal_request work) (λ s. under grant (signature_of s) (λ reveal. revealed_plan work row grant reveal))
+abbrev pub allowed_plan : SlotWork → ProposerRow → OpenGrant → DutyPlan Ended
+allowed_plan work row grant = reveals grant (reveal_request work) (λ s. under over grant (signature_of s) (λ reveal. revealed_plan work row grant reveal))
 
 -- leave is asked for the reveal first
-abbrev pub block_plan : SlotWork → ProposerRow → DutyPlan DutyResult
-block_plan work row = calls (call.Allow row.pubkey work.moment) (λ r. with_got (grant_of r) (λ grant. allowed_plan work row grant))
+abbrev pub block_plan : SlotWork → ProposerRow → DutyPlan Ended
+block_plan work row = calls (call.Allow row.pubkey work.moment) (λ r. with_got over (grant_of r) (λ grant. allowed_plan work row grant))
 
 -- ---- the duties of a slot
 
-abbrev pub duty_plan : SlotWork → Duty → DutyPlan DutyResult
+abbrev pub duty_plan : SlotWork → Duty → DutyPlan Ended
 duty_plan work (duty.Block row) = block_plan work row
 duty_plan work (duty.Vote row) = vote_plan work row
 
--- one after another, with a result each
-abbrev pub slot_plan : SlotWork → List Duty → DutyPlan (List DutyResult)
-slot_plan work duties = each_plan (λ d. duty_plan work d) [] duties
+-- leave is asked for the same message once more; what was granted for a duty of the other kind comes never
+abbrev pub again_plan : SlotWork → Duty → Unsent → DutyPlan Ended
+again_plan work (duty.Block row) (granted.Block block) = made_plan work row block
+again_plan work (duty.Vote row) (granted.Vote details) = voted_plan work row details
+again_plan work d unsent = Stop
+
+abbrev pub task_plan : SlotWork → Task → DutyPlan Ended
+task_plan work (task.Fresh d) = duty_plan work d
+task_plan work (task.Again d unsent) = again_plan work d unsent
+
+-- one after another, with an end each
+abbrev pub slot_plan : SlotWork → List Task → DutyPlan (List Ended)
+slot_plan work tasks = each_plan (λ t. task_plan work t) [] tasks
 
 abbrev pub slot_work : Root → Domains → ℕ → ℕ → SlotWork
 slot_work genesis domains slot now = record { genesis = genesis; domains = domains; slot = slot; moment = now }

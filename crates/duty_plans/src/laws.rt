@@ -4,16 +4,20 @@ ghost use Rattle.std.specs.declared.option.Option.{Option};
 ghost use Rattle.duty_schedule.specs.declared.rows.Duty.{Duty};
 ghost use Rattle.call_plans.specs.Paths.{Carries};
 ghost use Rattle.call_plans.specs.Plans.{Follows};
-ghost use Rattle.duty_plans.specs.declared.result.DutyResult.{DutyResult};
+ghost use Rattle.duty_plans.specs.declared.ended.Ended.{Ended};
+ghost use Rattle.duty_plans.specs.declared.ended.Unsent.{Unsent};
+ghost use Rattle.duty_plans.specs.declared.task.Task.{Task};
 ghost use Rattle.duty_plans.specs.declared.work.SlotWork.{SlotWork};
 ghost use Rattle.duty_plans.specs.Guards.{PostedGranted};
 ghost use Rattle.duty_plans.specs.Hands.{Free};
 ghost use Rattle.duty_plans.specs.Owning.{AllOwn};
-ghost use Rattle.duty_plans.specs.Plans.{duty_plan, slot_plan};
+ghost use Rattle.duty_plans.specs.Plans.{slot_plan, task_plan};
+ghost use Rattle.duty_plans.specs.Repeats.{AllPropose, IsLeft};
 ghost use Rattle.duty_plans.specs.Results.{result_by};
 ghost use Rattle.duty_plans.specs.Seats.{Does, Ran, Seat};
 ghost use Rattle.duty_plans.specs.Slots.{EachDone};
 ghost use Rattle.duty_plans.specs.Steps.{DutyPlan, DutyStep, Fits};
+ghost use Rattle.duty_plans.specs.Tasks.{IsOwnTask, duty_of, owner_of, unsent_message};
 
 use desk_machine::DeskCalls;
 
@@ -25,11 +29,20 @@ pub fn lane_law<K: DeskCalls, X>()
     ensures ran { (plan : DutyPlan X) (a b : Seat K) (v : Option X) → a.hand ≡ Free → b.hand ≡ Free → Carries Fits (Does K.leads) plan a b v → Ran K.leads plan a b v }
 {}
 
-/// What is signed and posted for a duty is that duty's, under a grant of its key for just that; a duty ends by the
-/// first of its calls that failed, and is sent where none did. The steps of a slot's duties are those of each duty,
-/// one after another, with one result each.
+/// What is signed and posted for a duty is that duty's, under a grant of its key for just that, where what is done once more
+/// is the duty's; a duty ends by the first of its calls that failed, and is sent where none did. The steps of a slot's
+/// tasks are those of each, one after another, with one end each.
 pub fn duty_law()
-    ensures own { (work : SlotWork) (duty : Duty) (steps : List DutyStep) (v : Option DutyResult) → Follows Fits (duty_plan work duty) steps v → AllOwn work duty steps }
-    ensures result { (work : SlotWork) (duty : Duty) (steps : List DutyStep) (r : DutyResult) → Follows Fits (duty_plan work duty) steps (Some r) → r ≡ result_by duty steps }
-    ensures each { (work : SlotWork) (duties : List Duty) (steps : List DutyStep) (results : List DutyResult) → Follows Fits (slot_plan work duties) steps (Some results) → EachDone work duties steps results }
+    ensures own { (work : SlotWork) (task : Task) (steps : List DutyStep) (v : Option Ended) → IsOwnTask task → Follows Fits (task_plan work task) steps v → AllOwn work (duty_of task) steps }
+    ensures result { (work : SlotWork) (task : Task) (steps : List DutyStep) (e : Ended) → Follows Fits (task_plan work task) steps (Some e) → e.result ≡ result_by (duty_of task) steps }
+    ensures each { (work : SlotWork) (tasks : List Task) (steps : List DutyStep) (ends : List Ended) → Follows Fits (slot_plan work tasks) steps (Some ends) → EachDone work tasks steps ends }
+{}
+
+/// What is done once more of a duty asks the desk for leave for no message but that of what was left, for the duty's key.
+/// What is left of a duty is the duty's own, the desk gave leave for its message in the duty's steps, and the duty ended
+/// since the service failed or answered something else, or no node took what was posted.
+pub fn repeat_law()
+    ensures same { (work : SlotWork) (duty : Duty) (unsent : Unsent) (steps : List DutyStep) (v : Option Ended) → Follows Fits (task_plan work (Task.Again duty unsent)) steps v
+        → AllPropose (owner_of duty) (unsent_message work.domains unsent) steps }
+    ensures left { (work : SlotWork) (task : Task) (steps : List DutyStep) (e : Ended) → IsOwnTask task → Follows Fits (task_plan work task) steps (Some e) → IsLeft work task steps e }
 {}

@@ -4,7 +4,7 @@ use Rattle.std.specs.Prelude.{IfSome, if◌then◌else◌}
 use Rattle.call_plans.specs.Plans.{Done, Stop, Ask as Step, bind, Follows}
 use Rattle.call_plans.proofs.PlanLemmas.{follows_bind, follows_cut, follows_cases}
 use Rattle.duty_schedule.specs.declared.rows.Duty.{Duty}
-use Rattle.duty_plans.specs.declared.result.DutyResult.{DutyResult}
+use Rattle.duty_plans.specs.declared.ended.Ended.{Ended}
 use Rattle.duty_turns.specs.TurnSteps.{TurnCall, TurnPlan, TurnReply, TurnStep, Fits, Waits, Woke, Refreshed, LanesRefreshed, Due, Worked, Wrote}
 use Rattle.duty_turns.specs.Turns.{woken, refreshed, lanes_refreshed, found, worked, written}
 use Rattle.duty_safety.specs.OnTime.{Wait, IsWait, AllWaits}
@@ -78,8 +78,8 @@ pub found_keeps : {X : Type 0} (W : Wait) (Q : X → Type 0) (r : TurnReply) (f 
 found_keeps W Q (Due ds) f g h = h ds
 found_keeps W Q r f g h = keeps_stop W Q
 
-pub worked_keeps : {X : Type 0} (W : Wait) (Q : X → Type 0) (r : TurnReply) (f g : List DutyResult → TurnPlan X) → ((results : List DutyResult) → Keeps W Q (f results) (g results)) → Keeps W Q (worked r f) (worked r g)
-worked_keeps W Q (Worked lanes (Some results)) f g h = h results
+pub worked_keeps : {X : Type 0} (W : Wait) (Q : X → Type 0) (r : TurnReply) (f g : List Ended → TurnPlan X) → ((ends : List Ended) → Keeps W Q (f ends) (g ends)) → Keeps W Q (worked r f) (worked r g)
+worked_keeps W Q (Worked lanes (Some ends)) f g h = h ends
 worked_keeps W Q r f g h = keeps_stop W Q
 
 pub written_keeps : {X : Type 0} (W : Wait) (Q : Option X → Type 0) (r : TurnReply) (p q : TurnPlan (Option X)) → Q None → Keeps W Q p q → Keeps W Q (written r p) (written r q)

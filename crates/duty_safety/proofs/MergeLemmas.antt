@@ -21,14 +21,18 @@ use Rattle.call_plans.specs.Plans.{Done, Stop, Ask as Step, bind, Follows}
 use Rattle.call_plans.proofs.PlanLemmas.{cut_now}
 use Rattle.duty_pruning.specs.Pruning.{pruning_file}
 use Rattle.duty_plans.specs.Steps.{Asks, Calls, Replies}
+use Rattle.duty_plans.specs.declared.ended.Ended.{Ended}
 use Rattle.duty_plans.specs.declared.result.DutyResult.{DutyResult}
+use Rattle.duty_plans.specs.declared.task.Task.{Task}
+use Rattle.duty_plans.specs.Ends.{merged, results_of}
+use Rattle.duty_plans.specs.Tasks.{again_tasks, fresh}
 use Rattle.duty_plans.specs.declared.setup.DutySetup.{DutySetup}
 use Rattle.duty_plans.specs.declared.work.SlotWork.{SlotWork}
 use Rattle.duty_turns.specs.Lines.{duty_lines, none_line}
 use Rattle.duty_turns.specs.Standing.{Standing, indices_of, with_attesters, with_fork, with_indices, with_proposers}
 use Rattle.duty_turns.specs.Times.{epoch_of, is_first_slot, is_missed, next_slot, slot_start, votes_start}
 use Rattle.duty_turns.specs.TurnSteps.{TurnCall, TurnPlan, TurnReply, TurnStep, Fits, Due, LanesRefreshed, LooksUp, Own, Owned, Refreshed, Refreshes, RefreshesLanes, Waits, Woke, Worked, Works, Writes, Wrote}
-use Rattle.duty_turns.specs.Turns.{NextPlan, PartPlan, active_of, answered_plan, ask_plan, asked_plan, asks, at_moment, at_slot, attesters_plan, blocks_in, by_32, calls, close_plan, closed_plan, due_plan, duties_plan, epoch_plan, epochs_plan, exported, exports, failed_plan, found, index_plan, is_worth_compacting, keys_of_turn, lanes_refreshed, listed_plan, lived_plan, liveness_plan, looks_up, merges, missing_epochs, missing_keys, noted, notes_of, notes_plan, on_standing, own_answer, own_reply, prunes, ready_plan, refreshed, refreshes, refreshes_lanes, renew_plan, renewed_now, renewed_plan, renews, shortens, sized, then_on, to_renew, turn_plan, unless_short, voters_plan, votes_in, votes_plan, waits, watch_plan, with_active, woken, woken_plan, work_of, worked, works, writes, written}
+use Rattle.duty_turns.specs.Turns.{NextPlan, PartPlan, active_of, after_works, again_plan, left_plan, tried_plan, answered_plan, ask_plan, asked_plan, asks, at_moment, at_slot, attesters_plan, blocks_in, by_32, calls, close_plan, closed_plan, due_plan, duties_plan, epoch_plan, epochs_plan, exported, exports, failed_plan, found, index_plan, is_worth_compacting, keys_of_turn, lanes_refreshed, listed_plan, lived_plan, liveness_plan, looks_up, merges, missing_epochs, missing_keys, noted, notes_of, notes_plan, on_standing, own_answer, own_reply, prunes, ready_plan, refreshed, refreshes, refreshes_lanes, renew_plan, renewed_now, renewed_plan, renews, shortens, sized, then_on, to_renew, turn_plan, unless_short, voters_plan, votes_in, votes_plan, waits, watch_plan, with_active, woken, woken_plan, work_of, worked, works, writes, written}
 use Rattle.duty_turns.specs.declared.held.DutyEnd.{DutyEnd}
 use Rattle.duty_turns.specs.declared.held.DutyEnd.TheVariants as end
 use Rattle.duty_safety.proofs.AskedLemmas.{At, asked_stays}
@@ -98,8 +102,8 @@ module _ (keep_epochs : Option ℕ) (epoch : ℕ) where
   found_quiet next h (Due ds) = h ds
   found_quiet next h r = stop_quiet
 
-  worked_quiet : {X : Type 0} (next : List DutyResult → TurnPlan X) → ((results : List DutyResult) → Quiet (next results)) → (r : TurnReply) → Quiet (worked r next)
-  worked_quiet next h (Worked lanes (Some results)) = h results
+  worked_quiet : {X : Type 0} (next : List Ended → TurnPlan X) → ((ends : List Ended) → Quiet (next ends)) → (r : TurnReply) → Quiet (worked r next)
+  worked_quiet next h (Worked lanes (Some ends)) = h ends
   worked_quiet next h r = stop_quiet
 
   waits_quiet : {X : Type 0} (moment : ℕ) (next : ℕ → TurnPlan X) → ((reached : ℕ) → Quiet (next reached)) → Quiet (waits moment next)
@@ -120,8 +124,8 @@ module _ (keep_epochs : Option ℕ) (epoch : ℕ) where
   looks_up_quiet : {X : Type 0} (answers : List TakenAnswer) (slot : ℕ) (active : List PubKey) (next : List Duty → TurnPlan X) → ((ds : List Duty) → Quiet (next ds)) → Quiet (looks_up answers slot active next)
   looks_up_quiet answers slot active next h = ask_quiet (LooksUp answers slot active) (λ r. found r next) (λ from. tt) (found_quiet next h)
 
-  works_quiet : {X : Type 0} (work : SlotWork) (place : ℕ) (ds : List Duty) (next : List DutyResult → TurnPlan X) → ((results : List DutyResult) → Quiet (next results)) → Quiet (works work place ds next)
-  works_quiet work place ds next h = ask_quiet (Works work place ds) (λ r. worked r next) (λ from. tt) (worked_quiet next h)
+  works_quiet : {X : Type 0} (work : SlotWork) (place : ℕ) (tasks : List Task) (next : List Ended → TurnPlan X) → ((ends : List Ended) → Quiet (next ends)) → Quiet (works work place tasks next)
+  works_quiet work place tasks next h = ask_quiet (Works work place tasks) (λ r. worked r next) (λ from. tt) (worked_quiet next h)
 
   -- ---- what is asked of the nodes outside the duties
 
@@ -258,21 +262,33 @@ closed_quiet setup slot s r = done_quiet setup.keep_epochs (epoch_of slot) (Err 
 close_quiet : (setup : DutySetup) (slot : ℕ) (ds : List Duty) (results : List DutyResult) (s : Standing) → Quiet setup.keep_epochs (epoch_of slot) (close_plan setup slot ds results s)
 close_quiet setup slot ds results s = ask_quiet setup.keep_epochs (epoch_of slot) (Writes (duty_lines slot ds results)) (closed_plan setup slot s) (λ from. tt) (closed_quiet setup slot s)
 
-votes_quiet : (setup : DutySetup) (s : Standing) (ds : List Duty) (proposed : List DutyResult) (reached : ℕ) → Quiet setup.keep_epochs (epoch_of s.slot) (votes_plan setup s ds proposed reached)
+tried_quiet : (setup : DutySetup) (s : Standing) (ds : List Duty) (ends : List Ended) (tasks : List Task) (reached : ℕ) → Quiet setup.keep_epochs (epoch_of s.slot) (tried_plan setup s ds ends tasks reached)
+tried_quiet setup s ds ends tasks reached =
+    let next = after_works setup.genesis_time reached s in
+    let after : List Ended → NextPlan = λ again. close_plan setup s.slot ds (merged ends again) (at_slot (next_slot s.slot) s) in
+    if_quiet setup.keep_epochs (epoch_of s.slot) (is_missed setup.genesis_time s.slot (votes_start setup.genesis_time s.slot) reached) (close_plan setup s.slot ds (results_of ends) next) (works (work_of setup s) 0 tasks after)
+    (close_quiet setup s.slot ds (results_of ends) next)
+    (works_quiet setup.keep_epochs (epoch_of s.slot) (work_of setup s) 0 tasks after (λ again. close_quiet setup s.slot ds (merged ends again) (at_slot (next_slot s.slot) s)))
+
+left_quiet : (setup : DutySetup) (s : Standing) (ds : List Duty) (ends : List Ended) (tasks : List Task) → Quiet setup.keep_epochs (epoch_of s.slot) (left_plan setup s ds ends tasks)
+left_quiet setup s ds ends [] = close_quiet setup s.slot ds (results_of ends) (at_slot (next_slot s.slot) s)
+left_quiet setup s ds ends (t ∷ tasks) = waits_quiet setup.keep_epochs (epoch_of s.slot) (votes_start setup.genesis_time s.slot) (tried_plan setup s ds ends (t ∷ tasks)) (tried_quiet setup s ds ends (t ∷ tasks))
+
+votes_quiet : (setup : DutySetup) (s : Standing) (ds : List Duty) (proposed : List Ended) (reached : ℕ) → Quiet setup.keep_epochs (epoch_of s.slot) (votes_plan setup s ds proposed reached)
 votes_quiet setup s ds proposed reached =
     let next = at_moment setup.genesis_time (votes_start setup.genesis_time s.slot) reached s in
     let place = length (blocks_in ds) in
     let all : List Duty = blocks_in ds ++ votes_in ds in
-    let behind : List DutyResult → NextPlan = λ cast. close_plan setup s.slot all (proposed ++ cast) (at_slot (next_slot s.slot) s) in
-    if_quiet setup.keep_epochs (epoch_of s.slot) (is_missed setup.genesis_time s.slot (votes_start setup.genesis_time s.slot) reached) (close_plan setup s.slot (blocks_in ds) proposed next) (works (work_of setup s) place (votes_in ds) behind)
-    (close_quiet setup s.slot (blocks_in ds) proposed next)
-    (works_quiet setup.keep_epochs (epoch_of s.slot) (work_of setup s) place (votes_in ds) behind (λ cast. close_quiet setup s.slot all (proposed ++ cast) (at_slot (next_slot s.slot) s)))
+    let after : List Ended → NextPlan = λ cast. again_plan setup s all (proposed ++ cast) in
+    if_quiet setup.keep_epochs (epoch_of s.slot) (is_missed setup.genesis_time s.slot (votes_start setup.genesis_time s.slot) reached) (close_plan setup s.slot (blocks_in ds) (results_of proposed) next) (works (work_of setup s) place (fresh (votes_in ds)) after)
+    (close_quiet setup s.slot (blocks_in ds) (results_of proposed) next)
+    (works_quiet setup.keep_epochs (epoch_of s.slot) (work_of setup s) place (fresh (votes_in ds)) after (λ cast. left_quiet setup s all (proposed ++ cast) (again_tasks all (proposed ++ cast))))
 
 due_quiet : (setup : DutySetup) (s : Standing) (ds : List Duty) → Quiet setup.keep_epochs (epoch_of s.slot) (due_plan setup s ds)
 due_quiet setup s ds =
     let moment = votes_start setup.genesis_time s.slot in
-    let behind : List DutyResult → NextPlan = λ proposed. waits moment (votes_plan setup s ds proposed) in
-    works_quiet setup.keep_epochs (epoch_of s.slot) (work_of setup s) 0 (blocks_in ds) behind
+    let after : List Ended → NextPlan = λ proposed. waits moment (votes_plan setup s ds proposed) in
+    works_quiet setup.keep_epochs (epoch_of s.slot) (work_of setup s) 0 (fresh (blocks_in ds)) after
     (λ proposed. waits_quiet setup.keep_epochs (epoch_of s.slot) moment (votes_plan setup s ds proposed) (votes_quiet setup s ds proposed))
 
 ready_quiet : (setup : DutySetup) (active : List PubKey) (slot : ℕ) (o : Option Standing) → At slot o → Quiet setup.keep_epochs (epoch_of slot) (ready_plan setup active o)

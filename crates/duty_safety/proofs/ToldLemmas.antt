@@ -1,7 +1,7 @@
 -- A turn that drops nothing tells of all that was due.
-use Rattle.std.proofs.Common.{◌≡◌, ◌+◌, ℕ, Bool, true, false, List, [], ◌∷◌, ◌++◌, length, map, Option, Some, None, Ok, Err, refl, sym, ◌∙◌, ap, subst, arith, append_assoc}
+use Rattle.std.proofs.Common.{◌≡◌, ◌+◌, ℕ, suc, Bool, true, false, List, [], ◌∷◌, ◌++◌, length, map, Option, Some, None, Ok, Err, refl, sym, ◌∙◌, ap, subst, arith, append_assoc}
 use Rattle.std.specs.Prelude.{if◌then◌else◌}
-use Rattle.std.proofs.lemmas.List.{length-append}
+use Rattle.std.proofs.lemmas.List.{length-append, length-map}
 use Rattle.edge_kit.specs.declared.bytes.PubKey.{PubKey}
 use Rattle.desk_machine.specs.declared.call.DeskCall.TheVariants as call
 use Rattle.desk_machine.specs.declared.call.DeskReply.{DeskReply}
@@ -16,7 +16,13 @@ use Rattle.call_plans.specs.Plans.{Ask as Step, Done, Stop, Follows}
 use Rattle.call_plans.proofs.PlanLemmas.{follows_split}
 use Rattle.duty_plans.proofs.SlotLemmas.{each_done}
 use Rattle.duty_plans.specs.Steps.{Calls, DutyStep}
+use Rattle.duty_plans.specs.declared.ended.Ended.{Ended}
+use Rattle.duty_plans.specs.declared.ended.Unsent.{Unsent}
 use Rattle.duty_plans.specs.declared.result.DutyResult.{DutyResult}
+use Rattle.duty_plans.specs.declared.task.Task.{Task}
+use Rattle.duty_plans.specs.declared.task.Task.TheVariants as task
+use Rattle.duty_plans.specs.Ends.{last_by, left_after, merged, results_of}
+use Rattle.duty_plans.specs.Tasks.{again_tasks, fresh}
 use Rattle.duty_plans.specs.declared.setup.DutySetup.{DutySetup}
 use Rattle.duty_plans.specs.declared.work.SlotWork.{SlotWork}
 use Rattle.duty_turns.specs.declared.held.DutyEnd.TheVariants as end
@@ -26,8 +32,8 @@ use Rattle.duty_turns.specs.Standing.{Standing}
 use Rattle.duty_turns.specs.Times.{is_first_slot, next_slot, slot_start, votes_start}
 use Rattle.duty_turns.specs.TurnSteps.{Fits, TurnCall, TurnPlan, TurnReply, TurnStep, LooksUp, Own, Refreshes, RefreshesLanes, Waits, Works, Writes, Due, Refreshed, LanesRefreshed, Woke, Worked, Wrote}
 use Rattle.duty_turns.specs.Turns.{Next, NextPlan, active_of, asked_plan, at_slot, blocks_in, calls, close_plan, lanes_refreshed, own_reply, refreshed, refreshes, refreshes_lanes, is_worth_compacting, shortens, sized, unless_short, votes_in, waits, with_active, woken, work_of, works}
-use Rattle.duty_safety.specs.OnTime.{AllWaits, IsWait, Wait, cast_plan, done_plan, listed_on_time, on_time_turn, ready_on_time}
-use Rattle.duty_safety.specs.Told.{AllDone, AllTold, EachDoneIn, ToldIfNext}
+use Rattle.duty_safety.specs.OnTime.{AllWaits, IsWait, Wait, again_on_time, cast_plan, done_plan, left_on_time, listed_on_time, on_time_turn, ready_on_time, tried_on_time}
+use Rattle.duty_safety.specs.Told.{AllDone, AllTold, AreTried, EachDoneIn, ToldIfNext}
 use Rattle.duty_safety.proofs.AskedLemmas.{At, asked_stays}
 
 -- ---- what follows a call
@@ -36,21 +42,21 @@ stop_never : {X : Type 0} (steps : List TurnStep) (x : X) → Follows Fits Stop 
 stop_never [] x h = h
 stop_never (s ∷ steps) x h = h
 
--- each lane's share of the duties was done
-each_lane : (work : SlotWork) (lanes lane place : ℕ) (ds : List Duty) (results : List DutyResult) (made : List (List DutyStep)) → DidShares work place ds (Some results) lanes lane made
-    → EachDoneIn work lanes lane place ds results made
-each_lane work lanes lane place ds results [] h = tt
-each_lane work lanes lane place ds results (steps ∷ others) h =
-    (each_done work (dealt lanes lane place ds) steps (dealt lanes lane place results) h.0, each_lane work lanes (lane + 1) place ds results others h.1)
+-- each lane's share of the tasks was done
+each_lane : (work : SlotWork) (lanes lane place : ℕ) (tasks : List Task) (ends : List Ended) (made : List (List DutyStep)) → DidShares work place tasks (Some ends) lanes lane made
+    → EachDoneIn work lanes lane place tasks ends made
+each_lane work lanes lane place tasks ends [] h = tt
+each_lane work lanes lane place tasks ends (steps ∷ others) h =
+    (each_done work (dealt lanes lane place tasks) steps (dealt lanes lane place ends) h.0, each_lane work lanes (lane + 1) place tasks ends others h.1)
 
-works_so : {X : Type 0} (work : SlotWork) (place : ℕ) (ds : List Duty) (f : List DutyResult → TurnPlan X) (steps : List TurnStep) (x : X) → Follows Fits (works work place ds f) steps (Some x)
-    → (made : List (List DutyStep)) × (results : List DutyResult) × (rest : List TurnStep) × (steps ≡ (Works work place ds, Worked made (Some results)) ∷ rest)
-    × AllDone work place ds made results × HasEach ds (Some results) × Follows Fits (f results) rest (Some x)
-works_so work place ds f [] x h = absurd h
-works_so work place ds f ((c, Worked made (Some results)) ∷ rest) x h =
-    let all : AllDone work place ds made results = record { some = h.1.2; each = each_lane work (length made) 0 place ds results made h.1.0 } in
-    (made, results, rest, ap (λ (d : TurnCall). (d, Worked made (Some results)) ∷ rest) h.0, all, h.1.1, h.2)
-works_so work place ds f ((c, r) ∷ rest) x h = absurd (stop_never rest x h.2)
+works_so : {X : Type 0} (work : SlotWork) (place : ℕ) (tasks : List Task) (f : List Ended → TurnPlan X) (steps : List TurnStep) (x : X) → Follows Fits (works work place tasks f) steps (Some x)
+    → (made : List (List DutyStep)) × (ends : List Ended) × (rest : List TurnStep) × (steps ≡ (Works work place tasks, Worked made (Some ends)) ∷ rest)
+    × AllDone work place tasks made ends × HasEach tasks (Some ends) × Follows Fits (f ends) rest (Some x)
+works_so work place tasks f [] x h = absurd h
+works_so work place tasks f ((c, Worked made (Some ends)) ∷ rest) x h =
+    let all : AllDone work place tasks made ends = record { some = h.1.2; each = each_lane work (length made) 0 place tasks ends made h.1.0 } in
+    (made, ends, rest, ap (λ (d : TurnCall). (d, Worked made (Some ends)) ∷ rest) h.0, all, h.1.1, h.2)
+works_so work place tasks f ((c, r) ∷ rest) x h = absurd (stop_never rest x h.2)
 
 waits_so : {X : Type 0} (moment : ℕ) (f : ℕ → TurnPlan X) (steps : List TurnStep) (x : X) → Follows Fits (waits moment f) steps (Some x)
     → (reached : ℕ) × (rest : List TurnStep) × (steps ≡ (Waits moment, Woke reached) ∷ rest) × Follows Fits (f reached) rest (Some x)
@@ -88,12 +94,60 @@ all_due answers slot active ds due =
     let bs = map duty.Block due.blocks in
     subst P (sym due.are_both) (ap (λ l. l ++ votes_in (bs ++ map duty.Vote due.votes)) (blocks_of due.blocks due.votes) ∙ ap (λ l. bs ++ l) (votes_of due.blocks due.votes))
 
--- one result each
-as_many : (ds : List Duty) (proposed cast : List DutyResult) → length proposed ≡ length (blocks_in ds) → length cast ≡ length (votes_in ds) → blocks_in ds ++ votes_in ds ≡ ds
+-- one end each
+fresh_count : (ds : List Duty) (ends : List Ended) → length ends ≡ length (fresh ds) → length ends ≡ length ds
+fresh_count ds ends h = h ∙ length-map ds task.Fresh
+
+as_many : (ds : List Duty) (proposed cast : List Ended) → length proposed ≡ length (fresh (blocks_in ds)) → length cast ≡ length (fresh (votes_in ds)) → blocks_in ds ++ votes_in ds ≡ ds
     → length (proposed ++ cast) ≡ length ds
 as_many ds proposed cast left right all =
     let both = ap (λ (l : List Duty). length l) all in
+    let one = fresh_count (blocks_in ds) proposed left in
+    let two = fresh_count (votes_in ds) cast right in
     omega (arith, length-append proposed cast, length-append (blocks_in ds) (votes_in ds))
+
+count_merged : (ends again : List Ended) → length (merged ends again) ≡ length ends
+count_merged [] again = refl
+count_merged (e ∷ ends) again = ap suc (count_merged ends (left_after e.unsent again))
+
+tried_count : (setup : DutySetup) (slot : ℕ) (work : SlotWork) (ends : List Ended) (tasks : List Task) (steps : List TurnStep) (results : List DutyResult) → AreTried setup slot work ends tasks steps results
+    → length results ≡ length ends
+tried_count setup slot work ends [] steps results h = ap (λ (l : List DutyResult). length l) h.1 ∙ length-map ends (λ e. e.result)
+tried_count setup slot work ends (t ∷ tasks) steps results h = ap (λ (l : List DutyResult). length l) h.6 ∙ count_merged ends h.2
+
+-- ---- what was left
+
+record Closed (setup : DutySetup) (s : Standing) (ds : List Duty) (ends : List Ended) (tasks : List Task) (steps : List TurnStep) : Type 0 where
+  tries : List TurnStep
+  results : List DutyResult
+  behind : List TurnStep
+  are : steps ≡ tries ++ (Writes (duty_lines s.slot ds results), Wrote true (duty_lines s.slot ds results)) ∷ behind
+  tried : AreTried setup s.slot (work_of setup s) ends tasks tries results
+
+two_steps : (a b : TurnStep) (p q r : List TurnStep) → p ≡ a ∷ q → q ≡ b ∷ r → p ≡ (a ∷ b ∷ []) ++ r
+two_steps a b p q r e f = e ∙ ap (λ (l : List TurnStep). a ∷ l) f
+
+closed_so : (setup : DutySetup) (s : Standing) (ds : List Duty) (ends : List Ended) (tasks : List Task) (steps : List TurnStep) (t : Standing) → Follows Fits (left_on_time setup s ds ends tasks) steps (Some (Ok t)) → Closed setup s ds ends tasks steps
+closed_so setup s ds ends [] steps t f =
+    let close = close_so setup s.slot ds (results_of ends) (at_slot (next_slot s.slot) s) steps t f in
+    record { tries = []; results = results_of ends; behind = close.0; are = close.1; tried = (refl, refl) }
+closed_so setup s ds ends (k ∷ tasks) steps t f =
+    let moment = votes_start setup.genesis_time s.slot in
+    let work = work_of setup s in
+    let next = at_slot (next_slot s.slot) s in
+    let woke = waits_so moment (λ reached. tried_on_time setup s ds ends (k ∷ tasks)) steps (Ok t) f in
+    let again = works_so work 0 (k ∷ tasks) (λ a. close_plan setup s.slot ds (merged ends a) next) woke.1 (Ok t) woke.3 in
+    let close = close_so setup s.slot ds (merged ends again.1) next again.2 t again.6 in
+    let text = duty_lines s.slot ds (merged ends again.1) in
+    let first : TurnStep = (Waits moment, Woke woke.0) in
+    let second : TurnStep = (Works work 0 (k ∷ tasks), Worked again.0 (Some again.1)) in
+    record {
+      tries = first ∷ second ∷ [];
+      results = merged ends again.1;
+      behind = close.0;
+      are = two_steps first second steps woke.1 ((Writes text, Wrote true text) ∷ close.0) woke.2 (again.3 ∙ ap (λ (l : List TurnStep). second ∷ l) close.1);
+      tried = (woke.0, again.0, again.1, refl, again.4, again.5, refl);
+    }
 
 -- ---- from the look-up on
 
@@ -106,18 +160,20 @@ told_due : (setup : DutySetup) (s : Standing) (active : List PubKey) (ds : List 
 told_due setup s active ds steps t due f =
     let work = work_of setup s in
     let moment = votes_start setup.genesis_time s.slot in
-    let next = at_slot (next_slot s.slot) s in
     let place = length (blocks_in ds) in
-    let blocks = works_so work 0 (blocks_in ds) (λ proposed. waits moment (λ reached. cast_plan setup s ds proposed)) steps (Ok t) f in
+    let both : List Duty = blocks_in ds ++ votes_in ds in
+    let blocks = works_so work 0 (fresh (blocks_in ds)) (λ proposed. waits moment (λ reached. cast_plan setup s ds proposed)) steps (Ok t) f in
     let woke = waits_so moment (λ reached. cast_plan setup s ds blocks.1) blocks.2 (Ok t) blocks.6 in
-    let votes = works_so work place (votes_in ds) (λ cast. close_plan setup s.slot (blocks_in ds ++ votes_in ds) (blocks.1 ++ cast) next) woke.1 (Ok t) woke.3 in
-    let close = close_so setup s.slot (blocks_in ds ++ votes_in ds) (blocks.1 ++ votes.1) next votes.2 t votes.6 in
-    let text = duty_lines s.slot (blocks_in ds ++ votes_in ds) (blocks.1 ++ votes.1) in
+    let votes = works_so work place (fresh (votes_in ds)) (λ cast. again_on_time setup s both (blocks.1 ++ cast)) woke.1 (Ok t) woke.3 in
+    let ends : List Ended = blocks.1 ++ votes.1 in
+    let close = closed_so setup s both ends (again_tasks both ends) votes.2 t votes.6 in
+    let text = duty_lines s.slot both close.results in
     let all = all_due s.answers s.slot active ds due in
+    let tried = subst (λ (l : List Duty). AreTried setup s.slot work ends (again_tasks l ends) close.tries close.results) all close.tried in
     let looked : TurnStep = (LooksUp s.answers s.slot active, Due ds) in
-    let first : TurnStep = (Works work 0 (blocks_in ds), Worked blocks.0 (Some blocks.1)) in
+    let first : TurnStep = (Works work 0 (fresh (blocks_in ds)), Worked blocks.0 (Some blocks.1)) in
     let second : TurnStep = (Waits moment, Woke woke.0) in
-    let third : TurnStep = (Works work place (votes_in ds), Worked votes.0 (Some votes.1)) in
+    let third : TurnStep = (Works work place (fresh (votes_in ds)), Worked votes.0 (Some votes.1)) in
     record {
       front = [];
       answers = s.answers;
@@ -129,15 +185,18 @@ told_due setup s active ds steps t due f =
       reached = woke.0;
       voted = votes.0;
       cast = votes.1;
+      tries = close.tries;
+      results = close.results;
       text = text;
-      behind = close.0;
-      are = in_order looked first second third steps blocks.2 woke.1 votes.2 ((Writes text, Wrote true text) ∷ close.0) blocks.3 woke.2 votes.3 close.1;
+      behind = close.behind;
+      are = in_order looked first second third steps blocks.2 woke.1 votes.2 (close.tries ++ (Writes text, Wrote true text) ∷ close.behind) blocks.3 woke.2 votes.3 close.are;
       found = due;
       work_slot = refl;
       blocks = blocks.4;
       votes = votes.4;
-      lines = ap (λ (l : List Duty). duty_lines s.slot l (blocks.1 ++ votes.1)) all;
-      each = as_many ds blocks.1 votes.1 blocks.5 votes.5 all;
+      tried = tried;
+      lines = ap (λ (l : List Duty). duty_lines s.slot l close.results) all;
+      each = tried_count setup s.slot work ends (again_tasks ds ends) close.tries close.results tried ∙ as_many ds blocks.1 votes.1 blocks.5 votes.5 all;
     }
 
 -- ---- up to the look-up
@@ -159,6 +218,8 @@ more_told setup slot xs ys (Ok t) h = record {
   reached = h.reached;
   voted = h.voted;
   cast = h.cast;
+  tries = h.tries;
+  results = h.results;
   text = h.text;
   behind = h.behind;
   are = ap (λ (l : List TurnStep). xs ++ l) h.are ∙ sym (append_assoc xs h.front _);
@@ -166,6 +227,7 @@ more_told setup slot xs ys (Ok t) h = record {
   work_slot = h.work_slot;
   blocks = h.blocks;
   votes = h.votes;
+  tried = h.tried;
   lines = h.lines;
   each = h.each;
 }

@@ -14,7 +14,11 @@ use Rattle.duty_schedule.specs.declared.rows.Duty.{Duty}
 use Rattle.call_plans.specs.Paths.{Path}
 use Rattle.call_plans.specs.Plans.{Follows}
 use Rattle.duty_plans.specs.Steps.{Calls}
+use Rattle.duty_plans.specs.declared.ended.Ended.{Ended}
 use Rattle.duty_plans.specs.declared.result.DutyResult.{DutyResult}
+use Rattle.duty_plans.specs.declared.task.Task.{Task}
+use Rattle.duty_plans.specs.Ends.{merged, results_of}
+use Rattle.duty_plans.specs.Tasks.{again_tasks, fresh}
 use Rattle.duty_plans.specs.declared.setup.DutySetup.{DutySetup}
 use Rattle.duty_turns.specs.declared.held.DutyEnd.{DutyEnd}
 use Rattle.duty_turns.specs.declared.held.DutyEnd.TheVariants as end
@@ -23,8 +27,8 @@ use Rattle.duty_turns.specs.Standing.{Standing}
 use Rattle.duty_pruning.specs.Pruning.{pruning_file}
 use Rattle.duty_turns.specs.Times.{epoch_of, is_first_slot, is_missed, next_slot, slot_of, slot_start, votes_start}
 use Rattle.duty_turns.specs.TurnSteps.{Does, Fits, House, TurnCall, TurnPlan, TurnReply, TurnStep, LooksUp, Own, Refreshes, RefreshesLanes, Waits, Works, Writes, Woke, Wrote}
-use Rattle.duty_turns.specs.Turns.{Next, NextPlan, active_of, asked_plan, at_moment, at_slot, blocks_in, calls, close_plan, closed_plan, due_plan, exported, exports, failed_plan, found, keys_of_turn, lanes_refreshed, listed_plan, merges, next_turn, own_reply, prunes, ready_plan, refreshed, refreshes, refreshes_lanes, is_worth_compacting, shortens, sized, turn_plan, turns_plan, unless_short, votes_in, votes_plan, waits, with_active, woken, woken_plan, work_of, worked}
-use Rattle.duty_safety.specs.OnTime.{AllWaits, AreOnTime, IsWait, Wait, WakesInSlot, cast_plan, done_plan, listed_on_time, on_time_turn, on_time_turns, ready_on_time}
+use Rattle.duty_turns.specs.Turns.{Next, NextPlan, active_of, after_works, again_plan, left_plan, tried_plan, asked_plan, at_moment, at_slot, blocks_in, calls, close_plan, closed_plan, due_plan, exported, exports, failed_plan, found, keys_of_turn, lanes_refreshed, listed_plan, merges, next_turn, own_reply, prunes, ready_plan, refreshed, refreshes, refreshes_lanes, is_worth_compacting, shortens, sized, turn_plan, turns_plan, unless_short, votes_in, votes_plan, waits, with_active, woken, woken_plan, work_of, worked, works}
+use Rattle.duty_safety.specs.OnTime.{AllWaits, AreOnTime, IsWait, Wait, WakesInSlot, again_on_time, cast_plan, done_plan, left_on_time, listed_on_time, on_time_turn, on_time_turns, ready_on_time, tried_on_time}
 use Rattle.duty_safety.proofs.KeepLemmas.{Keeps, found_keeps, keeps_ask, keeps_bind, keeps_done, keeps_else, keeps_if, keeps_stop, lanes_refreshed_keeps, refreshed_keeps, woken_keeps, worked_keeps}
 use Rattle.duty_safety.proofs.AskedLemmas.{At, asked_stays}
 
@@ -109,25 +113,49 @@ shortens_keeps W first s p q h =
 -- ---- a turn
 
 module _ (setup : DutySetup) (W : Wait) (first : ℕ) (cap : first < 2 ^ 64) (bounds : Bounds setup W first) where
-  cast_keeps : (s : Standing) (ds : List Duty) (proposed : List DutyResult) → first ≤ s.slot → Keeps W (From first) (cast_plan setup s ds proposed) (cast_plan setup s ds proposed)
-  cast_keeps s ds proposed h =
-      let behind : List DutyResult → NextPlan = λ cast. close_plan setup s.slot (blocks_in ds ++ votes_in ds) (proposed ++ cast) (at_slot (next_slot s.slot) s) in
-      keeps_ask W (From first) (Works (work_of setup s) (length (blocks_in ds)) (votes_in ds)) (λ r. worked r behind) (λ r. worked r behind)
-      (λ r w. worked_keeps W (From first) r behind behind (λ cast. close_keeps W first setup s.slot (blocks_in ds ++ votes_in ds) (proposed ++ cast) (at_slot (next_slot s.slot) s) (slot_behind first s.slot cap h)))
+  tried_keep : (s : Standing) (ds : List Duty) (ends : List Ended) (tasks : List Task) (reached : ℕ) → first ≤ s.slot → W (votes_start setup.genesis_time s.slot) reached
+      → Keeps W (From first) (tried_plan setup s ds ends tasks reached) (tried_on_time setup s ds ends tasks)
+  tried_keep s ds ends tasks reached h w =
+      let moment = votes_start setup.genesis_time s.slot in
+      let next = at_slot (next_slot s.slot) s in
+      let after : List Ended → NextPlan = λ again. close_plan setup s.slot ds (merged ends again) next in
+      let tries = tried_on_time setup s ds ends tasks in
+      keeps_else W (From first) (is_missed setup.genesis_time s.slot moment reached) (close_plan setup s.slot ds (results_of ends) (after_works setup.genesis_time reached s)) tries tries
+      (bounds s.slot moment reached h (votes_slot setup.genesis_time s.slot) w)
+      (keeps_ask W (From first) (Works (work_of setup s) 0 tasks) (λ r. worked r after) (λ r. worked r after)
+      (λ r is. worked_keeps W (From first) r after after (λ again. close_keeps W first setup s.slot ds (merged ends again) next (slot_behind first s.slot cap h))))
 
-  votes_keep : (s : Standing) (ds : List Duty) (proposed : List DutyResult) (reached : ℕ) → first ≤ s.slot → W (votes_start setup.genesis_time s.slot) reached
+  left_keep : (s : Standing) (ds : List Duty) (ends : List Ended) (tasks : List Task) → first ≤ s.slot → Keeps W (From first) (left_plan setup s ds ends tasks) (left_on_time setup s ds ends tasks)
+  left_keep s ds ends [] h = close_keeps W first setup s.slot ds (results_of ends) (at_slot (next_slot s.slot) s) (slot_behind first s.slot cap h)
+  left_keep s ds ends (t ∷ tasks) h =
+      let moment = votes_start setup.genesis_time s.slot in
+      let old : ℕ → NextPlan = tried_plan setup s ds ends (t ∷ tasks) in
+      let new : ℕ → NextPlan = λ reached. tried_on_time setup s ds ends (t ∷ tasks) in
+      keeps_ask W (From first) (Waits moment) (λ x. woken x old) (λ x. woken x new) (λ x is. woken_keeps W (From first) moment x old new is (λ reached on. tried_keep s ds ends (t ∷ tasks) reached h on))
+
+  cast_keeps : (s : Standing) (ds : List Duty) (proposed : List Ended) → first ≤ s.slot
+      → Keeps W (From first) (works (work_of setup s) (length (blocks_in ds)) (fresh (votes_in ds)) (λ cast. again_plan setup s (blocks_in ds ++ votes_in ds) (proposed ++ cast))) (cast_plan setup s ds proposed)
+  cast_keeps s ds proposed h =
+      let all : List Duty = blocks_in ds ++ votes_in ds in
+      let old : List Ended → NextPlan = λ cast. again_plan setup s all (proposed ++ cast) in
+      let new : List Ended → NextPlan = λ cast. again_on_time setup s all (proposed ++ cast) in
+      keeps_ask W (From first) (Works (work_of setup s) (length (blocks_in ds)) (fresh (votes_in ds))) (λ r. worked r old) (λ r. worked r new)
+      (λ r w. worked_keeps W (From first) r old new (λ cast. left_keep s all (proposed ++ cast) (again_tasks all (proposed ++ cast)) h))
+
+  votes_keep : (s : Standing) (ds : List Duty) (proposed : List Ended) (reached : ℕ) → first ≤ s.slot → W (votes_start setup.genesis_time s.slot) reached
       → Keeps W (From first) (votes_plan setup s ds proposed reached) (cast_plan setup s ds proposed)
   votes_keep s ds proposed reached h w =
       let moment = votes_start setup.genesis_time s.slot in
-      keeps_else W (From first) (is_missed setup.genesis_time s.slot moment reached) (close_plan setup s.slot (blocks_in ds) proposed (at_moment setup.genesis_time moment reached s)) (cast_plan setup s ds proposed) (cast_plan setup s ds proposed)
+      let cast = works (work_of setup s) (length (blocks_in ds)) (fresh (votes_in ds)) (λ ends. again_plan setup s (blocks_in ds ++ votes_in ds) (proposed ++ ends)) in
+      keeps_else W (From first) (is_missed setup.genesis_time s.slot moment reached) (close_plan setup s.slot (blocks_in ds) (results_of proposed) (at_moment setup.genesis_time moment reached s)) cast (cast_plan setup s ds proposed)
       (bounds s.slot moment reached h (votes_slot setup.genesis_time s.slot) w) (cast_keeps s ds proposed h)
 
   due_keeps : (s : Standing) (ds : List Duty) → first ≤ s.slot → Keeps W (From first) (due_plan setup s ds) (done_plan setup s ds)
   due_keeps s ds h =
       let moment = votes_start setup.genesis_time s.slot in
-      let old : List DutyResult → NextPlan = λ proposed. waits moment (votes_plan setup s ds proposed) in
-      let new : List DutyResult → NextPlan = λ proposed. waits moment (λ reached. cast_plan setup s ds proposed) in
-      keeps_ask W (From first) (Works (work_of setup s) 0 (blocks_in ds)) (λ r. worked r old) (λ r. worked r new) (λ r w. worked_keeps W (From first) r old new (λ proposed.
+      let old : List Ended → NextPlan = λ proposed. waits moment (votes_plan setup s ds proposed) in
+      let new : List Ended → NextPlan = λ proposed. waits moment (λ reached. cast_plan setup s ds proposed) in
+      keeps_ask W (From first) (Works (work_of setup s) 0 (fresh (blocks_in ds))) (λ r. worked r old) (λ r. worked r new) (λ r w. worked_keeps W (From first) r old new (λ proposed.
       keeps_ask W (From first) (Waits moment) (λ x. woken x (votes_plan setup s ds proposed)) (λ x. woken x (λ reached. cast_plan setup s ds proposed)) (λ x is.
       woken_keeps W (From first) moment x (votes_plan setup s ds proposed) (λ reached. cast_plan setup s ds proposed) is (λ reached on. votes_keep s ds proposed reached h on))))
 

@@ -6,7 +6,10 @@ use Rattle.desk_machine.specs.declared.call.DeskReply.{DeskReply}
 use Rattle.desk_machine.specs.declared.call.DeskReply.TheVariants as reply
 use Rattle.duty_schedule.specs.declared.rows.Duty.{Duty}
 use Rattle.call_plans.specs.Plans.{Done, Stop, bind}
-use Rattle.duty_plans.specs.declared.result.DutyResult.{DutyResult}
+use Rattle.duty_plans.specs.declared.ended.Ended.{Ended}
+use Rattle.duty_plans.specs.declared.task.Task.{Task}
+use Rattle.duty_plans.specs.Ends.{merged, results_of}
+use Rattle.duty_plans.specs.Tasks.{again_tasks, fresh}
 use Rattle.duty_plans.specs.declared.setup.DutySetup.{DutySetup}
 use Rattle.duty_turns.specs.declared.held.DutyEnd.{DutyEnd}
 use Rattle.duty_turns.specs.declared.held.DutyEnd.TheVariants as end
@@ -38,14 +41,24 @@ AreOnTime setup steps = AllWaits (WakesInSlot setup) steps
 
 -- ---- turns that drop nothing, whatever moment is reached
 
+-- what was granted and not sent is tried once more, and a line is written of each duty
+abbrev pub tried_on_time : DutySetup → Standing → List Duty → List Ended → List Task → NextPlan
+tried_on_time setup s ds ends tasks = works (work_of setup s) 0 tasks (λ again. close_plan setup s.slot ds (merged ends again) (at_slot (next_slot s.slot) s))
+
+abbrev pub left_on_time : DutySetup → Standing → List Duty → List Ended → List Task → NextPlan
+left_on_time setup s ds ends [] = close_plan setup s.slot ds (results_of ends) (at_slot (next_slot s.slot) s)
+left_on_time setup s ds ends (t ∷ tasks) = waits (votes_start setup.genesis_time s.slot) (λ reached. tried_on_time setup s ds ends (t ∷ tasks))
+
+abbrev pub again_on_time : DutySetup → Standing → List Duty → List Ended → NextPlan
+again_on_time setup s ds ends = left_on_time setup s ds ends (again_tasks ds ends)
+
 -- the votes are cast, and a line is written of each duty
-abbrev pub cast_plan : DutySetup → Standing → List Duty → List DutyResult → NextPlan
-cast_plan setup s ds proposed =
-    works (work_of setup s) (length (blocks_in ds)) (votes_in ds) (λ cast. close_plan setup s.slot (blocks_in ds ++ votes_in ds) (proposed ++ cast) (at_slot (next_slot s.slot) s))
+abbrev pub cast_plan : DutySetup → Standing → List Duty → List Ended → NextPlan
+cast_plan setup s ds proposed = works (work_of setup s) (length (blocks_in ds)) (fresh (votes_in ds)) (λ cast. again_on_time setup s (blocks_in ds ++ votes_in ds) (proposed ++ cast))
 
 -- what is due is done: blocks at once, votes a third into the slot
 abbrev pub done_plan : DutySetup → Standing → List Duty → NextPlan
-done_plan setup s ds = works (work_of setup s) 0 (blocks_in ds) (λ proposed. waits (votes_start setup.genesis_time s.slot) (λ reached. cast_plan setup s ds proposed))
+done_plan setup s ds = works (work_of setup s) 0 (fresh (blocks_in ds)) (λ proposed. waits (votes_start setup.genesis_time s.slot) (λ reached. cast_plan setup s ds proposed))
 
 abbrev pub ready_on_time : DutySetup → List PubKey → Option Standing → NextPlan
 ready_on_time setup active None = Done (Err end.Write)

@@ -4,7 +4,11 @@ use Rattle.edge_kit.specs.declared.bytes.PubKey.{PubKey}
 use Rattle.duty_schedule.specs.Answers.{TakenAnswer}
 use Rattle.duty_schedule.specs.Due.{IsDue}
 use Rattle.duty_schedule.specs.declared.rows.Duty.{Duty}
+use Rattle.duty_plans.specs.declared.ended.Ended.{Ended}
 use Rattle.duty_plans.specs.declared.result.DutyResult.{DutyResult}
+use Rattle.duty_plans.specs.declared.task.Task.{Task}
+use Rattle.duty_plans.specs.Ends.{merged, results_of}
+use Rattle.duty_plans.specs.Tasks.{again_tasks, fresh}
 use Rattle.duty_plans.specs.declared.setup.DutySetup.{DutySetup}
 use Rattle.duty_plans.specs.declared.work.SlotWork.{SlotWork}
 use Rattle.duty_plans.specs.Slots.{EachDone}
@@ -15,20 +19,28 @@ use Rattle.duty_turns.specs.Times.{votes_start}
 use Rattle.duty_turns.specs.TurnSteps.{TurnStep, LooksUp, Waits, Works, Writes, Due, Woke, Worked, Wrote}
 use Rattle.duty_turns.specs.Turns.{Next, blocks_in, votes_in}
 
--- each lane, from one on, did the duties that are dealt to it, one after another, each with the result that is dealt to the lane with it,
+-- each lane, from one on, did the tasks that are dealt to it, one after another, each with the end that is dealt to the lane with it,
 -- which is that of its own steps
-abbrev pub EachDoneIn : SlotWork → ℕ → ℕ → ℕ → List Duty → List DutyResult → List (List DutyStep) → Type 0
-EachDoneIn work lanes lane place ds results [] = Unit {0}
-EachDoneIn work lanes lane place ds results (steps ∷ others) =
-    EachDone work (dealt lanes lane place ds) steps (dealt lanes lane place results) × EachDoneIn work lanes (lane + 1) place ds results others
+abbrev pub EachDoneIn : SlotWork → ℕ → ℕ → ℕ → List Task → List Ended → List (List DutyStep) → Type 0
+EachDoneIn work lanes lane place tasks ends [] = Unit {0}
+EachDoneIn work lanes lane place tasks ends (steps ∷ others) =
+    EachDone work (dealt lanes lane place tasks) steps (dealt lanes lane place ends) × EachDoneIn work lanes (lane + 1) place tasks ends others
 
--- these duties, of which the first has this place in the slot, were all done in lanes, of which there is one at least
-pub record AllDone (work : SlotWork) (place : ℕ) (ds : List Duty) (lanes : List (List DutyStep)) (results : List DutyResult) : Type 0 where
+-- these tasks, of which the first has this place in the slot, were all done in lanes, of which there is one at least
+pub record AllDone (work : SlotWork) (place : ℕ) (tasks : List Task) (lanes : List (List DutyStep)) (ends : List Ended) : Type 0 where
   pub some : 0 < length lanes
-  pub each : EachDoneIn work (length lanes) 0 place ds results lanes
+  pub each : EachDoneIn work (length lanes) 0 place tasks ends lanes
+
+-- Duties ended so, and these steps followed: where nothing was left of them, none, and they ended at last as they did at first; else all
+-- that was left was tried once more in lanes, a third into the slot or later, and each other try's end stands for the first one's.
+abbrev pub AreTried : DutySetup → ℕ → SlotWork → List Ended → List Task → List TurnStep → List DutyResult → Type 0
+AreTried setup slot work ends [] steps results = (steps ≡ []) × (results ≡ results_of ends)
+AreTried setup slot work ends (t ∷ tasks) steps results = (reached : ℕ) × (made : List (List DutyStep)) × (again : List Ended)
+    × (steps ≡ (Waits (votes_start setup.genesis_time slot), Woke reached) ∷ (Works work 0 (t ∷ tasks), Worked made (Some again)) ∷ [])
+    × AllDone work 0 (t ∷ tasks) made again × (length again ≡ length (t ∷ tasks)) × (results ≡ merged ends again)
 
 -- The duties that are due at the slot were looked up. Blocks were done at once, and votes a third into the slot, in lanes, each duty with
--- a result of its own steps; and then a line was written of each, blocks before votes.
+-- an end of its own steps; what was left of them was tried once more; and then a line was written of each, blocks before votes.
 pub record AllTold (setup : DutySetup) (slot : ℕ) (steps : List TurnStep) : Type 0 where
   pub front : List TurnStep
   pub answers : List TakenAnswer
@@ -36,20 +48,23 @@ pub record AllTold (setup : DutySetup) (slot : ℕ) (steps : List TurnStep) : Ty
   pub due : List Duty
   pub work : SlotWork
   pub made : List (List DutyStep)
-  pub proposed : List DutyResult
+  pub proposed : List Ended
   pub reached : ℕ
   pub voted : List (List DutyStep)
-  pub cast : List DutyResult
+  pub cast : List Ended
+  pub tries : List TurnStep
+  pub results : List DutyResult
   pub text : List ℕ
   pub behind : List TurnStep
-  pub are : steps ≡ front ++ (LooksUp answers slot active, Due due) ∷ (Works work 0 (blocks_in due), Worked made (Some proposed)) ∷ (Waits (votes_start setup.genesis_time slot), Woke reached)
-      ∷ (Works work (length (blocks_in due)) (votes_in due), Worked voted (Some cast)) ∷ (Writes text, Wrote true text) ∷ behind
+  pub are : steps ≡ front ++ (LooksUp answers slot active, Due due) ∷ (Works work 0 (fresh (blocks_in due)), Worked made (Some proposed)) ∷ (Waits (votes_start setup.genesis_time slot), Woke reached)
+      ∷ (Works work (length (blocks_in due)) (fresh (votes_in due)), Worked voted (Some cast)) ∷ (tries ++ (Writes text, Wrote true text) ∷ behind)
   pub found : IsDue answers slot active due
   pub work_slot : work.slot ≡ slot
-  pub blocks : AllDone work 0 (blocks_in due) made proposed
-  pub votes : AllDone work (length (blocks_in due)) (votes_in due) voted cast
-  pub lines : text ≡ duty_lines slot due (proposed ++ cast)
-  pub each : length (proposed ++ cast) ≡ length due
+  pub blocks : AllDone work 0 (fresh (blocks_in due)) made proposed
+  pub votes : AllDone work (length (blocks_in due)) (fresh (votes_in due)) voted cast
+  pub tried : AreTried setup slot work (proposed ++ cast) (again_tasks due (proposed ++ cast)) tries results
+  pub lines : text ≡ duty_lines slot due results
+  pub each : length results ≡ length due
 
 -- where the turn went on to the next
 abbrev pub ToldIfNext : DutySetup → ℕ → List TurnStep → Next → Type 0

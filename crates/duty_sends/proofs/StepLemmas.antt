@@ -46,7 +46,11 @@ use Rattle.call_plans.specs.Paths.{Carries}
 use Rattle.call_plans.proofs.PathLemmas.{carries_step, carries_end, carries_cut}
 use Rattle.duty_plans.specs.declared.got.Got.{Got}
 use Rattle.duty_plans.specs.declared.got.Got.TheVariants as got
+use Rattle.duty_plans.specs.declared.ended.Ended.{Ended}
+use Rattle.duty_plans.specs.declared.ended.Unsent.{Unsent}
+use Rattle.duty_plans.specs.declared.ended.Unsent.TheVariants as granted
 use Rattle.duty_plans.specs.declared.result.DutyResult.{DutyResult}
+use Rattle.duty_plans.specs.Ends.{left_by, over}
 use Rattle.duty_plans.specs.Reading.{grant_of, judged, posted_of}
 use Rattle.duty_plans.specs.Steps.{DutyPlan, DutyStep, Tried, Calls, Signs, Reveals, Asks, Posts, Replies, Signed, Answered, Taken, Fits, came_of, told_message}
 use Rattle.duty_plans.specs.Hands.{Hand, Free, Holds, Sends, MayAsk, MayDo, begun, hand_called, hand_given, hand_of}
@@ -68,7 +72,7 @@ tried_so told old new result t = ⊎_elim
 
 module _ {K : Type 0} (leads : Leads K) (none : NoneLed leads) where
   -- a question, before what follows by its answer
-  pub runs_ask : (d : K) (h : Hand) (s : SignerSeen) (ns ms : List Seen) (now : Seat K) (a : Ask) (result : Result Answer NoAnswer) (k : Result Answer NoAnswer → DutyPlan DutyResult) (v : Option DutyResult)
+  pub runs_ask : (d : K) (h : Hand) (s : SignerSeen) (ns ms : List Seen) (now : Seat K) (a : Ask) (result : Result Answer NoAnswer) (k : Result Answer NoAnswer → DutyPlan Ended) (v : Option Ended)
       → MayAsk h a → Tries (told_ask a) ns ms result → IfOk result (λ answer. fits a answer ≡ true)
       → Carries Fits (Does leads) (k result) (at_seat d (begun h) s ms) now v → Carries Fits (Does leads) (asks a k) (at_seat d h s ns) now v
   runs_ask d h s ns ms now a result k v may tries fit rest =
@@ -79,7 +83,7 @@ module _ {K : Type 0} (leads : Leads K) (none : NoneLed leads) where
       (subst (λ (r : Result Answer NoAnswer). Carries Fits (Does leads) (k r) (at_seat d (begun h) s ms) now v) t.came rest)
 
   -- a post, before what follows by what became of it
-  pub runs_post : (d : K) (s : SignerSeen) (ns ms : List Seen) (now : Seat K) (grant : OpenGrant) (p : Post) (result : Result (Unit {0}) NoAnswer) (k : Result (Unit {0}) NoAnswer → DutyPlan DutyResult) (v : Option DutyResult)
+  pub runs_post : (d : K) (s : SignerSeen) (ns ms : List Seen) (now : Seat K) (grant : OpenGrant) (p : Post) (result : Result (Unit {0}) NoAnswer) (k : Result (Unit {0}) NoAnswer → DutyPlan Ended) (v : Option Ended)
       → Tries (told_post (posted grant.key grant.message p)) ns ms result
       → Carries Fits (Does leads) (k result) (at_seat d (Sends grant) s ms) now v → Carries Fits (Does leads) (posts grant p k) (at_seat d (Holds grant) s ns) now v
   runs_post d s ns ms now grant p result k v tries rest =
@@ -90,7 +94,7 @@ module _ {K : Type 0} (leads : Leads K) (none : NoneLed leads) where
       (subst (λ (r : Result (Unit {0}) NoAnswer). Carries Fits (Does leads) (k r) (at_seat d (Sends grant) s ms) now v) t.came rest)
 
   -- a call of the desk
-  pub runs_call : (d e : K) (h : Hand) (s : SignerSeen) (ns : List Seen) (now : Seat K) (c : DeskCall) (r : DeskReply) (k : DeskReply → DutyPlan DutyResult) (v : Option DutyResult)
+  pub runs_call : (d e : K) (h : Hand) (s : SignerSeen) (ns : List Seen) (now : Seat K) (c : DeskCall) (r : DeskReply) (k : DeskReply → DutyPlan Ended) (v : Option Ended)
       → leads d ((c, r) ∷ []) e → MayDo h (Calls c) → IsKind c r → IsGrantFor c r
       → Carries Fits (Does leads) (k r) (at_seat e (hand_called h c r) s ns) now v → Carries Fits (Does leads) (calls c k) (at_seat d h s ns) now v
   runs_call d e h s ns now c r k v led may kind for rest =
@@ -98,46 +102,54 @@ module _ {K : Type 0} (leads : Leads K) (none : NoneLed leads) where
       (record { desk = led; may = may; hand = refl; signer = signer_none s; nodes = refl }) (kind, for) rest
 
   -- a grant is settled
-  pub runs_settle : (d e : K) (s : SignerSeen) (ns : List Seen) (now : Seat K) (grant : OpenGrant) (o : Outcome) (next : DutyPlan DutyResult) (v : Option DutyResult)
+  pub runs_settle : (d e : K) (s : SignerSeen) (ns : List Seen) (now : Seat K) (grant : OpenGrant) (o : Outcome) (next : DutyPlan Ended) (v : Option Ended)
       → MayDo (hand_of grant o) (Calls (call.Settle grant o))
       → (r : DeskReply) × IsKind (call.Settle grant o) r × IsGrantFor (call.Settle grant o) r × leads d ((call.Settle grant o, r) ∷ []) e
       → Carries Fits (Does leads) next (at_seat e Free s ns) now v → Carries Fits (Does leads) (settles grant o next) (at_seat d (hand_of grant o) s ns) now v
   runs_settle d e s ns now grant o next v may led rest = runs_call d e (hand_of grant o) s ns now (call.Settle grant o) led.0 (λ r. next) v led.3 may led.1 led.2 rest
 
   -- and nothing follows
-  pub runs_spent : (d e : K) (s : SignerSeen) (ns : List Seen) (grant : OpenGrant) (o : Outcome) (next : DutyPlan DutyResult) (v : Option DutyResult)
+  pub runs_spent : (d e : K) (s : SignerSeen) (ns : List Seen) (grant : OpenGrant) (o : Outcome) (next : DutyPlan Ended) (v : Option Ended)
       → MayDo (hand_of grant o) (Calls (call.Settle grant o))
       → (r : DeskReply) × IsKind (call.Settle grant o) r × IsGrantFor (call.Settle grant o) r × leads d ((call.Settle grant o, r) ∷ []) e
       → Follows Fits next [] v → Carries Fits (Does leads) (settles grant o next) (at_seat d (hand_of grant o) s ns) (at_seat e Free s ns) v
   runs_spent d e s ns grant o next v may led f = runs_settle d e s ns (at_seat e Free s ns) grant o next v may led (carries_end Fits (Does leads) next (at_seat e Free s ns) v f)
 
   -- what was read is gone on with
-  pub got_is : {T : Type 0} (g h : Got T) (k : T → DutyPlan DutyResult) (a b : Seat K) (v : Option DutyResult) → g ≡ h → Carries Fits (Does leads) (with_got g k) a b v → Carries Fits (Does leads) (with_got h k) a b v
-  got_is g h k a b v e run = subst (λ x. Carries Fits (Does leads) (with_got x k) a b v) e run
+  pub got_is : {T : Type 0} (g h : Got T) (k : T → DutyPlan Ended) (a b : Seat K) (v : Option Ended) → g ≡ h → Carries Fits (Does leads) (with_got over g k) a b v → Carries Fits (Does leads) (with_got over h k) a b v
+  got_is g h k a b v e run = subst (λ x. Carries Fits (Does leads) (with_got over x k) a b v) e run
 
-  pub under_is : {T : Type 0} (grant : OpenGrant) (g h : Got T) (k : T → DutyPlan DutyResult) (a b : Seat K) (v : Option DutyResult) → g ≡ h → Carries Fits (Does leads) (under grant g k) a b v → Carries Fits (Does leads) (under grant h k) a b v
-  under_is grant g h k a b v e run = subst (λ x. Carries Fits (Does leads) (under grant x k) a b v) e run
+  pub under_is : {T : Type 0} (ends : DutyResult → Ended) (grant : OpenGrant) (g h : Got T) (k : T → DutyPlan Ended) (a b : Seat K) (v : Option Ended) → g ≡ h
+      → Carries Fits (Does leads) (under ends grant g k) a b v → Carries Fits (Does leads) (under ends grant h k) a b v
+  under_is ends grant g h k a b v e run = subst (λ x. Carries Fits (Does leads) (under ends grant x k) a b v) e run
+
+  -- what was given is this
+  pub ends_as : (p : DutyPlan Ended) (a b : Seat K) (v w : Option Ended) → v ≡ w → Carries Fits (Does leads) p a b w → Carries Fits (Does leads) p a b v
+  ends_as p a b v w e run = subst (λ x. Carries Fits (Does leads) p a b x) (sym e) run
 
   -- what was signed is posted, and its grant settled
-  pub runs_sent : (d e : K) (s : SignerSeen) (ns ms : List Seen) (grant : OpenGrant) (p : Post) (result : Result (Unit {0}) NoAnswer) (x : Got (Unit {0})) (v : Option DutyResult)
+  pub runs_sent : (unsent : Unsent) (d e : K) (s : SignerSeen) (ns ms : List Seen) (grant : OpenGrant) (p : Post) (result : Result (Unit {0}) NoAnswer) (x : Got (Unit {0})) (v : Option Ended)
       → Tries (told_post (posted grant.key grant.message p)) ns ms result
       → (r : DeskReply) × IsKind (call.Settle grant outcome.Sent) r × IsGrantFor (call.Settle grant outcome.Sent) r × leads d ((call.Settle grant outcome.Sent, r) ∷ []) e
-      → x ≡ posted_of result → Follows Fits (with_got x sent) [] v
-      → Carries Fits (Does leads) (post_plan grant p) (at_seat d (Holds grant) s ns) (at_seat e Free s ms) v
-  runs_sent d e s ns ms grant p result x v tries led is f =
-      runs_post d s ns ms (at_seat e Free s ms) grant p result (λ t. settles grant outcome.Sent (with_got (posted_of t) sent)) v tries
-      (runs_spent d e s ms grant outcome.Sent (with_got (posted_of result) sent) v refl led (subst (λ y. Follows Fits (with_got y sent) [] v) is f))
+      → x ≡ posted_of result → Follows Fits (with_got (left_by unsent) x (sent unsent)) [] v
+      → Carries Fits (Does leads) (post_plan unsent grant p) (at_seat d (Holds grant) s ns) (at_seat e Free s ms) v
+  runs_sent unsent d e s ns ms grant p result x v tries led is f =
+      let next = λ (y : Got (Unit {0})). with_got (left_by unsent) y (sent unsent) in
+      runs_post d s ns ms (at_seat e Free s ms) grant p result (λ t. settles grant outcome.Sent (next (posted_of t))) v tries
+      (runs_spent d e s ms grant outcome.Sent (next (posted_of result)) v refl led (subst (λ y. Follows Fits (next y) [] v) is f))
 
   -- the block that goes with a request is the one that it was made of
   block_same : (work : SlotWork) (block b : BeaconBlock) (q : SignRequest) → q ≡ block_request work block → q.object ≡ Some (made_of.Block b) → b ≡ block
   block_same work block b q e h = cc
 
-  pub block_is : (work : SlotWork) (grant : OpenGrant) (block b : BeaconBlock) (q : SignRequest) (x : Got Sig) (a c : Seat K) (v : Option DutyResult) → q ≡ block_request work block → q.object ≡ Some (made_of.Block b)
-      → Carries Fits (Does leads) (under grant x (λ s. post_plan grant (block_post b s))) a c v → Carries Fits (Does leads) (under grant x (λ s. post_plan grant (block_post block s))) a c v
-  block_is work grant block b q x a c v e h run = subst (λ (y : BeaconBlock). Carries Fits (Does leads) (under grant x (λ s. post_plan grant (block_post y s))) a c v) (block_same work block b q e h) run
+  pub block_is : (work : SlotWork) (grant : OpenGrant) (block b : BeaconBlock) (q : SignRequest) (x : Got Sig) (a c : Seat K) (v : Option Ended) → q ≡ block_request work block → q.object ≡ Some (made_of.Block b)
+      → Carries Fits (Does leads) (under (left_by (granted.Block b)) grant x (λ s. post_plan (granted.Block b) grant (block_post b s))) a c v
+      → Carries Fits (Does leads) (under (left_by (granted.Block block)) grant x (λ s. post_plan (granted.Block block) grant (block_post block s))) a c v
+  block_is work grant block b q x a c v e h run =
+      subst (λ (y : BeaconBlock). Carries Fits (Does leads) (under (left_by (granted.Block y)) grant x (λ s. post_plan (granted.Block y) grant (block_post y s))) a c v) (block_same work block b q e h) run
 
   -- nothing was got under a grant
-  pub runs_dropped : (d e : K) (s : SignerSeen) (ns : List Seen) (grant : OpenGrant) (next : DutyPlan DutyResult) (v : Option DutyResult)
+  pub runs_dropped : (d e : K) (s : SignerSeen) (ns : List Seen) (grant : OpenGrant) (next : DutyPlan Ended) (v : Option Ended)
       → (r : DeskReply) × IsKind (call.Settle grant outcome.Dropped) r × IsGrantFor (call.Settle grant outcome.Dropped) r × leads d ((call.Settle grant outcome.Dropped, r) ∷ []) e
       → Follows Fits next [] v → Carries Fits (Does leads) (settles grant outcome.Dropped next) (at_seat d (Holds grant) s ns) (at_seat e Free s ns) v
   runs_dropped d e s ns grant next v led f = runs_spent d e s ns grant outcome.Dropped next v refl led f
@@ -149,7 +161,7 @@ module _ {K : Type 0} (leads : Leads K) (none : NoneLed leads) where
   message_told t u grant q s None some h = absurd cc
   message_told t u grant q s (Some m) some h = h
 
-  pub runs_sign : (d : K) (s t : SignerSeen) (ns : List Seen) (now : Seat K) (grant : OpenGrant) (q : SignRequest) (r : SignReply) (k : SignReply → DutyPlan DutyResult) (v : Option DutyResult)
+  pub runs_sign : (d : K) (s t : SignerSeen) (ns : List Seen) (now : Seat K) (grant : OpenGrant) (q : SignRequest) (r : SignReply) (k : SignReply → DutyPlan Ended) (v : Option Ended)
       → IsSome grant.message → IfSome grant.message (λ message. Tells s.told t.told (told_sign (asked grant.key message q) r))
       → s.faults ≤ t.faults → (r ≡ signing.Fault → Rose s.faults t.faults) → s.denials ≤ t.denials → CountsDenial (sign_denied r) s.denials t.denials
       → Carries Fits (Does leads) (k r) (at_seat d (Holds grant) t ns) now v → Carries Fits (Does leads) (signs grant q k) (at_seat d (Holds grant) s ns) now v
@@ -163,7 +175,7 @@ module _ {K : Type 0} (leads : Leads K) (none : NoneLed leads) where
         nodes = refl;
       }) tt rest
 
-  pub runs_reveal : (d : K) (s t : SignerSeen) (ns : List Seen) (now : Seat K) (grant : OpenGrant) (q : PlainRequest) (r : SignReply) (k : SignReply → DutyPlan DutyResult) (v : Option DutyResult)
+  pub runs_reveal : (d : K) (s t : SignerSeen) (ns : List Seen) (now : Seat K) (grant : OpenGrant) (q : PlainRequest) (r : SignReply) (k : SignReply → DutyPlan Ended) (v : Option Ended)
       → Tells s.told t.told (told_plain (plainly_asked grant.key q) r)
       → s.faults ≤ t.faults → (r ≡ signing.Fault → Rose s.faults t.faults) → s.denials ≤ t.denials → CountsDenial (sign_denied r) s.denials t.denials
       → Carries Fits (Does leads) (k r) (at_seat d (Holds grant) t ns) now v → Carries Fits (Does leads) (reveals grant q k) (at_seat d (Holds grant) s ns) now v
@@ -235,12 +247,12 @@ pub has_message : (key : PubKey) (m : Message) (now : ℕ) (r : DeskReply) (g : 
 has_message key m now r g e h = subst (λ (x : Got OpenGrant). HasMessage x) (sym e) (has_message_of key m now r h)
 
 -- a call that asks for leave
-pub runs_leave : {K : Type 0} (leads : Leads K) (none : NoneLed leads) (d e : K) (s : SignerSeen) (ns : List Seen) (now : Seat K) (c : DeskCall) (r : DeskReply) (g : Got OpenGrant) (k : OpenGrant → DutyPlan DutyResult) (v : Option DutyResult)
+pub runs_leave : {K : Type 0} (leads : Leads K) (none : NoneLed leads) (d e : K) (s : SignerSeen) (ns : List Seen) (now : Seat K) (c : DeskCall) (r : DeskReply) (g : Got OpenGrant) (k : OpenGrant → DutyPlan Ended) (v : Option Ended)
     → leads d ((c, r) ∷ []) e → MayDo Free (Calls c) → hand_called Free c r ≡ hand_given Free r → IsKind c r → IsGrantFor c r → g ≡ grant_of r
-    → Carries Fits (Does leads) (with_got g k) (at_seat e (given_hand g) s ns) now v
-    → Carries Fits (Does leads) (calls c (λ x. with_got (grant_of x) k)) (at_seat d Free s ns) now v
+    → Carries Fits (Does leads) (with_got over g k) (at_seat e (given_hand g) s ns) now v
+    → Carries Fits (Does leads) (calls c (λ x. with_got over (grant_of x) k)) (at_seat d Free s ns) now v
 runs_leave leads none d e s ns now c r g k v led may called kind for is rest =
-    let at : Carries Fits (Does leads) (with_got (grant_of r) k) (at_seat e (given_hand (grant_of r)) s ns) now v =
-    subst (λ (x : Got OpenGrant). Carries Fits (Does leads) (with_got x k) (at_seat e (given_hand x) s ns) now v) is rest in
-    runs_call leads none d e Free s ns now c r (λ x. with_got (grant_of x) k) v led may kind for
-    (subst (λ (h : Hand). Carries Fits (Does leads) (with_got (grant_of r) k) (at_seat e h s ns) now v) (given_leave r ∙ sym called) at)
+    let at : Carries Fits (Does leads) (with_got over (grant_of r) k) (at_seat e (given_hand (grant_of r)) s ns) now v =
+    subst (λ (x : Got OpenGrant). Carries Fits (Does leads) (with_got over x k) (at_seat e (given_hand x) s ns) now v) is rest in
+    runs_call leads none d e Free s ns now c r (λ x. with_got over (grant_of x) k) v led may kind for
+    (subst (λ (h : Hand). Carries Fits (Does leads) (with_got over (grant_of r) k) (at_seat e h s ns) now v) (given_leave r ∙ sym called) at)

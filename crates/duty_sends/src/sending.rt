@@ -1,5 +1,5 @@
 //! What was signed is posted, and a grant is settled.
-ghost use Rattle.std.specs.Prelude.{◌∷◌, []};
+ghost use Rattle.std.specs.Prelude.{◌∷◌, [], option_map};
 ghost use Rattle.std.specs.Result.{result_ok};
 ghost use Rattle.desk_machine.specs.Grants.{IsGrantFor};
 ghost use Rattle.desk_machine.specs.Kinds.{IsKind};
@@ -8,19 +8,20 @@ ghost use Rattle.desk_machine.specs.declared.call.Outcome.{Outcome};
 ghost use Rattle.client_calls.specs.Seats.{SignerSeen};
 ghost use Rattle.call_plans.specs.Paths.{Carries};
 ghost use Rattle.call_plans.specs.Plans.{Follows};
+ghost use Rattle.duty_plans.specs.Ends.{left_by};
 ghost use Rattle.duty_plans.specs.Hands.{Free, Holds};
 ghost use Rattle.duty_plans.specs.Plans.{post_plan, sent, with_got};
 ghost use Rattle.duty_plans.specs.Seats.{Does, at_seat, nodes_seen};
 ghost use Rattle.duty_plans.specs.Steps.{Fits};
 
 use desk_machine::{DeskCall, DeskCalls, DeskReply, Grant, Outcome};
-use duty_plans::{DutyResult, Got, posted_in};
+use duty_plans::{DutyResult, Got, Unsent, posted_in};
 use node_calls::{Node, Post};
 use node_fallback::Nodes;
 use std::alloc::AllocError;
 
 /// Posts what was signed under a grant, and settles the grant as sent, whatever became of the post: other nodes may have
-/// it. The result says how the duty ends.
+/// it. The result says how the duty ends, whatever the grant was for.
 ///
 /// # Errors
 ///
@@ -34,9 +35,9 @@ pub fn send<K: DeskCalls, N: Node + Drop>(
     requires ready { K.ready desk.old }
     requires settles { (o : Outcome) → K.allows desk.old (DeskCall.Settle grant o) }
     ensures ready { K.ready desk.new }
-    ensures runs { (s : SignerSeen) → Carries Fits (Does K.leads) (post_plan grant post.now)
+    ensures runs { (s : SignerSeen) (unsent : Unsent) → Carries Fits (Does K.leads) (post_plan unsent grant post.now)
         (at_seat desk.old (Holds grant) s (nodes_seen N.told N.faults nodes.old))
-        (at_seat desk.new Free s (nodes_seen N.told N.faults nodes.new)) (result_ok result) }
+        (at_seat desk.new Free s (nodes_seen N.told N.faults nodes.new)) (option_map (λ by. left_by unsent by) (result_ok result)) }
 {
     let taken = nodes.post(&grant, post);
     settle(desk, grant, Outcome::Sent);
@@ -45,7 +46,7 @@ pub fn send<K: DeskCalls, N: Node + Drop>(
 
 /// How a duty ends after its post.
 fn end_of(posted: Got<()>) -> Result<DutyResult, AllocError>
-    ensures { Follows Fits (with_got posted sent) [] (result_ok result) }
+    ensures { (unsent : Unsent) → Follows Fits (with_got (left_by unsent) posted (sent unsent)) [] (option_map (λ by. left_by unsent by) (result_ok result)) }
 {
     match posted {
         Got::Given(()) => Ok(DutyResult::Sent),

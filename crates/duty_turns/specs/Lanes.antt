@@ -1,4 +1,4 @@
--- Duties in lanes: how they are dealt, and what all lanes do beside each other.
+-- What is done of duties in lanes: how it is dealt, and what all lanes do beside each other.
 use Rattle.std.specs.Prelude.{◌≡◌, ℕ, ◌+◌, ◌%◌, ◌==◌, if◌then◌else◌, Bool, true, false, List, [], ◌∷◌, length, Option, Some, None, Result}
 use Rattle.desk_machine.specs.declared.call.DeskCall.{DeskCall}
 use Rattle.desk_machine.specs.declared.call.DeskReply.{DeskReply}
@@ -6,10 +6,10 @@ use Rattle.node_calls.specs.declared.answer.Answer.{Answer}
 use Rattle.node_calls.specs.declared.answer.NodeFault.{NodeFault}
 use Rattle.node_fallback.specs.Refreshing.{AreAskedFirst, AreFlagged}
 use Rattle.node_fallback.specs.Seen.{Seen}
-use Rattle.duty_schedule.specs.declared.rows.Duty.{Duty}
 use Rattle.call_plans.specs.Plans.{Follows}
 use Rattle.call_plans.specs.Paths.{Path}
-use Rattle.duty_plans.specs.declared.result.DutyResult.{DutyResult}
+use Rattle.duty_plans.specs.declared.ended.Ended.{Ended}
+use Rattle.duty_plans.specs.declared.task.Task.{Task}
 use Rattle.duty_plans.specs.declared.work.SlotWork.{SlotWork}
 use Rattle.duty_plans.specs.Plans.{slot_plan}
 use Rattle.duty_plans.specs.Steps.{DutyStep}
@@ -23,21 +23,21 @@ abbrev pub dealt : {X : Type 0} → ℕ → ℕ → ℕ → List X → List X
 dealt lanes lane place [] = []
 dealt lanes lane place (x ∷ xs) = if place % lanes == lane then x ∷ dealt lanes lane (place + 1) xs else dealt lanes lane (place + 1) xs
 
--- A lane did its share of these duties, of which the first has this place, and had the share of these results. Where there are none, memory
+-- A lane did its share of these tasks, of which the first has this place, and had the share of these ends. Where there are none, memory
 -- ran out in some lane: then each did its share, or the first few steps of it.
-abbrev pub DidShare : SlotWork → ℕ → List Duty → Option (List DutyResult) → ℕ → ℕ → List DutyStep → Type 0
-DidShare work place ds (Some results) lanes lane steps = Follows duties.Fits (slot_plan work (dealt lanes lane place ds)) steps (Some (dealt lanes lane place results))
-DidShare work place ds None lanes lane steps = (v : Option (List DutyResult)) × Follows duties.Fits (slot_plan work (dealt lanes lane place ds)) steps v
+abbrev pub DidShare : SlotWork → ℕ → List Task → Option (List Ended) → ℕ → ℕ → List DutyStep → Type 0
+DidShare work place tasks (Some ends) lanes lane steps = Follows duties.Fits (slot_plan work (dealt lanes lane place tasks)) steps (Some (dealt lanes lane place ends))
+DidShare work place tasks None lanes lane steps = (v : Option (List Ended)) × Follows duties.Fits (slot_plan work (dealt lanes lane place tasks)) steps v
 
 -- so each lane did, from one on
-abbrev pub DidShares : SlotWork → ℕ → List Duty → Option (List DutyResult) → ℕ → ℕ → List (List DutyStep) → Type 0
-DidShares work place ds results lanes lane [] = Unit {0}
-DidShares work place ds results lanes lane (steps ∷ others) = DidShare work place ds results lanes lane steps × DidShares work place ds results lanes (lane + 1) others
+abbrev pub DidShares : SlotWork → ℕ → List Task → Option (List Ended) → ℕ → ℕ → List (List DutyStep) → Type 0
+DidShares work place tasks ends lanes lane [] = Unit {0}
+DidShares work place tasks ends lanes lane (steps ∷ others) = DidShare work place tasks ends lanes lane steps × DidShares work place tasks ends lanes (lane + 1) others
 
--- each duty has a result
-abbrev pub HasEach : List Duty → Option (List DutyResult) → Type 0
-HasEach ds None = Unit {0}
-HasEach ds (Some results) = length results ≡ length ds
+-- each task has an end
+abbrev pub HasEach : List Task → Option (List Ended) → Type 0
+HasEach tasks None = Unit {0}
+HasEach tasks (Some ends) = length ends ≡ length tasks
 
 -- ---- the lanes, as they are seen: a desk, a signing service and nodes each, and no grant in hand
 

@@ -24,11 +24,15 @@ use Rattle.duty_schedule.specs.Answers.{TakenAnswer}
 use Rattle.duty_schedule.specs.declared.rows.Duty.{Duty}
 use Rattle.duty_schedule.specs.declared.rows.Duty.TheVariants as duty
 use Rattle.call_plans.specs.Plans.{Done, Stop, Ask as Step, bind}
+use Rattle.duty_plans.specs.declared.ended.Ended.{Ended}
 use Rattle.duty_plans.specs.declared.result.DutyResult.{DutyResult}
+use Rattle.duty_plans.specs.declared.task.Task.{Task}
 use Rattle.duty_plans.specs.declared.setup.DutySetup.{DutySetup}
 use Rattle.duty_plans.specs.declared.work.SlotWork.{SlotWork}
+use Rattle.duty_plans.specs.Ends.{merged, results_of}
 use Rattle.duty_plans.specs.Plans.{answer_reply, desk_reply, slot_work}
 use Rattle.duty_plans.specs.Steps.{Calls, Asks}
+use Rattle.duty_plans.specs.Tasks.{again_tasks, fresh}
 use Rattle.duty_turns.specs.declared.held.DutyEnd.{DutyEnd}
 use Rattle.duty_turns.specs.declared.held.DutyEnd.TheVariants as end
 use Rattle.slash_defs.specs.declared.book.Book.{Book}
@@ -89,12 +93,12 @@ found r next_by = Stop
 abbrev pub looks_up : {X : Type 0} → List TakenAnswer → ℕ → List PubKey → (List Duty → TurnPlan X) → TurnPlan X
 looks_up answers slot active next_by = Step (LooksUp answers slot active) (λ r. found r next_by)
 
-abbrev pub worked : {X : Type 0} → TurnReply → (List DutyResult → TurnPlan X) → TurnPlan X
-worked (Worked lanes (Some results)) next_by = next_by results
+abbrev pub worked : {X : Type 0} → TurnReply → (List Ended → TurnPlan X) → TurnPlan X
+worked (Worked lanes (Some ends)) next_by = next_by ends
 worked r next_by = Stop
 
-abbrev pub works : {X : Type 0} → SlotWork → ℕ → List Duty → (List DutyResult → TurnPlan X) → TurnPlan X
-works work place ds next_by = Step (Works work place ds) (λ r. worked r next_by)
+abbrev pub works : {X : Type 0} → SlotWork → ℕ → List Task → (List Ended → TurnPlan X) → TurnPlan X
+works work place tasks next_by = Step (Works work place tasks) (λ r. worked r next_by)
 
 abbrev pub written : {X : Type 0} → TurnReply → TurnPlan (Option X) → TurnPlan (Option X)
 written (Wrote true piece) next = next
@@ -312,17 +316,38 @@ work_of setup s = slot_work setup.genesis (record { fork = s.fork; genesis = set
 abbrev pub at_moment : ℕ → ℕ → ℕ → Standing → Standing
 at_moment genesis_time moment reached s = at_slot (slot_of genesis_time reached) (record s { answers = if nat_lt reached moment then [] else s.answers })
 
+-- what stands where a slot's duties were done: the next turn is of the next slot, but where the clock was set back meanwhile
+abbrev pub after_works : ℕ → ℕ → Standing → Standing
+after_works genesis_time reached s =
+    if nat_lt reached (votes_start genesis_time s.slot) then at_moment genesis_time (votes_start genesis_time s.slot) reached s else at_slot (next_slot s.slot) s
+
+-- while the slot lasts, what was granted and not sent is tried once more, and the slot is closed with how each duty ended at last; at another
+-- moment it is closed with how each ended at first
+abbrev pub tried_plan : DutySetup → Standing → List Duty → List Ended → List Task → ℕ → NextPlan
+tried_plan setup s ds ends tasks reached =
+    if is_missed setup.genesis_time s.slot (votes_start setup.genesis_time s.slot) reached
+    then close_plan setup s.slot ds (results_of ends) (after_works setup.genesis_time reached s)
+    else works (work_of setup s) 0 tasks (λ again. close_plan setup s.slot ds (merged ends again) (at_slot (next_slot s.slot) s))
+
+-- the slot's duties were done and ended so: where nothing is left to be tried once more, the slot is closed; else the moment is looked at first
+abbrev pub left_plan : DutySetup → Standing → List Duty → List Ended → List Task → NextPlan
+left_plan setup s ds ends [] = close_plan setup s.slot ds (results_of ends) (at_slot (next_slot s.slot) s)
+left_plan setup s ds ends (t ∷ tasks) = waits (votes_start setup.genesis_time s.slot) (tried_plan setup s ds ends (t ∷ tasks))
+
+abbrev pub again_plan : DutySetup → Standing → List Duty → List Ended → NextPlan
+again_plan setup s ds ends = left_plan setup s ds ends (again_tasks ds ends)
+
 -- a third into the slot the votes are cast, whose places are after those of the blocks; at another moment they are dropped, and the
 -- next turn is of the slot of that moment
-abbrev pub votes_plan : DutySetup → Standing → List Duty → List DutyResult → ℕ → NextPlan
+abbrev pub votes_plan : DutySetup → Standing → List Duty → List Ended → ℕ → NextPlan
 votes_plan setup s ds proposed reached =
     if is_missed setup.genesis_time s.slot (votes_start setup.genesis_time s.slot) reached
-    then close_plan setup s.slot (blocks_in ds) proposed (at_moment setup.genesis_time (votes_start setup.genesis_time s.slot) reached s)
-    else works (work_of setup s) (length (blocks_in ds)) (votes_in ds) (λ cast. close_plan setup s.slot (blocks_in ds ++ votes_in ds) (proposed ++ cast) (at_slot (next_slot s.slot) s))
+    then close_plan setup s.slot (blocks_in ds) (results_of proposed) (at_moment setup.genesis_time (votes_start setup.genesis_time s.slot) reached s)
+    else works (work_of setup s) (length (blocks_in ds)) (fresh (votes_in ds)) (λ cast. again_plan setup s (blocks_in ds ++ votes_in ds) (proposed ++ cast))
 
 -- what is due is done: blocks at once, votes a third into the slot
 abbrev pub due_plan : DutySetup → Standing → List Duty → NextPlan
-due_plan setup s ds = works (work_of setup s) 0 (blocks_in ds) (λ proposed. waits (votes_start setup.genesis_time s.slot) (votes_plan setup s ds proposed))
+due_plan setup s ds = works (work_of setup s) 0 (fresh (blocks_in ds)) (λ proposed. waits (votes_start setup.genesis_time s.slot) (votes_plan setup s ds proposed))
 
 abbrev pub with_active : List PubKey → Standing → Standing
 with_active active s = record s { active = Some active }

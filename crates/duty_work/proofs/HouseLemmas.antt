@@ -21,7 +21,8 @@ use Rattle.duty_schedule.specs.Due.{IsDue}
 use Rattle.duty_schedule.specs.declared.rows.Duty.{Duty}
 use Rattle.duty_plans.specs.Hands.{Free, MayCall, hand_called}
 use Rattle.duty_plans.specs.Steps.{Asks, Calls, Replies}
-use Rattle.duty_plans.specs.declared.result.DutyResult.{DutyResult}
+use Rattle.duty_plans.specs.declared.ended.Ended.{Ended}
+use Rattle.duty_plans.specs.declared.task.Task.{Task}
 use Rattle.duty_plans.specs.declared.work.SlotWork.{SlotWork}
 use Rattle.duty_plans.specs.Seats.{Seat}
 use Rattle.duty_turns.specs.Lanes.{AreRefreshed}
@@ -111,12 +112,12 @@ module _ {K : Type 0} (leads : Leads K) (start : Option ℕ) where
       → IsDue answers slot active ds → Carries Fits (Does leads start) (k ds) a b v → Carries Fits (Does leads start) (looks_up answers slot active k) a b v
   turn_looks a b answers slot active ds k v due rest = carries_step Fits (Does leads start) (LooksUp answers slot active) (Due ds) _ a a b v refl due rest
 
-  pub turn_works : {X : Type 0} (d : K) (ls ks : List (Seat K)) (ns : List Seen) (o : SinkSeen) (b : House K) (work : SlotWork) (place : ℕ) (ds : List Duty) (rs : List DutyResult) (k : List DutyResult → TurnPlan X) (v : Option X)
+  pub turn_works : {X : Type 0} (d : K) (ls ks : List (Seat K)) (ns : List Seen) (o : SinkSeen) (b : House K) (work : SlotWork) (place : ℕ) (ds : List Task) (rs : List Ended) (k : List Ended → TurnPlan X) (v : Option X)
       → WorksDone leads work place ds ls ks (Some rs) → Carries Fits (Does leads start) (k rs) (house d ks ns o) b v → Carries Fits (Does leads start) (works work place ds k) (house d ls ns o) b v
   turn_works d ls ks ns o b work place ds rs k v w rest =
       carries_step Fits (Does leads start) (Works work place ds) (Worked w.steps (Some rs)) _ (house d ls ns o) (house d ks ns o) b v (w.each, refl) (w.shares, w.has, w.some) rest
 
-  pub turn_works_cut : {X : Type 0} (d : K) (ls ks : List (Seat K)) (ns : List Seen) (o : SinkSeen) (work : SlotWork) (place : ℕ) (ds : List Duty) (k : List DutyResult → TurnPlan X)
+  pub turn_works_cut : {X : Type 0} (d : K) (ls ks : List (Seat K)) (ns : List Seen) (o : SinkSeen) (work : SlotWork) (place : ℕ) (ds : List Task) (k : List Ended → TurnPlan X)
       → WorksDone leads work place ds ls ks None → Carries Fits (Does leads start) (works work place ds k) (house d ls ns o) (house d ks ns o) None
   turn_works_cut {X} d ls ks ns o work place ds k w =
       let stop : TurnPlan X = Stop in

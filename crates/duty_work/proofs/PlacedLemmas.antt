@@ -19,6 +19,10 @@ use Rattle.duty_schedule.specs.declared.rows.Duty.TheVariants as duty
 use Rattle.duty_schedule.specs.declared.rows.DutyRows.{DutyRows}
 use Rattle.duty_schedule.specs.declared.rows.DutyRows.TheVariants as kind
 use Rattle.duty_schedule.proofs.HeldLemmas.{answer_at, attesters_elsewhere, attesters_here, attesters_none, attesters_of_proposers, held-append, one_kind}
+use Rattle.duty_plans.specs.declared.ended.Ended.{Ended}
+use Rattle.duty_plans.specs.declared.ended.Unsent.{Unsent}
+use Rattle.duty_plans.specs.Tasks.{again_by, again_of, again_tasks, fresh}
+use Rattle.duty_turns.specs.Turns.{blocks_in, is_block, votes_in}
 use Rattle.duty_workers.specs.Places as workers
 use Rattle.duty_asks.specs.Placed.{are_placed, has_place, have_places}
 use Rattle.duty_asks.proofs.PlaceLemmas.{both_true}
@@ -126,3 +130,26 @@ due_placed answers slot active ds due h =
 
 pub kind_placed : (q : Duty → Bool) (ds : List Duty) → workers.are_placed ds ≡ true → workers.are_placed (filter q ds) ≡ true
 kind_placed q ds h = all_kept workers.is_placed q ds h
+
+pub fresh_placed : (ds : List Duty) → workers.are_placed ds ≡ true → workers.are_placed_tasks (fresh ds) ≡ true
+fresh_placed [] h = refl
+fresh_placed (d ∷ ds) h =
+    let q = and_parts (workers.is_placed d) (workers.are_placed ds) h in
+    both_true (workers.is_placed d) (workers.are_placed_tasks (fresh ds)) q.0 (fresh_placed ds q.1)
+
+kept_by : (d : Duty) (o : Option Unsent) → workers.is_placed d ≡ true → workers.are_placed_tasks (again_by d o) ≡ true
+kept_by d None h = refl
+kept_by d (Some unsent) h = both_true (workers.is_placed d) true h refl
+
+pub again_placed : (ds : List Duty) (ends : List Ended) → workers.are_placed ds ≡ true → workers.are_placed_tasks (again_tasks ds ends) ≡ true
+again_placed [] ends h = refl
+again_placed (d ∷ ds) [] h = refl
+again_placed (d ∷ ds) (e ∷ ends) h =
+    let q = and_parts (workers.is_placed d) (workers.are_placed ds) h in
+    all_joined workers.is_placed_task (again_of d e) (again_tasks ds ends) (kept_by d e.unsent q.0) (again_placed ds ends q.1)
+
+pub both_placed : (ds blocks votes : List Duty) → blocks ≡ blocks_in ds → votes ≡ votes_in ds → workers.are_placed ds ≡ true → workers.are_placed (blocks ++ votes) ≡ true
+both_placed ds blocks votes first second h =
+    all_joined workers.is_placed blocks votes
+    (subst (λ (l : List Duty). workers.are_placed l ≡ true) (sym first) (kind_placed is_block ds h))
+    (subst (λ (l : List Duty). workers.are_placed l ≡ true) (sym second) (kind_placed (λ d. not (is_block d)) ds h))

@@ -1,5 +1,6 @@
 -- A turn, part behind part.
-use Rattle.std.proofs.Common.{◌≡◌, ℕ, ◌++◌, List, [], ◌∷◌, length, Option, Some, None, Result, Ok, Err, true, false, refl, sym, ◌∙◌, ap, subst}
+use Rattle.std.proofs.Common.{◌≡◌, ℕ, suc, ◌+◌, ◌<◌, ◌++◌, List, [], ◌∷◌, length, map, Option, Some, None, Result, Ok, Err, true, false, refl, sym, ◌∙◌, ap, subst, arith}
+use Rattle.std.proofs.lemmas.List.{length-map}
 use Rattle.std.specs.Prelude.{OnOk}
 use Rattle.edge_kit.specs.declared.bytes.PubKey.{PubKey}
 use Rattle.sign_roots.specs.declared.domains.Domains.{Domains}
@@ -14,20 +15,28 @@ use Rattle.client_calls.proofs.SeatLemmas.{Leads}
 use Rattle.node_fallback.specs.Refreshing.{AreAskedFirst, AreFlagged, WithReplies}
 use Rattle.node_fallback.specs.Seen.{Seen}
 use Rattle.call_plans.specs.Plans.{Done, bind}
+use Rattle.call_plans.proofs.PlanLemmas.{cut_now}
 use Rattle.call_plans.specs.Paths.{Carries, Comes}
 use Rattle.call_plans.proofs.PathLemmas.{carries_cut, carries_end, carries_on, carries_short, comes_run}
 use Rattle.duty_schedule.specs.Due.{IsDue}
 use Rattle.duty_schedule.specs.declared.rows.Duty.{Duty}
 use Rattle.duty_plans.specs.Hands.{Free, hand_given}
-use Rattle.duty_plans.specs.Plans.{slot_work}
+use Rattle.duty_plans.specs.Plans.{slot_plan, slot_work}
+use Rattle.duty_plans.specs.Steps as duties
+use Rattle.duty_plans.specs.Steps.{DutyStep}
+use Rattle.duty_turns.specs.Lanes.{DidShares, EachDoes, dealt}
 use Rattle.duty_plans.specs.Seats.{Seat}
+use Rattle.duty_plans.specs.declared.ended.Ended.{Ended}
 use Rattle.duty_plans.specs.declared.result.DutyResult.{DutyResult}
+use Rattle.duty_plans.specs.declared.task.Task.{Task}
+use Rattle.duty_plans.specs.Ends.{merged}
+use Rattle.duty_plans.specs.Tasks.{fresh}
 use Rattle.duty_plans.specs.declared.setup.DutySetup.{DutySetup}
 use Rattle.duty_plans.specs.declared.work.SlotWork.{SlotWork}
 use Rattle.duty_turns.specs.Lines.{duty_lines}
 use Rattle.duty_turns.specs.Standing.{Standing}
 use Rattle.duty_turns.specs.Times.{epoch_of, is_missed, next_slot, slot_start, votes_start}
-use Rattle.duty_turns.specs.Turns.{NextPlan, PartPlan, active_of, asked_plan, at_slot, blocks_in, calls, close_plan, closed_plan, due_plan, failed_plan, listed_plan, prunes, ready_plan, refreshes, refreshes_lanes, shortens, turn_plan, votes_in, votes_plan, waits, with_active, woken_plan, work_of, works}
+use Rattle.duty_turns.specs.Turns.{NextPlan, PartPlan, active_of, again_plan, asked_plan, at_slot, blocks_in, calls, close_plan, closed_plan, due_plan, failed_plan, listed_plan, prunes, ready_plan, refreshes, refreshes_lanes, shortens, tried_plan, turn_plan, votes_in, votes_plan, waits, with_active, woken_plan, work_of, works}
 use Rattle.duty_turns.specs.TurnSteps.{Does, Fits, House, SinkSeen}
 use Rattle.duty_turns.specs.declared.held.DutyEnd.{DutyEnd}
 use Rattle.duty_turns.specs.declared.held.DutyEnd.TheVariants as end
@@ -39,7 +48,6 @@ use Rattle.duty_asks.specs.declared.ask.Stop.TheVariants as stop
 use Rattle.duty_workers.specs.Working.{WereRefreshed, WorksDone}
 use Rattle.duty_work.specs.Houses.{IsFailed, PartTurns, Turns, end_by, end_of, house, next_value}
 use Rattle.duty_work.proofs.HouseLemmas.{turn_calls, turn_looks, turn_refresh_cut, turn_refresh_lanes_cut, turn_refreshes, turn_refreshes_lanes, turn_waits, turn_works, turn_works_cut, turn_write_fails, turn_writes}
-use Rattle.duty_work.proofs.TurnLemmas.{votes_now}
 
 pub kept : {E P : Type 0} (r : Result (Unit {0}) E) → P → OnOk r P
 kept (Ok x) p = p
@@ -239,55 +247,123 @@ module _ {K : Type 0} (leads : Leads K) (start : Option ℕ) where
 
   -- ---- what is due
 
-  pub blocks_done : (Holds : Standing → Type 0) (setup : DutySetup) (s : Standing) (d : K) (ls ks : List (Seat K)) (ns : List Seen) (o : SinkSeen) (b : House K) (ds blocks : List Duty) (rs : List DutyResult) (moment slot reached : ℕ) (result : Result (Unit {0}) DutyEnd)
-      → blocks ≡ blocks_in ds → WorksDone leads (work_of setup s) 0 blocks ls ks (Some rs) → moment ≡ votes_start setup.genesis_time slot → slot ≡ s.slot → IsWaited start moment reached
-      → Turns leads start Holds (votes_plan setup s ds rs reached) (house d ks ns o) b result → Turns leads start Holds (due_plan setup s ds) (house d ls ns o) b result
-  blocks_done Holds setup s d ls ks ns o b ds blocks rs moment slot reached result of work is at timed rest =
-      let same : moment ≡ votes_start setup.genesis_time s.slot = is ∙ ap (λ n. votes_start setup.genesis_time n) at in
-      let done = subst (λ (l : List Duty). WorksDone leads (work_of setup s) 0 l ls ks (Some rs)) of work in
+  -- one plan is another
+  pub turns_as : (Holds : Standing → Type 0) (p q : NextPlan) (a b : House K) (result : Result (Unit {0}) DutyEnd) → p ≡ q → Turns leads start Holds q a b result → Turns leads start Holds p a b result
+  turns_as Holds p q a b result is t = record {
+    after = t.after;
+    held = t.held;
+    runs = subst (λ (x : NextPlan). Carries Fits (Does leads start) x a b (next_value t.after result)) (sym is) t.runs;
+  }
+
+  -- these tasks were done, and by their ends it goes on; or memory ran out in them
+  pub tasks_done : (Holds : Standing → Type 0) (work : SlotWork) (place : ℕ) (tasks : List Task) (next : List Ended → NextPlan) (d : K) (ls ks : List (Seat K)) (ns : List Seen) (o : SinkSeen) (b : House K) (ends : List Ended) (result : Result (Unit {0}) DutyEnd)
+      → WorksDone leads work place tasks ls ks (Some ends) → Turns leads start Holds (next ends) (house d ks ns o) b result → Turns leads start Holds (works work place tasks next) (house d ls ns o) b result
+  tasks_done Holds work place tasks next d ls ks ns o b ends result done rest = record {
+    after = rest.after;
+    held = rest.held;
+    runs = turn_works leads start d ls ks ns o b work place tasks ends next (next_value rest.after result) done rest.runs;
+  }
+
+  pub tasks_short : (Holds : Standing → Type 0) (s : Standing) (work : SlotWork) (place : ℕ) (tasks : List Task) (next : List Ended → NextPlan) (d : K) (ls ks : List (Seat K)) (ns : List Seen) (o : SinkSeen)
+      → WorksDone leads work place tasks ls ks None → Turns leads start Holds (works work place tasks next) (house d ls ns o) (house d ks ns o) (Err end.OutOfMemory)
+  tasks_short Holds s work place tasks next d ls ks ns o done = record {
+    after = s;
+    held = tt;
+    runs = turn_works_cut leads start d ls ks ns o work place tasks next done;
+  }
+
+  -- a moment was waited for
+  pub looked_at : (Holds : Standing → Type 0) (genesis : ℕ) (next : ℕ → NextPlan) (a b : House K) (moment slot held reached : ℕ) (result : Result (Unit {0}) DutyEnd) → moment ≡ votes_start genesis slot → slot ≡ held → IsWaited start moment reached
+      → Turns leads start Holds (next reached) a b result → Turns leads start Holds (waits (votes_start genesis held) next) a b result
+  looked_at Holds genesis next a b moment slot held reached result is at timed t =
+      let same : moment ≡ votes_start genesis held = is ∙ ap (λ n. votes_start genesis n) at in
       record {
-        after = rest.after;
-        held = rest.held;
-        runs = turn_works leads start d ls ks ns o b (work_of setup s) 0 (blocks_in ds) rs (λ proposed. waits (votes_start setup.genesis_time s.slot) (votes_plan setup s ds proposed)) (next_value rest.after result) done
-            (turn_waits leads start (house d ks ns o) b (votes_start setup.genesis_time s.slot) reached (votes_plan setup s ds rs) (next_value rest.after result) (subst (λ n. IsWaited start n reached) same timed) rest.runs);
+        after = t.after;
+        held = t.held;
+        runs = turn_waits leads start a b (votes_start genesis held) reached next (next_value t.after result) (subst (λ n. IsWaited start n reached) same timed) t.runs;
       }
+
+  pub blocks_done : (Holds : Standing → Type 0) (setup : DutySetup) (s : Standing) (d : K) (ls ks : List (Seat K)) (ns : List Seen) (o : SinkSeen) (b : House K) (ds blocks : List Duty) (ends : List Ended) (moment slot reached : ℕ) (result : Result (Unit {0}) DutyEnd)
+      → blocks ≡ blocks_in ds → WorksDone leads (work_of setup s) 0 (fresh blocks) ls ks (Some ends) → moment ≡ votes_start setup.genesis_time slot → slot ≡ s.slot → IsWaited start moment reached
+      → Turns leads start Holds (votes_plan setup s ds ends reached) (house d ks ns o) b result → Turns leads start Holds (due_plan setup s ds) (house d ls ns o) b result
+  blocks_done Holds setup s d ls ks ns o b ds blocks ends moment slot reached result of work is at timed rest =
+      tasks_done Holds (work_of setup s) 0 (fresh (blocks_in ds)) (λ proposed. waits (votes_start setup.genesis_time s.slot) (votes_plan setup s ds proposed)) d ls ks ns o b ends result
+      (subst (λ (l : List Duty). WorksDone leads (work_of setup s) 0 (fresh l) ls ks (Some ends)) of work)
+      (looked_at Holds setup.genesis_time (votes_plan setup s ds ends) (house d ks ns o) b moment slot s.slot reached result is at timed rest)
 
   pub blocks_short : (Holds : Standing → Type 0) (setup : DutySetup) (s : Standing) (d : K) (ls ks : List (Seat K)) (ns : List Seen) (o : SinkSeen) (ds blocks : List Duty)
-      → blocks ≡ blocks_in ds → WorksDone leads (work_of setup s) 0 blocks ls ks None → Turns leads start Holds (due_plan setup s ds) (house d ls ns o) (house d ks ns o) (Err end.OutOfMemory)
+      → blocks ≡ blocks_in ds → WorksDone leads (work_of setup s) 0 (fresh blocks) ls ks None → Turns leads start Holds (due_plan setup s ds) (house d ls ns o) (house d ks ns o) (Err end.OutOfMemory)
   blocks_short Holds setup s d ls ks ns o ds blocks of work =
-      let done = subst (λ (l : List Duty). WorksDone leads (work_of setup s) 0 l ls ks None) of work in
-      record {
-        after = s;
-        held = tt;
-        runs = turn_works_cut leads start d ls ks ns o (work_of setup s) 0 (blocks_in ds) (λ proposed. waits (votes_start setup.genesis_time s.slot) (votes_plan setup s ds proposed)) done;
-      }
+      tasks_short Holds s (work_of setup s) 0 (fresh (blocks_in ds)) (λ proposed. waits (votes_start setup.genesis_time s.slot) (votes_plan setup s ds proposed)) d ls ks ns o
+      (subst (λ (l : List Duty). WorksDone leads (work_of setup s) 0 (fresh l) ls ks None) of work)
 
-  module _ (Holds : Standing → Type 0) (setup : DutySetup) (s : Standing) (d : K) (ls ks : List (Seat K)) (ns : List Seen) (o : SinkSeen) (ds votes : List Duty) (rs : List DutyResult) (reached place : ℕ)
-      (due : is_missed setup.genesis_time s.slot (votes_start setup.genesis_time s.slot) reached ≡ false) (of : votes ≡ votes_in ds) (behind : place ≡ length (blocks_in ds)) where
-    now : votes_plan setup s ds rs reached ≡ works (work_of setup s) (length (blocks_in ds)) (votes_in ds) (λ cast. close_plan setup s.slot (blocks_in ds ++ votes_in ds) (rs ++ cast) (at_slot (next_slot s.slot) s))
-    now = votes_now setup s ds rs reached due
+  module _ (Holds : Standing → Type 0) (setup : DutySetup) (s : Standing) (d : K) (ls ks : List (Seat K)) (ns : List Seen) (o : SinkSeen) (ds blocks votes : List Duty) (ends : List Ended)
+      (first : blocks ≡ blocks_in ds) (of : votes ≡ votes_in ds) where
+    abbrev Cast : List Ended → NextPlan
+    Cast cast = again_plan setup s (blocks_in ds ++ votes_in ds) (ends ++ cast)
 
-    dealt_so : (v : Option (List DutyResult)) → WorksDone leads (work_of setup s) place votes ls ks v → WorksDone leads (work_of setup s) (length (blocks_in ds)) (votes_in ds) ls ks v
-    dealt_so v work =
-        let done = subst (λ (l : List Duty). WorksDone leads (work_of setup s) place l ls ks v) of work in
-        subst (λ (n : ℕ). WorksDone leads (work_of setup s) n (votes_in ds) ls ks v) behind done
+    votes_so : (v : Option (List Ended)) → WorksDone leads (work_of setup s) (length blocks) (fresh votes) ls ks v → WorksDone leads (work_of setup s) (length (blocks_in ds)) (fresh (votes_in ds)) ls ks v
+    votes_so v work =
+        let done = subst (λ (l : List Duty). WorksDone leads (work_of setup s) (length blocks) (fresh l) ls ks v) of work in
+        subst (λ (l : List Duty). WorksDone leads (work_of setup s) (length l) (fresh (votes_in ds)) ls ks v) first done
 
-    pub votes_short : WorksDone leads (work_of setup s) place votes ls ks None → Turns leads start Holds (votes_plan setup s ds rs reached) (house d ls ns o) (house d ks ns o) (Err end.OutOfMemory)
-    votes_short work =
-        let run = turn_works_cut leads start d ls ks ns o (work_of setup s) (length (blocks_in ds)) (votes_in ds) (λ cast. close_plan setup s.slot (blocks_in ds ++ votes_in ds) (rs ++ cast) (at_slot (next_slot s.slot) s)) (dealt_so None work) in
-        record { after = s; held = tt; runs = subst (λ (q : NextPlan). Carries Fits (Does leads start) q (house d ls ns o) (house d ks ns o) None) (sym now) run }
+    pub votes_short : WorksDone leads (work_of setup s) (length blocks) (fresh votes) ls ks None
+        → Turns leads start Holds (works (work_of setup s) (length (blocks_in ds)) (fresh (votes_in ds)) (λ cast. again_plan setup s (blocks_in ds ++ votes_in ds) (ends ++ cast))) (house d ls ns o) (house d ks ns o) (Err end.OutOfMemory)
+    votes_short work = tasks_short Holds s (work_of setup s) (length (blocks_in ds)) (fresh (votes_in ds)) Cast d ls ks ns o (votes_so None work)
 
-    pub votes_done : (b : House K) (cast : List DutyResult) (result : Result (Unit {0}) DutyEnd) → WorksDone leads (work_of setup s) place votes ls ks (Some cast)
-        → Turns leads start Holds (close_plan setup s.slot (blocks_in ds ++ votes_in ds) (rs ++ cast) (at_slot (next_slot s.slot) s)) (house d ks ns o) b result → Turns leads start Holds (votes_plan setup s ds rs reached) (house d ls ns o) b result
+    pub votes_done : (b : House K) (cast : List Ended) (result : Result (Unit {0}) DutyEnd) → WorksDone leads (work_of setup s) (length blocks) (fresh votes) ls ks (Some cast)
+        → Turns leads start Holds (again_plan setup s (blocks ++ votes) (ends ++ cast)) (house d ks ns o) b result
+        → Turns leads start Holds (works (work_of setup s) (length (blocks_in ds)) (fresh (votes_in ds)) (λ cast. again_plan setup s (blocks_in ds ++ votes_in ds) (ends ++ cast))) (house d ls ns o) b result
     votes_done b cast result work rest =
-        let run = turn_works leads start d ls ks ns o b (work_of setup s) (length (blocks_in ds)) (votes_in ds) cast (λ x. close_plan setup s.slot (blocks_in ds ++ votes_in ds) (rs ++ x) (at_slot (next_slot s.slot) s)) (next_value rest.after result) (dealt_so (Some cast) work) rest.runs in
-        record { after = rest.after; held = rest.held; runs = subst (λ (q : NextPlan). Carries Fits (Does leads start) q (house d ls ns o) b (next_value rest.after result)) (sym now) run }
+        let all : blocks ++ votes ≡ blocks_in ds ++ votes_in ds = ap (λ (l : List Duty). l ++ votes) first ∙ ap (λ (l : List Duty). blocks_in ds ++ l) of in
+        tasks_done Holds (work_of setup s) (length (blocks_in ds)) (fresh (votes_in ds)) Cast d ls ks ns o b cast result (votes_so (Some cast) work)
+        (subst (λ (l : List Duty). Turns leads start Holds (again_plan setup s l (ends ++ cast)) (house d ks ns o) b result) all rest)
 
-  pub works_done : (setup : DutySetup) (held : Held) (s : Standing) (ls ks : List (Seat K)) (domains : Domains) (moment place : ℕ) (ds : List Duty) (v : Option (List DutyResult)) → HoldsPlaced held s → domains ≡ record { fork = held.fork; genesis = setup.genesis } → moment ≡ epoch_of held.slot
-      → WorksDone leads (slot_work setup.genesis domains held.slot moment) place ds ls ks v → WorksDone leads (work_of setup s) place ds ls ks v
-  works_done setup held s ls ks domains moment place ds v h by epoch work =
-      let P : SlotWork → Type 0 = λ w. WorksDone leads w place ds ls ks v in
+  -- the duties and their ends are those that were meant
+  pub ended_as : (Holds : Standing → Type 0) (setup : DutySetup) (s : Standing) (a b : House K) (ds es : List Duty) (ends fs : List Ended) (result : Result (Unit {0}) DutyEnd) → ds ≡ es → ends ≡ fs
+      → Turns leads start Holds (again_plan setup s ds ends) a b result → Turns leads start Holds (again_plan setup s es fs) a b result
+  ended_as Holds setup s a b ds es ends fs result of by t =
+      subst (λ (l : List Ended). Turns leads start Holds (again_plan setup s es l) a b result) by (subst (λ (l : List Duty). Turns leads start Holds (again_plan setup s l ends) a b result) of t)
+
+  pub works_done : (setup : DutySetup) (held : Held) (s : Standing) (ls ks : List (Seat K)) (domains : Domains) (moment place : ℕ) (tasks : List Task) (v : Option (List Ended)) → HoldsPlaced held s → domains ≡ record { fork = held.fork; genesis = setup.genesis } → moment ≡ epoch_of held.slot
+      → WorksDone leads (slot_work setup.genesis domains held.slot moment) place tasks ls ks v → WorksDone leads (work_of setup s) place tasks ls ks v
+  works_done setup held s ls ks domains moment place tasks v h by epoch work =
+      let P : SlotWork → Type 0 = λ w. WorksDone leads w place tasks ls ks v in
       let same : ◌≡◌ {A = Domains} (record { fork = held.fork; genesis = setup.genesis }) (record { fork = s.fork; genesis = setup.genesis }) = rw h.is.fork refl in
       let one : P (slot_work setup.genesis (record { fork = s.fork; genesis = setup.genesis }) held.slot moment) = subst (λ (x : Domains). P (slot_work setup.genesis x held.slot moment)) (by ∙ same) work in
       let two : P (slot_work setup.genesis (record { fork = s.fork; genesis = setup.genesis }) held.slot (epoch_of held.slot)) = subst (λ n. P (slot_work setup.genesis (record { fork = s.fork; genesis = setup.genesis }) held.slot n)) epoch one in
       subst (λ n. P (slot_work setup.genesis (record { fork = s.fork; genesis = setup.genesis }) n (epoch_of n))) h.is.slot two
+
+  -- ---- duties done for the first time
+
+  abbrev no_steps : List (Seat K) → List (List DutyStep)
+  no_steps [] = []
+  no_steps (l ∷ ls) = [] ∷ no_steps ls
+
+  no_paths : (ls : List (Seat K)) → EachDoes leads ls (no_steps ls) ls
+  no_paths [] = tt
+  no_paths (l ∷ ls) = (refl, no_paths ls)
+
+  no_shares : (work : SlotWork) (place : ℕ) (tasks : List Task) (lanes lane : ℕ) (ls : List (Seat K)) → DidShares work place tasks None lanes lane (no_steps ls)
+  no_shares work place tasks lanes lane [] = tt
+  no_shares work place tasks lanes lane (l ∷ ls) = ((None, cut_now duties.Fits (slot_plan work (dealt lanes lane place tasks))), no_shares work place tasks lanes (lane + 1) ls)
+
+  as_many : (ls : List (Seat K)) → length (no_steps ls) ≡ length ls
+  as_many [] = refl
+  as_many (l ∷ ls) = ap suc (as_many ls)
+
+  -- nothing was done yet
+  none_done : (work : SlotWork) (place : ℕ) (tasks : List Task) (ls : List (Seat K)) → 0 < length ls → WorksDone leads work place tasks ls ls None
+  none_done work place tasks ls some = record {
+    steps = no_steps ls;
+    each = no_paths ls;
+    shares = no_shares work place tasks (length (no_steps ls)) 0 ls;
+    has = tt;
+    some = (let counted = as_many ls in omega arith);
+  }
+
+  pub fresh_short : {L : Type 0} (work : SlotWork) (place : ℕ) (ds : List Duty) (ls : List L) (seen : L → Seat K) → 0 < length ls → WorksDone leads work place (fresh ds) (map seen ls) (map seen ls) None
+  fresh_short work place ds ls seen some = none_done work place (fresh ds) (map seen ls) (let mapped = length-map ls seen in omega arith)
+
+  pub fresh_done : (work : SlotWork) (place : ℕ) (tasks fs : List Task) (ls ks : List (Seat K)) (v : Option (List Ended)) → tasks ≡ fs → WorksDone leads work place tasks ls ks v → WorksDone leads work place fs ls ks v
+  fresh_done work place tasks fs ls ks v is work_done = subst (λ (l : List Task). WorksDone leads work place l ls ks v) is work_done

@@ -1,5 +1,7 @@
 -- Late, or in time; and turn after turn.
-use Rattle.std.proofs.Common.{◌≡◌, ℕ, suc, ◌+◌, ◌-◌, ◌<◌, ◌≤◌, Bool, true, false, List, [], ◌++◌, length, Option, Some, None, Result, Ok, Err, refl, sym, ◌∙◌, ap, subst, arith}
+use Rattle.std.proofs.Common.{◌≡◌, ℕ, suc, ◌+◌, ◌-◌, ◌<◌, ◌≤◌, Bool, true, false, List, [], ◌∷◌, ◌++◌, length, Option, Some, None, Result, Ok, Err, refl, sym, ◌∙◌, ap, subst, arith}
+use Rattle.std.specs.Prelude.{nat_lt}
+use Rattle.std.proofs.lemmas.Bool.{le-ltb, lt-ltb}
 use Rattle.client_calls.proofs.SeatLemmas.{Leads}
 use Rattle.edge_clock.specs.Clocks.{IsHalted, IsNow}
 use Rattle.desk_machine.specs.declared.call.DeskCall.TheVariants as call
@@ -7,11 +9,14 @@ use Rattle.call_plans.specs.Plans.{Done, bind}
 use Rattle.call_plans.specs.Paths.{Carries, Comes}
 use Rattle.call_plans.proofs.PathLemmas.{comes_on, comes_cut, comes_end, comes_none}
 use Rattle.duty_schedule.specs.declared.rows.Duty.{Duty}
-use Rattle.duty_plans.specs.declared.result.DutyResult.{DutyResult}
+use Rattle.duty_plans.specs.declared.ended.Ended.{Ended}
+use Rattle.duty_plans.specs.declared.task.Task.{Task}
+use Rattle.duty_plans.specs.Ends.{merged, results_of}
+use Rattle.duty_plans.specs.Tasks.{again_tasks, fresh}
 use Rattle.duty_plans.specs.declared.setup.DutySetup.{DutySetup}
 use Rattle.duty_turns.specs.Standing.{Standing}
 use Rattle.duty_turns.specs.Times.{is_missed, next_slot, slot_start, votes_start}
-use Rattle.duty_turns.specs.Turns.{at_moment, at_slot, blocks_in, calls, close_plan, first_standing, listed_plan, next_turn, refreshes, refreshes_lanes, shortens, turn_plan, turns_plan, votes_in, votes_plan, woken_plan, work_of, works}
+use Rattle.duty_turns.specs.Turns.{after_works, again_plan, at_moment, at_slot, blocks_in, calls, close_plan, first_standing, left_plan, listed_plan, next_turn, refreshes, refreshes_lanes, shortens, tried_plan, turn_plan, turns_plan, votes_in, votes_plan, waits, woken_plan, work_of, works}
 use Rattle.duty_turns.specs.TurnSteps.{Does, Fits, House, TurnPlan}
 use Rattle.duty_turns.specs.declared.held.DutyEnd.{DutyEnd}
 use Rattle.duty_turns.specs.declared.held.DutyEnd.TheVariants as end
@@ -35,13 +40,45 @@ pub woken_now : (setup : DutySetup) (s : Standing) (reached : ℕ) → is_missed
     → woken_plan setup s reached ≡ refreshes (refreshes_lanes (shortens s (calls call.Keys (listed_plan setup s))))
 woken_now setup s reached now = rw now refl
 
-pub votes_late : (setup : DutySetup) (s : Standing) (ds : List Duty) (rs : List DutyResult) (reached : ℕ) → is_missed setup.genesis_time s.slot (votes_start setup.genesis_time s.slot) reached ≡ true
-    → votes_plan setup s ds rs reached ≡ close_plan setup s.slot (blocks_in ds) rs (at_moment setup.genesis_time (votes_start setup.genesis_time s.slot) reached s)
-votes_late setup s ds rs reached late = rw late refl
+pub votes_late : (setup : DutySetup) (s : Standing) (ds : List Duty) (ends : List Ended) (reached : ℕ) → is_missed setup.genesis_time s.slot (votes_start setup.genesis_time s.slot) reached ≡ true
+    → votes_plan setup s ds ends reached ≡ close_plan setup s.slot (blocks_in ds) (results_of ends) (at_moment setup.genesis_time (votes_start setup.genesis_time s.slot) reached s)
+votes_late setup s ds ends reached late = rw late refl
 
-pub votes_now : (setup : DutySetup) (s : Standing) (ds : List Duty) (rs : List DutyResult) (reached : ℕ) → is_missed setup.genesis_time s.slot (votes_start setup.genesis_time s.slot) reached ≡ false
-    → votes_plan setup s ds rs reached ≡ works (work_of setup s) (length (blocks_in ds)) (votes_in ds) (λ cast. close_plan setup s.slot (blocks_in ds ++ votes_in ds) (rs ++ cast) (at_slot (next_slot s.slot) s))
-votes_now setup s ds rs reached now = rw now refl
+pub votes_now : (setup : DutySetup) (s : Standing) (ds : List Duty) (ends : List Ended) (reached : ℕ) → is_missed setup.genesis_time s.slot (votes_start setup.genesis_time s.slot) reached ≡ false
+    → votes_plan setup s ds ends reached ≡ works (work_of setup s) (length (blocks_in ds)) (fresh (votes_in ds)) (λ cast. again_plan setup s (blocks_in ds ++ votes_in ds) (ends ++ cast))
+votes_now setup s ds ends reached now = rw now refl
+
+-- nothing is left of the duties, or something
+pub left_none : (setup : DutySetup) (s : Standing) (ds : List Duty) (ends : List Ended) (tasks : List Task) → tasks ≡ again_tasks ds ends → length tasks ≡ 0
+    → again_plan setup s ds ends ≡ close_plan setup s.slot ds (results_of ends) (at_slot (next_slot s.slot) s)
+left_none setup s ds ends [] is none = ap (λ (l : List Task). left_plan setup s ds ends l) (sym is)
+left_none setup s ds ends (t ∷ tasks) is none = absurd (omega arith)
+
+pub left_some : (setup : DutySetup) (s : Standing) (ds : List Duty) (ends : List Ended) (tasks : List Task) → tasks ≡ again_tasks ds ends → (length tasks ≡ 0 → ⊥)
+    → again_plan setup s ds ends ≡ waits (votes_start setup.genesis_time s.slot) (tried_plan setup s ds ends tasks)
+left_some setup s ds ends [] is some = absurd (some refl)
+left_some setup s ds ends (t ∷ tasks) is some = ap (λ (l : List Task). left_plan setup s ds ends l) (sym is)
+
+pub tried_late : (setup : DutySetup) (s : Standing) (ds : List Duty) (ends : List Ended) (tasks : List Task) (reached : ℕ) → is_missed setup.genesis_time s.slot (votes_start setup.genesis_time s.slot) reached ≡ true
+    → tried_plan setup s ds ends tasks reached ≡ close_plan setup s.slot ds (results_of ends) (after_works setup.genesis_time reached s)
+tried_late setup s ds ends tasks reached late = rw late refl
+
+pub tried_now : (setup : DutySetup) (s : Standing) (ds : List Duty) (ends : List Ended) (tasks : List Task) (reached : ℕ) → is_missed setup.genesis_time s.slot (votes_start setup.genesis_time s.slot) reached ≡ false
+    → tried_plan setup s ds ends tasks reached ≡ works (work_of setup s) 0 tasks (λ again. close_plan setup s.slot ds (merged ends again) (at_slot (next_slot s.slot) s))
+tried_now setup s ds ends tasks reached now = rw now refl
+
+-- what stands after the duties, by a moment that was looked at
+pub after_next : (genesis moment held reached : ℕ) (s : Standing) → moment ≡ votes_start genesis held → held ≡ s.slot → moment ≤ reached → after_works genesis reached s ≡ at_slot (next_slot s.slot) s
+after_next genesis moment held reached s is at past =
+    let same : moment ≡ votes_start genesis s.slot = is ∙ ap (λ n. votes_start genesis n) at in
+    let on : nat_lt reached (votes_start genesis s.slot) ≡ false = le-ltb reached (votes_start genesis s.slot) (subst (λ n. n ≤ reached) same past) in
+    rw on refl
+
+pub after_back : (genesis moment held reached : ℕ) (s : Standing) → moment ≡ votes_start genesis held → held ≡ s.slot → reached < moment → after_works genesis reached s ≡ at_moment genesis (votes_start genesis s.slot) reached s
+after_back genesis moment held reached s is at before =
+    let same : moment ≡ votes_start genesis s.slot = is ∙ ap (λ n. votes_start genesis n) at in
+    let back : nat_lt reached (votes_start genesis s.slot) ≡ true = lt-ltb reached (votes_start genesis s.slot) (subst (λ n. reached < n) same before) in
+    rw back refl
 
 -- ---- turn after turn
 

@@ -3,11 +3,13 @@ ghost use Rattle.std.specs.Prelude.{◌≡◌, ◌++◌, ◌<◌, ℕ, All, List
 ghost use Rattle.std.specs.Result.{result_ok};
 ghost use Rattle.call_plans.specs.Paths.{Carries};
 ghost use Rattle.node_fallback.specs.Seen.{Seen};
+ghost use Rattle.duty_plans.specs.Ends.{merged, results_of};
 ghost use Rattle.duty_plans.specs.Seats.{Seat};
+ghost use Rattle.duty_plans.specs.Tasks.{fresh};
 ghost use Rattle.duty_workers.specs.Working.{IsReady, WorksDone, lanes_seen};
-ghost use Rattle.duty_workers.specs.Places.{are_placed};
+ghost use Rattle.duty_workers.specs.Places.{are_placed, are_placed_tasks};
 ghost use Rattle.duty_turns.specs.Standing.{Standing};
-ghost use Rattle.duty_turns.specs.Turns.{at_moment, blocks_in, calls, close_plan, due_plan, failed_plan, is_block, votes_in, votes_plan, work_of};
+ghost use Rattle.duty_turns.specs.Turns.{after_works, again_plan, at_moment, blocks_in, calls, close_plan, due_plan, failed_plan, is_block, tried_plan, votes_in, votes_plan, work_of, works};
 ghost use Rattle.duty_turns.specs.TurnSteps.{Does, Fits, SinkSeen, sink_seen};
 ghost use Rattle.duty_asks.specs.Placed.{HoldsPlaced};
 ghost use Rattle.desk_machine.specs.declared.call.DeskCall.TheVariants as call;
@@ -16,7 +18,7 @@ ghost use Rattle.duty_work.specs.Houses.{IsFailed, Turns, end_by, house, next_va
 use crate::prune::prune_old;
 use desk_machine::{DeskCall, DeskCalls, DeskReply};
 use duty_asks::write_text;
-use duty_plans::{DutyResult, DutySetup};
+use duty_plans::{DutyResult, DutySetup, Ended, Task, again_tasks, fresh, merged, results_of};
 use duty_schedule::{Duty, Schedule};
 use duty_turns::{DutyEnd, Held, duty_lines, epoch_of, is_missed, next_slot, slot_of, votes_start};
 use duty_workers::{Lane, run_lanes};
@@ -65,10 +67,9 @@ pub fn do_due<
     let Ok(proposed) = do_duties(rt, alloc, setup, 0, blocks, held, lanes) else {
         return Err(DutyEnd::OutOfMemory);
     };
-    let proposed = proposed.as_slice();
     let reached = clock.wait_until(rt, votes_start(setup.genesis_time, held.slot));
     cast_votes(
-        rt, alloc, setup, reached, due, blocks, proposed, held, desk, lanes, out,
+        rt, alloc, setup, clock, reached, due, blocks, proposed, held, desk, lanes, out,
     )
 }
 
@@ -81,14 +82,38 @@ fn do_duties<T: Threads + Sync, K: DeskCalls + Send, S: Signer + Send, N: Node +
     duties: &[Duty],
     held: &Held,
     lanes: &mut [Lane<K, S, N>],
-) -> Result<Vec<DutyResult>, AllocError>
+) -> Result<Vec<Ended>, AllocError>
     requires some { 0 < length lanes.old }
     requires ready { All (IsReady K.ready) lanes.old }
     requires places { are_placed duties.now ≡ true }
     ensures ready { All (IsReady K.ready) lanes.new }
-    ensures works { (s : Standing) → HoldsPlaced held.now s → WorksDone K.leads (work_of setup.now s) place duties.now
+    ensures works { (s : Standing) → HoldsPlaced held.now s → WorksDone K.leads (work_of setup.now s) place (fresh duties.now)
         (lanes_seen S.told S.faults S.denials N.told N.faults lanes.old) (lanes_seen S.told S.faults S.denials N.told N.faults lanes.new)
-        (option_map (λ results. results.items) (result_ok result)) }
+        (option_map (λ ends. ends.items) (result_ok result)) }
+{
+    let Ok(tasks) = fresh(alloc, duties) else {
+        return Err(AllocError);
+    };
+    do_tasks(rt, alloc, setup, place, tasks.as_slice(), held, lanes)
+}
+
+/// Has these tasks done in the lanes, of which the first has this place in the slot.
+fn do_tasks<T: Threads + Sync, K: DeskCalls + Send, S: Signer + Send, N: Node + Drop + Send>(
+    rt: &T,
+    alloc: Global,
+    setup: &DutySetup,
+    place: usize,
+    tasks: &[Task],
+    held: &Held,
+    lanes: &mut [Lane<K, S, N>],
+) -> Result<Vec<Ended>, AllocError>
+    requires some { 0 < length lanes.old }
+    requires ready { All (IsReady K.ready) lanes.old }
+    requires places { are_placed_tasks tasks.now ≡ true }
+    ensures ready { All (IsReady K.ready) lanes.new }
+    ensures works { (s : Standing) → HoldsPlaced held.now s → WorksDone K.leads (work_of setup.now s) place tasks.now
+        (lanes_seen S.told S.faults S.denials N.told N.faults lanes.old) (lanes_seen S.told S.faults S.denials N.told N.faults lanes.new)
+        (option_map (λ ends. ends.items) (result_ok result)) }
 {
     let domains = Domains::new(held.fork, setup.genesis);
     run_lanes(
@@ -99,7 +124,7 @@ fn do_duties<T: Threads + Sync, K: DeskCalls + Send, S: Signer + Send, N: Node +
         held.slot,
         epoch_of(held.slot),
         place,
-        duties,
+        tasks,
         lanes,
     )
 }
@@ -107,19 +132,21 @@ fn do_duties<T: Threads + Sync, K: DeskCalls + Send, S: Signer + Send, N: Node +
 /// Has the votes cast, whose places are after those of the blocks, unless the moment that was reached is of a later slot,
 /// or before that at which votes are cast. Then the next turn is that of the slot that was reached.
 fn cast_votes<
-    T: Threads + Sync,
+    T: Threads + Wait + Sync,
     K: DeskCalls + Send,
     S: Signer + Send,
     N: Node + Drop + Send,
+    C: Clock,
     O: Sink,
 >(
     rt: &T,
     alloc: Global,
     setup: &DutySetup,
+    clock: &C,
     reached: u64,
     due: &[Duty],
     blocks: &[Duty],
-    proposed: &[DutyResult],
+    proposed: Vec<Ended>,
     held: &mut Held,
     desk: &mut K,
     lanes: &mut [Lane<K, S, N>],
@@ -132,7 +159,7 @@ fn cast_votes<
     requires blocks { blocks.now ≡ blocks_in due.now }
     ensures ready { K.ready desk.new }
     ensures lanes { All (IsReady K.ready) lanes.new }
-    ensures runs { (start : Option ℕ) (nodes : List Seen) (s : Standing) → HoldsPlaced held.old s → Turns K.leads start (HoldsPlaced held.new) (votes_plan setup.now s due.now proposed.now reached)
+    ensures runs { (nodes : List Seen) (s : Standing) → HoldsPlaced held.old s → Turns K.leads (C.start clock.now) (HoldsPlaced held.new) (votes_plan setup.now s due.now proposed.items reached)
         (house desk.old (lanes_seen S.told S.faults S.denials N.told N.faults lanes.old) nodes (sink_seen O.held O.faults out.old))
         (house desk.new (lanes_seen S.told S.faults S.denials N.told N.faults lanes.new) nodes (sink_seen O.held O.faults out.new)) result }
 {
@@ -140,8 +167,55 @@ fn cast_votes<
     let moment = votes_start(setup.genesis_time, slot);
     if is_missed(setup.genesis_time, slot, moment, reached) {
         go_to(alloc, setup.genesis_time, moment, reached, held);
-        return close(alloc, setup, slot, blocks, proposed, held, desk, out);
+        return close_ended(
+            alloc,
+            setup,
+            slot,
+            blocks,
+            proposed.as_slice(),
+            held,
+            desk,
+            out,
+        );
     }
+    cast_now(
+        rt, alloc, setup, clock, due, blocks, proposed, held, desk, lanes, out,
+    )
+}
+
+/// Has the votes cast now.
+fn cast_now<
+    T: Threads + Wait + Sync,
+    K: DeskCalls + Send,
+    S: Signer + Send,
+    N: Node + Drop + Send,
+    C: Clock,
+    O: Sink,
+>(
+    rt: &T,
+    alloc: Global,
+    setup: &DutySetup,
+    clock: &C,
+    due: &[Duty],
+    blocks: &[Duty],
+    proposed: Vec<Ended>,
+    held: &mut Held,
+    desk: &mut K,
+    lanes: &mut [Lane<K, S, N>],
+    out: &mut O,
+) -> Result<(), DutyEnd>
+    requires some { 0 < length lanes.old }
+    requires ready { K.ready desk.old }
+    requires lanes { All (IsReady K.ready) lanes.old }
+    requires places { are_placed due.now ≡ true }
+    requires blocks { blocks.now ≡ blocks_in due.now }
+    ensures ready { K.ready desk.new }
+    ensures lanes { All (IsReady K.ready) lanes.new }
+    ensures runs { (nodes : List Seen) (s : Standing) → HoldsPlaced held.old s → Turns K.leads (C.start clock.now) (HoldsPlaced held.new)
+        (works (work_of setup.now s) (length (blocks_in due.now)) (fresh (votes_in due.now)) (λ cast. again_plan setup.now s (blocks_in due.now ++ votes_in due.now) (proposed.items ++ cast)))
+        (house desk.old (lanes_seen S.told S.faults S.denials N.told N.faults lanes.old) nodes (sink_seen O.held O.faults out.old))
+        (house desk.new (lanes_seen S.told S.faults S.denials N.told N.faults lanes.new) nodes (sink_seen O.held O.faults out.new)) result }
+{
     let Ok(votes) = votes_in(alloc, due) else {
         return Err(DutyEnd::OutOfMemory);
     };
@@ -149,11 +223,162 @@ fn cast_votes<
     let Ok(cast) = do_duties(rt, alloc, setup, blocks.len(), votes, held, lanes) else {
         return Err(DutyEnd::OutOfMemory);
     };
-    let cast = cast.as_slice();
-    held.slot = next_slot(slot);
-    close_both(
-        alloc, setup, slot, blocks, votes, proposed, cast, held, desk, out,
+    end_both(
+        rt, alloc, setup, clock, blocks, votes, proposed, cast, held, desk, lanes, out,
     )
+}
+
+/// Ends a slot in which blocks were proposed and votes were cast, and these ended so.
+fn end_both<
+    T: Threads + Wait + Sync,
+    K: DeskCalls + Send,
+    S: Signer + Send,
+    N: Node + Drop + Send,
+    C: Clock,
+    O: Sink,
+>(
+    rt: &T,
+    alloc: Global,
+    setup: &DutySetup,
+    clock: &C,
+    blocks: &[Duty],
+    votes: &[Duty],
+    proposed: Vec<Ended>,
+    cast: Vec<Ended>,
+    held: &mut Held,
+    desk: &mut K,
+    lanes: &mut [Lane<K, S, N>],
+    out: &mut O,
+) -> Result<(), DutyEnd>
+    requires some { 0 < length lanes.old }
+    requires ready { K.ready desk.old }
+    requires lanes { All (IsReady K.ready) lanes.old }
+    requires places { are_placed (blocks.now ++ votes.now) ≡ true }
+    ensures ready { K.ready desk.new }
+    ensures lanes { All (IsReady K.ready) lanes.new }
+    ensures runs { (nodes : List Seen) (s : Standing) → HoldsPlaced held.old s → Turns K.leads (C.start clock.now) (HoldsPlaced held.new)
+        (again_plan setup.now s (blocks.now ++ votes.now) (proposed.items ++ cast.items))
+        (house desk.old (lanes_seen S.told S.faults S.denials N.told N.faults lanes.old) nodes (sink_seen O.held O.faults out.old))
+        (house desk.new (lanes_seen S.told S.faults S.denials N.told N.faults lanes.new) nodes (sink_seen O.held O.faults out.new)) result }
+{
+    let Ok(duties) = joined(alloc, blocks, votes) else {
+        return Err(DutyEnd::OutOfMemory);
+    };
+    let duties = duties.as_slice();
+    let Ok(ends) = both_ends(proposed, cast) else {
+        return Err(DutyEnd::OutOfMemory);
+    };
+    let ends = ends.as_slice();
+    end_slot(
+        rt, alloc, setup, clock, duties, ends, held, desk, lanes, out,
+    )
+}
+
+/// Ends a slot whose duties were done and ended so: what was granted and not sent is tried once more, if there is something
+/// and the slot lasts.
+fn end_slot<
+    T: Threads + Wait + Sync,
+    K: DeskCalls + Send,
+    S: Signer + Send,
+    N: Node + Drop + Send,
+    C: Clock,
+    O: Sink,
+>(
+    rt: &T,
+    alloc: Global,
+    setup: &DutySetup,
+    clock: &C,
+    duties: &[Duty],
+    ends: &[Ended],
+    held: &mut Held,
+    desk: &mut K,
+    lanes: &mut [Lane<K, S, N>],
+    out: &mut O,
+) -> Result<(), DutyEnd>
+    requires some { 0 < length lanes.old }
+    requires ready { K.ready desk.old }
+    requires lanes { All (IsReady K.ready) lanes.old }
+    requires places { are_placed duties.now ≡ true }
+    ensures ready { K.ready desk.new }
+    ensures lanes { All (IsReady K.ready) lanes.new }
+    ensures runs { (nodes : List Seen) (s : Standing) → HoldsPlaced held.old s → Turns K.leads (C.start clock.now) (HoldsPlaced held.new)
+        (again_plan setup.now s duties.now ends.now)
+        (house desk.old (lanes_seen S.told S.faults S.denials N.told N.faults lanes.old) nodes (sink_seen O.held O.faults out.old))
+        (house desk.new (lanes_seen S.told S.faults S.denials N.told N.faults lanes.new) nodes (sink_seen O.held O.faults out.new)) result }
+{
+    let Ok(tasks) = again_tasks(alloc, duties, ends) else {
+        return Err(DutyEnd::OutOfMemory);
+    };
+    let tasks = tasks.as_slice();
+    let slot = held.slot;
+    if tasks.is_empty() {
+        held.slot = next_slot(slot);
+        return close_ended(alloc, setup, slot, duties, ends, held, desk, out);
+    }
+    let moment = votes_start(setup.genesis_time, slot);
+    let reached = clock.wait_until(rt, moment);
+    try_again(
+        rt, alloc, setup, reached, duties, ends, tasks, held, desk, lanes, out,
+    )
+}
+
+/// Tries once more what was granted and not sent, unless the moment that was reached is of a later slot, or before that at
+/// which votes are cast, since the clock was set back; and closes the slot.
+fn try_again<
+    T: Threads + Sync,
+    K: DeskCalls + Send,
+    S: Signer + Send,
+    N: Node + Drop + Send,
+    O: Sink,
+>(
+    rt: &T,
+    alloc: Global,
+    setup: &DutySetup,
+    reached: u64,
+    duties: &[Duty],
+    ends: &[Ended],
+    tasks: &[Task],
+    held: &mut Held,
+    desk: &mut K,
+    lanes: &mut [Lane<K, S, N>],
+    out: &mut O,
+) -> Result<(), DutyEnd>
+    requires some { 0 < length lanes.old }
+    requires ready { K.ready desk.old }
+    requires lanes { All (IsReady K.ready) lanes.old }
+    requires places { are_placed_tasks tasks.now ≡ true }
+    ensures ready { K.ready desk.new }
+    ensures lanes { All (IsReady K.ready) lanes.new }
+    ensures runs { (start : Option ℕ) (nodes : List Seen) (s : Standing) → HoldsPlaced held.old s → Turns K.leads start (HoldsPlaced held.new)
+        (tried_plan setup.now s duties.now ends.now tasks.now reached)
+        (house desk.old (lanes_seen S.told S.faults S.denials N.told N.faults lanes.old) nodes (sink_seen O.held O.faults out.old))
+        (house desk.new (lanes_seen S.told S.faults S.denials N.told N.faults lanes.new) nodes (sink_seen O.held O.faults out.new)) result }
+{
+    let slot = held.slot;
+    let start = votes_start(setup.genesis_time, slot);
+    if is_missed(setup.genesis_time, slot, start, reached) {
+        go_after(alloc, setup.genesis_time, reached, held);
+        return close_ended(alloc, setup, slot, duties, ends, held, desk, out);
+    }
+    let Ok(again) = do_tasks(rt, alloc, setup, 0, tasks, held, lanes) else {
+        return Err(DutyEnd::OutOfMemory);
+    };
+    let again = again.as_slice();
+    held.slot = next_slot(slot);
+    close_merged(alloc, setup, slot, duties, ends, again, held, desk, out)
+}
+
+/// Has the next turn be of the next slot, or of the slot of this moment, where that is before the one at which votes are
+/// cast, since the clock was set back. Takes no memory.
+fn go_after(alloc: Global, genesis_time: u64, reached: u64, held: &mut Held)
+    ensures { (s : Standing) → HoldsPlaced held.old s → HoldsPlaced held.new (after_works genesis_time reached s) }
+{
+    let moment = votes_start(genesis_time, held.slot);
+    if moment <= reached {
+        held.slot = next_slot(held.slot);
+        return;
+    }
+    go_to(alloc, genesis_time, moment, reached, held);
 }
 
 /// Has the next turn be of the slot of a moment at which a wait for another was over. Where it is before that, since the
@@ -167,29 +392,47 @@ pub fn go_to(alloc: Global, genesis_time: u64, moment: u64, reached: u64, held: 
     held.slot = slot_of(genesis_time, reached);
 }
 
-/// Closes a slot in which blocks were proposed and votes were cast, with these results.
-fn close_both<K: DeskCalls, O: Sink>(
+/// Closes a slot whose duties ended so.
+fn close_ended<K: DeskCalls, O: Sink>(
     alloc: Global,
     setup: &DutySetup,
     slot: u64,
-    blocks: &[Duty],
-    votes: &[Duty],
-    proposed: &[DutyResult],
-    cast: &[DutyResult],
+    duties: &[Duty],
+    ends: &[Ended],
     held: &Held,
     desk: &mut K,
     out: &mut O,
 ) -> Result<(), DutyEnd>
     requires ready { K.ready desk.old }
     ensures ready { K.ready desk.new }
-    ensures runs { (start : Option ℕ) (lanes : List (Seat K)) (nodes : List Seen) (s : Standing) → held.now.active ≡ s.active → Carries Fits (Does K.leads start) (close_plan setup.now slot (blocks.now ++ votes.now) (proposed.now ++ cast.now) s)
+    ensures runs { (start : Option ℕ) (lanes : List (Seat K)) (nodes : List Seen) (s : Standing) → held.now.active ≡ s.active → Carries Fits (Does K.leads start) (close_plan setup.now slot duties.now (results_of ends.now) s)
         (house desk.old lanes nodes (sink_seen O.held O.faults out.old)) (house desk.new lanes nodes (sink_seen O.held O.faults out.new)) (next_value s result) }
 {
-    let Ok(duties) = joined(alloc, blocks, votes) else {
+    let Ok(results) = results_of(alloc, ends) else {
         return Err(DutyEnd::OutOfMemory);
     };
-    let duties = duties.as_slice();
-    let Ok(results) = joined(alloc, proposed, cast) else {
+    let results = results.as_slice();
+    close(alloc, setup, slot, duties, results, held, desk, out)
+}
+
+/// Closes a slot whose duties ended so, where what was left of them was tried once more and ended so.
+fn close_merged<K: DeskCalls, O: Sink>(
+    alloc: Global,
+    setup: &DutySetup,
+    slot: u64,
+    duties: &[Duty],
+    ends: &[Ended],
+    again: &[Ended],
+    held: &Held,
+    desk: &mut K,
+    out: &mut O,
+) -> Result<(), DutyEnd>
+    requires ready { K.ready desk.old }
+    ensures ready { K.ready desk.new }
+    ensures runs { (start : Option ℕ) (lanes : List (Seat K)) (nodes : List Seen) (s : Standing) → held.now.active ≡ s.active → Carries Fits (Does K.leads start) (close_plan setup.now slot duties.now (merged ends.now again.now) s)
+        (house desk.old lanes nodes (sink_seen O.held O.faults out.old)) (house desk.new lanes nodes (sink_seen O.held O.faults out.new)) (next_value s result) }
+{
+    let Ok(results) = merged(alloc, ends, again) else {
         return Err(DutyEnd::OutOfMemory);
     };
     let results = results.as_slice();
@@ -278,5 +521,15 @@ fn joined<T: Copy>(alloc: Global, first: &[T], second: &[T]) -> Result<Vec<T>, A
     let mut both = Vec::new(alloc);
     both.extend_from_slice(first)?;
     both.extend_from_slice(second)?;
+    Ok(both)
+}
+
+/// Both, one after the other. The error is want of memory.
+fn both_ends(first: Vec<Ended>, second: Vec<Ended>) -> Result<Vec<Ended>, AllocError>
+    ensures { IfOk result (λ both. both.items ≡ first.items ++ second.items) }
+{
+    let mut both = first;
+    let mut second = second;
+    both.append(&mut second)?;
     Ok(both)
 }

@@ -1,4 +1,5 @@
 pub mod PlaceLemmas
+pub mod SlotLemmas
 pub mod TurnLemmas
 pub mod DealLemmas
 pub mod GatherLemmas

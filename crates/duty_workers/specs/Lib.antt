@@ -1,3 +1,4 @@
 pub mod Places
+pub mod Posts
 pub mod Working
 pub mod Shares

@@ -1,4 +1,4 @@
--- Lanes as they are seen, and duties that were done in them.
+-- Lanes as they are seen, and what was done in them.
 use Rattle.std.specs.Prelude.{◌<◌, ℕ, Bool, List, length, map, Option, Result}
 use Rattle.desk_machine.specs.declared.call.DeskCall.{DeskCall}
 use Rattle.desk_machine.specs.declared.call.DeskReply.{DeskReply}
@@ -6,8 +6,8 @@ use Rattle.node_calls.specs.declared.answer.Answer.{Answer}
 use Rattle.node_calls.specs.declared.answer.NodeFault.{NodeFault}
 use Rattle.node_calls.specs.declared.told.NodeCall.{NodeCall}
 use Rattle.signer_link.specs.declared.reply.Told.{Told}
-use Rattle.duty_schedule.specs.declared.rows.Duty.{Duty}
-use Rattle.duty_plans.specs.declared.result.DutyResult.{DutyResult}
+use Rattle.duty_plans.specs.declared.ended.Ended.{Ended}
+use Rattle.duty_plans.specs.declared.task.Task.{Task}
 use Rattle.duty_plans.specs.declared.work.SlotWork.{SlotWork}
 use Rattle.duty_plans.specs.Hands.{Free}
 use Rattle.duty_plans.specs.Seats.{Seat, at_seat, nodes_seen, signer_seen}
@@ -26,13 +26,13 @@ lanes_seen told faults denials node_told node_faults lanes = map (lane_seen told
 abbrev pub IsReady : {K S N : Type 0} → (K → Type 0) → Lane K S N → Type 0
 IsReady ready lane = ready lane.desk
 
--- these duties, of which the first has this place, were done in the lanes, of which there is one at least, with a result each; None: memory
+-- these tasks, of which the first has this place, were done in the lanes, of which there is one at least, and ended so; None: memory
 -- ran out in some lane
-pub record WorksDone {K : Type 0} (leads : K → List (DeskCall × DeskReply) → K → Type 0) (work : SlotWork) (place : ℕ) (ds : List Duty) (before now : List (Seat K)) (results : Option (List DutyResult)) : Type 0 where
+pub record WorksDone {K : Type 0} (leads : K → List (DeskCall × DeskReply) → K → Type 0) (work : SlotWork) (place : ℕ) (tasks : List Task) (before now : List (Seat K)) (ends : Option (List Ended)) : Type 0 where
   pub steps : List (List DutyStep)
   pub each : EachDoes leads before steps now
-  pub shares : DidShares work place ds results (length steps) 0 steps
-  pub has : HasEach ds results
+  pub shares : DidShares work place tasks ends (length steps) 0 steps
+  pub has : HasEach tasks ends
   pub some : 0 < length steps
 
 -- the nodes of the lanes were asked whether they are syncing

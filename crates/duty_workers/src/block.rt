@@ -1,20 +1,24 @@
 //! A block: the reveal of the proposer's randomness, the block, the desk's leave, the signature, the post.
-ghost use Rattle.std.specs.Prelude.{◌≡◌, ◌≤◌, Some};
+ghost use Rattle.std.specs.Prelude.{◌≡◌, ◌≤◌, Some, option_map};
 ghost use Rattle.std.specs.Result.{result_ok};
 ghost use Rattle.desk_machine.specs.Machine.{moment_limit};
 ghost use Rattle.desk_machine.specs.declared.call.Outcome.{Outcome};
 ghost use Rattle.phase0_blocks.specs.declared.block.BeaconBlock.{BeaconBlock};
 ghost use Rattle.client_calls.specs.Seats.{SignerSeen};
 ghost use Rattle.call_plans.specs.Paths.{Carries};
+ghost use Rattle.duty_plans.specs.Ends.{left_by, over};
 ghost use Rattle.duty_plans.specs.Hands.{Free, Holds};
 ghost use Rattle.duty_plans.specs.Messages.{block_message, block_post, block_request, reveal_request};
 ghost use Rattle.duty_plans.specs.Plans.{allowed_plan, block_plan, granted_plan, made_plan, post_plan, revealed_plan, under, with_got};
 ghost use Rattle.duty_plans.specs.Seats.{Does, at_seat, nodes_seen, signer_seen};
 ghost use Rattle.duty_plans.specs.Steps.{Fits};
 ghost use Rattle.duty_sends.specs.Hands.{HasMessage, MayEnd, given_hand};
+ghost use Rattle.duty_workers.specs.Posts.{HasBlock};
 
 use desk_machine::{DeskCall, DeskCalls, Grant, Outcome};
-use duty_plans::{DutyResult, Got, SlotWork, block_in, grant_in, signature_in};
+use duty_plans::{
+    DutyResult, Ended, Got, SlotWork, Unsent, block_in, grant_in, left_by, signature_in,
+};
 use duty_sends::{send, settle};
 use edge_kit::Sig;
 use node_calls::{Ask, Node, Post, ProposerRow};
@@ -36,7 +40,7 @@ pub(crate) fn propose_block<K: DeskCalls, S: Signer, N: Node + Drop>(
     desk: &mut K,
     signer: &mut S,
     nodes: &mut Nodes<N>,
-) -> Result<DutyResult, AllocError>
+) -> Result<Ended, AllocError>
     requires ready { K.ready desk.old }
     requires moment { work.now.moment ≤ moment_limit }
     ensures ready { K.ready desk.new }
@@ -72,12 +76,12 @@ fn reveal<K: DeskCalls, S: Signer, N: Node + Drop>(
     desk: &mut K,
     signer: &mut S,
     nodes: &mut Nodes<N>,
-) -> Result<DutyResult, AllocError>
+) -> Result<Ended, AllocError>
     requires ready { K.ready desk.old }
     requires moment { work.now.moment ≤ moment_limit }
     requires settles { MayEnd (λ c. K.allows desk.old c) leave }
     ensures ready { K.ready desk.new }
-    ensures runs { Carries Fits (Does K.leads) (with_got leave (λ g. allowed_plan work.now row.now g))
+    ensures runs { Carries Fits (Does K.leads) (with_got over leave (λ g. allowed_plan work.now row.now g))
         (at_seat desk.old (given_hand leave) (signer_seen S.told S.faults S.denials signer.old) (nodes_seen N.told N.faults nodes.old))
         (at_seat desk.new Free (signer_seen S.told S.faults S.denials signer.new) (nodes_seen N.told N.faults nodes.new)) (result_ok result) }
 {
@@ -86,7 +90,10 @@ fn reveal<K: DeskCalls, S: Signer, N: Node + Drop>(
             let reply = signer.sign_plain(&reveal_request(work), &grant);
             ask(work, row, signature_in(reply), grant, desk, signer, nodes)
         }
-        Got::Failed(result) => Ok(result),
+        Got::Failed(result) => Ok(Ended {
+            result,
+            unsent: None,
+        }),
         Got::Nothing => Err(AllocError),
     }
 }
@@ -100,12 +107,12 @@ fn ask<K: DeskCalls, S: Signer, N: Node + Drop>(
     desk: &mut K,
     signer: &mut S,
     nodes: &mut Nodes<N>,
-) -> Result<DutyResult, AllocError>
+) -> Result<Ended, AllocError>
     requires ready { K.ready desk.old }
     requires moment { work.now.moment ≤ moment_limit }
     requires settles { (o : Outcome) → K.allows desk.old (DeskCall.Settle grant o) }
     ensures ready { K.ready desk.new }
-    ensures runs { Carries Fits (Does K.leads) (under grant reveal (λ x. revealed_plan work.now row.now grant x))
+    ensures runs { Carries Fits (Does K.leads) (under over grant reveal (λ x. revealed_plan work.now row.now grant x))
         (at_seat desk.old (Holds grant) (signer_seen S.told S.faults S.denials signer.old) (nodes_seen N.told N.faults nodes.old))
         (at_seat desk.new Free (signer_seen S.told S.faults S.denials signer.new) (nodes_seen N.told N.faults nodes.new)) (result_ok result) }
 {
@@ -120,7 +127,10 @@ fn ask<K: DeskCalls, S: Signer, N: Node + Drop>(
         }
         Got::Failed(result) => {
             settle(desk, grant, Outcome::Dropped);
-            Ok(result)
+            Ok(Ended {
+                result,
+                unsent: None,
+            })
         }
         Got::Nothing => {
             settle(desk, grant, Outcome::Dropped);
@@ -137,30 +147,33 @@ fn publish<K: DeskCalls, S: Signer, N: Node + Drop>(
     desk: &mut K,
     signer: &mut S,
     nodes: &mut Nodes<N>,
-) -> Result<DutyResult, AllocError>
+) -> Result<Ended, AllocError>
     requires ready { K.ready desk.old }
     requires moment { work.now.moment ≤ moment_limit }
     ensures ready { K.ready desk.new }
-    ensures runs { Carries Fits (Does K.leads) (with_got block (λ b. made_plan work.now row.now b))
+    ensures runs { Carries Fits (Does K.leads) (with_got over block (λ b. made_plan work.now row.now b))
         (at_seat desk.old Free (signer_seen S.told S.faults S.denials signer.old) (nodes_seen N.told N.faults nodes.old))
         (at_seat desk.new Free (signer_seen S.told S.faults S.denials signer.new) (nodes_seen N.told N.faults nodes.new)) (result_ok result) }
 {
     match block {
         Got::Given(block) => propose(work, row, block, desk, signer, nodes),
-        Got::Failed(result) => Ok(result),
+        Got::Failed(result) => Ok(Ended {
+            result,
+            unsent: None,
+        }),
         Got::Nothing => Err(AllocError),
     }
 }
 
-/// Proposes this block.
-fn propose<K: DeskCalls, S: Signer, N: Node + Drop>(
+/// Proposes this block: for the first time, or once more.
+pub(crate) fn propose<K: DeskCalls, S: Signer, N: Node + Drop>(
     work: &SlotWork,
     row: &ProposerRow,
     block: BeaconBlock,
     desk: &mut K,
     signer: &mut S,
     nodes: &mut Nodes<N>,
-) -> Result<DutyResult, AllocError>
+) -> Result<Ended, AllocError>
     requires ready { K.ready desk.old }
     requires moment { work.now.moment ≤ moment_limit }
     ensures ready { K.ready desk.new }
@@ -217,12 +230,12 @@ fn sign<K: DeskCalls, S: Signer, N: Node + Drop>(
     desk: &mut K,
     signer: &mut S,
     nodes: &mut Nodes<N>,
-) -> Result<DutyResult, AllocError>
+) -> Result<Ended, AllocError>
     requires ready { K.ready desk.old }
     requires settles { MayEnd (λ c. K.allows desk.old c) leave }
     requires message { HasMessage leave }
     ensures ready { K.ready desk.new }
-    ensures runs { Carries Fits (Does K.leads) (with_got leave (λ g. granted_plan (block_request work.now block) (block_post block) g))
+    ensures runs { Carries Fits (Does K.leads) (with_got over leave (λ g. granted_plan (Unsent.Block block) (block_request work.now block) (block_post block) g))
         (at_seat desk.old (given_hand leave) (signer_seen S.told S.faults S.denials signer.old) (nodes_seen N.told N.faults nodes.old))
         (at_seat desk.new Free (signer_seen S.told S.faults S.denials signer.new) (nodes_seen N.told N.faults nodes.new)) (result_ok result) }
 {
@@ -232,8 +245,32 @@ fn sign<K: DeskCalls, S: Signer, N: Node + Drop>(
             let reply = signer.sign(&request, &grant);
             post(block_back(request), signature_in(reply), grant, desk, nodes)
         }
-        Got::Failed(result) => Ok(result),
+        Got::Failed(result) => Ok(Ended {
+            result,
+            unsent: None,
+        }),
         Got::Nothing => Err(AllocError),
+    }
+}
+
+/// The block of a post, which has one.
+fn block_posted(post: Post) -> BeaconBlock
+    requires { (block : BeaconBlock) × HasBlock post block }
+    ensures { HasBlock post result }
+{
+    match post {
+        Post::Block(signed) => signed.message,
+        Post::Vote(_) => unreachable!(),
+    }
+}
+
+/// The end of a block that was granted.
+fn left_of(block: BeaconBlock, posted: Result<DutyResult, AllocError>) -> Result<Ended, AllocError>
+    ensures { result_ok result ≡ option_map (λ by. left_by (Unsent.Block block) by) (result_ok posted) }
+{
+    match posted {
+        Ok(by) => Ok(left_by(Unsent::Block(block), by)),
+        Err(error) => Err(error),
     }
 }
 
@@ -244,11 +281,11 @@ fn post<K: DeskCalls, N: Node + Drop>(
     grant: Grant,
     desk: &mut K,
     nodes: &mut Nodes<N>,
-) -> Result<DutyResult, AllocError>
+) -> Result<Ended, AllocError>
     requires ready { K.ready desk.old }
     requires settles { (o : Outcome) → K.allows desk.old (DeskCall.Settle grant o) }
     ensures ready { K.ready desk.new }
-    ensures runs { (s : SignerSeen) → Carries Fits (Does K.leads) (under grant signature (λ x. post_plan grant (block_post block x)))
+    ensures runs { (s : SignerSeen) → Carries Fits (Does K.leads) (under (left_by (Unsent.Block block)) grant signature (λ x. post_plan (Unsent.Block block) grant (block_post block x)))
         (at_seat desk.old (Holds grant) s (nodes_seen N.told N.faults nodes.old))
         (at_seat desk.new Free s (nodes_seen N.told N.faults nodes.new)) (result_ok result) }
 {
@@ -258,11 +295,13 @@ fn post<K: DeskCalls, N: Node + Drop>(
                 message: block,
                 signature,
             };
-            send(&Post::Block(signed), grant, desk, nodes)
+            let post = Post::Block(signed);
+            let posted = send(&post, grant, desk, nodes);
+            left_of(block_posted(post), posted)
         }
         Got::Failed(result) => {
             settle(desk, grant, Outcome::Dropped);
-            Ok(result)
+            Ok(left_by(Unsent::Block(block), result))
         }
         Got::Nothing => {
             settle(desk, grant, Outcome::Dropped);

@@ -1,7 +1,7 @@
 //! A lane.
 ghost use Rattle.std.specs.Prelude.{◌≡◌};
 
-use duty_plans::DutyResult;
+use duty_plans::Ended;
 use node_fallback::Nodes;
 
 /// What the duties of one lane are done with: a desk, a signing service and beacon nodes of its own.
@@ -13,8 +13,8 @@ pub struct Lane<K, S, N> {
     pub signer: S,
     /// What its duties are posted to.
     pub nodes: Nodes<N>,
-    /// The results of the duties that it did last; none where memory ran out.
-    pub(crate) results: Option<Vec<DutyResult>>,
+    /// How the tasks that it did last ended; none where memory ran out.
+    pub(crate) ends: Option<Vec<Ended>>,
 }
 
 impl<K, S, N> Lane<K, S, N> {
@@ -26,7 +26,7 @@ impl<K, S, N> Lane<K, S, N> {
             desk,
             signer,
             nodes,
-            results: None,
+            ends: None,
         }
     }
 

@@ -3,7 +3,7 @@ ghost use Rattle.std.specs.Prelude.{◌≡◌, ◌<◌, ◌≤◌, All, is_ok, l
 ghost use Rattle.std.specs.Result.{result_ok};
 ghost use Rattle.desk_machine.specs.Machine.{moment_limit};
 ghost use Rattle.duty_plans.specs.Plans.{slot_work};
-ghost use Rattle.duty_workers.specs.Places.{are_placed};
+ghost use Rattle.duty_workers.specs.Places.{are_placed_tasks};
 ghost use Rattle.duty_workers.specs.Shares.{DidLane, IsRefreshedIn};
 ghost use Rattle.duty_workers.specs.Working.{IsReady, WereRefreshed, WorksDone, lane_seen, lanes_seen};
 
@@ -11,8 +11,7 @@ use crate::lane::Lane;
 use crate::shares::{dealt, gathered};
 use crate::slot::run_slot;
 use desk_machine::DeskCalls;
-use duty_plans::{DutyResult, DutySetup};
-use duty_schedule::Duty;
+use duty_plans::{DutySetup, Ended, Task};
 use node_calls::Node;
 use sign_roots::Domains;
 use signer_link::Signer;
@@ -20,8 +19,8 @@ use std::alloc::{AllocError, Global};
 use std::thread;
 use std::thread::Threads;
 
-/// Does these duties of a slot in the lanes, beside each other, and gives one result each, in the order of the duties:
-/// the duty at a place goes to the lane that the place is modulo the lanes, the first duty being at the given place. Each
+/// Does these tasks of a slot in the lanes, beside each other, and says of each how it ended, in the order of the tasks:
+/// the task at a place goes to the lane that the place is modulo the lanes, the first task being at the given place. Each
 /// lane does its own one after another, as `run_slot` does them.
 ///
 /// # Errors
@@ -36,33 +35,33 @@ pub fn run_lanes<T: Threads + Sync, K: DeskCalls + Send, S: Signer + Send, N: No
     slot: u64,
     now: u64,
     place: usize,
-    duties: &[Duty],
+    tasks: &[Task],
     lanes: &mut [Lane<K, S, N>],
-) -> Result<Vec<DutyResult>, AllocError>
+) -> Result<Vec<Ended>, AllocError>
     requires some { 0 < length lanes.old }
     requires ready { All (IsReady K.ready) lanes.old }
     requires moment { now ≤ moment_limit }
-    requires places { are_placed duties.now ≡ true }
+    requires places { are_placed_tasks tasks.now ≡ true }
     ensures ready { All (IsReady K.ready) lanes.new }
-    ensures works { WorksDone K.leads (slot_work setup.now.genesis domains.now slot now) place duties.now
+    ensures works { WorksDone K.leads (slot_work setup.now.genesis domains.now slot now) place tasks.now
         (lanes_seen S.told S.faults S.denials N.told N.faults lanes.old) (lanes_seen S.told S.faults S.denials N.told N.faults lanes.new)
-        (option_map (λ results. results.items) (result_ok result)) }
+        (option_map (λ ends. ends.items) (result_ok result)) }
 {
     let count = lanes.len();
     let work = |i: usize, lane: &mut Lane<K, S, N>|
-        requires { (0 < count) × (now ≤ moment_limit) × (are_placed duties.now ≡ true) × IsReady K.ready lane.old }
+        requires { (0 < count) × (now ≤ moment_limit) × (are_placed_tasks tasks.now ≡ true) × IsReady K.ready lane.old }
         ensures { IsReady K.ready lane.new × DidLane K.leads S.told S.faults S.denials N.told N.faults
-            (slot_work setup.entry.now.genesis domains.entry.now slot now) place duties.entry.now count i lane.old lane.new }
+            (slot_work setup.entry.now.genesis domains.entry.now slot now) place tasks.entry.now count i lane.old lane.new }
     {
         do_lane(
-            alloc, setup, domains, slot, now, place, duties, count, i, lane,
+            alloc, setup, domains, slot, now, place, tasks, count, i, lane,
         )
     };
     thread::for_each_mut(rt, lanes, count, &work);
-    gathered(alloc, place, duties, lanes)
+    gathered(alloc, place, tasks, lanes)
 }
 
-/// Does the duties that go to one of that many lanes, and leaves their results in it.
+/// Does the tasks that go to one of that many lanes, and leaves in it how they ended.
 fn do_lane<K: DeskCalls, S: Signer, N: Node + Drop>(
     alloc: Global,
     setup: &DutySetup,
@@ -70,21 +69,21 @@ fn do_lane<K: DeskCalls, S: Signer, N: Node + Drop>(
     slot: u64,
     now: u64,
     place: usize,
-    duties: &[Duty],
+    tasks: &[Task],
     count: usize,
     i: usize,
     lane: &mut Lane<K, S, N>,
 )
     requires some { 0 < count }
     requires moment { now ≤ moment_limit }
-    requires places { are_placed duties.now ≡ true }
+    requires places { are_placed_tasks tasks.now ≡ true }
     requires ready { IsReady K.ready lane.old }
     ensures ready { IsReady K.ready lane.new }
     ensures did { DidLane K.leads S.told S.faults S.denials N.told N.faults
-        (slot_work setup.now.genesis domains.now slot now) place duties.now count i lane.old lane.new }
+        (slot_work setup.now.genesis domains.now slot now) place tasks.now count i lane.old lane.new }
 {
-    let Ok(mine) = dealt(alloc, duties, place, i, count) else {
-        lane.results = None;
+    let Ok(mine) = dealt(alloc, tasks, place, i, count) else {
+        lane.ends = None;
         return;
     };
     let done = run_slot(
@@ -98,7 +97,7 @@ fn do_lane<K: DeskCalls, S: Signer, N: Node + Drop>(
         &mut lane.signer,
         &mut lane.nodes,
     );
-    lane.results = done.ok();
+    lane.ends = done.ok();
 }
 
 /// Asks the nodes of each lane, in the order of the lanes, whether they are syncing.

@@ -9,7 +9,7 @@ mod shares;
 mod slot;
 mod vote;
 
-pub use duty_plans::{DutyResult, DutySetup, Refusal, Unsigned};
+pub use duty_plans::{DutyResult, DutySetup, Ended, Refusal, Task, Unsent, Unsigned};
 pub use lane::Lane;
 pub use lanes::{refresh_lanes, run_lanes};
 pub use slot::run_slot;

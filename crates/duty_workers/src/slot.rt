@@ -1,29 +1,32 @@
-//! The duties of a slot, one after another.
+//! What is done in a slot, one after another.
 ghost use Rattle.std.specs.Prelude.{◌≡◌, ◌≤◌, true, option_map};
 ghost use Rattle.std.specs.Result.{result_ok};
 ghost use Rattle.desk_machine.specs.Machine.{moment_limit};
 ghost use Rattle.call_plans.specs.Paths.{Carries};
 ghost use Rattle.duty_plans.specs.Hands.{Free};
-ghost use Rattle.duty_plans.specs.Plans.{duty_plan, slot_plan, slot_work};
+ghost use Rattle.duty_plans.specs.Plans.{again_plan, duty_plan, made_plan, slot_plan, slot_work, task_plan};
 ghost use Rattle.duty_plans.specs.Seats.{Does, at_seat, nodes_seen, signer_seen};
 ghost use Rattle.duty_plans.specs.Steps.{Fits};
-ghost use Rattle.duty_workers.specs.Places.{are_placed, is_placed};
+ghost use Rattle.duty_workers.specs.Places.{are_placed_tasks, is_placed, is_placed_task};
 
-use crate::block::propose_block;
-use crate::vote::cast_vote;
+use crate::block::{propose, propose_block};
+use crate::vote::{cast_vote, vote_for};
+use block_copies::block_copy;
 use desk_machine::DeskCalls;
-use duty_plans::{DutyResult, DutySetup, SlotWork};
+use duty_plans::{DutySetup, Ended, SlotWork, Task, Unsent};
 use duty_schedule::Duty;
-use node_calls::Node;
+use node_calls::{Node, ProposerRow};
 use node_fallback::Nodes;
+use phase0_blocks::BeaconBlock;
 use sign_roots::Domains;
 use signer_link::Signer;
 use std::alloc::{AllocError, Global};
 
-/// Does these duties of a slot, one after another, and gives one result each: at this moment of the desk, an epoch,
+/// Does these tasks of a slot, one after another, and says of each how it ended: at this moment of the desk, an epoch,
 /// under the domains of the chain. A vote is cast on what a node says that its committee
 /// is to vote, a block is what a node gives for a reveal of the proposer's randomness; nothing is signed on data
-/// that is not the duty's, and nothing is signed or posted but under a grant of the desk.
+/// that is not the duty's, and nothing is signed or posted but under a grant of the desk. What was granted before and not
+/// sent is proposed to the desk once more as it was.
 ///
 /// # Errors
 ///
@@ -34,19 +37,19 @@ pub fn run_slot<K: DeskCalls, S: Signer, N: Node + Drop>(
     domains: &Domains,
     slot: u64,
     now: u64,
-    duties: &[Duty],
+    tasks: &[Task],
     desk: &mut K,
     signer: &mut S,
     nodes: &mut Nodes<N>,
-) -> Result<Vec<DutyResult>, AllocError>
+) -> Result<Vec<Ended>, AllocError>
     requires ready { K.ready desk.old }
     requires moment { now ≤ moment_limit }
-    requires places { are_placed duties.now ≡ true }
+    requires places { are_placed_tasks tasks.now ≡ true }
     ensures ready { K.ready desk.new }
-    ensures runs { Carries Fits (Does K.leads) (slot_plan (slot_work setup.now.genesis domains.now slot now) duties.now)
+    ensures runs { Carries Fits (Does K.leads) (slot_plan (slot_work setup.now.genesis domains.now slot now) tasks.now)
         (at_seat desk.old Free (signer_seen S.told S.faults S.denials signer.old) (nodes_seen N.told N.faults nodes.old))
         (at_seat desk.new Free (signer_seen S.told S.faults S.denials signer.new) (nodes_seen N.told N.faults nodes.new))
-        (option_map (λ results. results.items) (result_ok result)) }
+        (option_map (λ ends. ends.items) (result_ok result)) }
 {
     let work = SlotWork {
         genesis: setup.genesis,
@@ -54,29 +57,52 @@ pub fn run_slot<K: DeskCalls, S: Signer, N: Node + Drop>(
         slot,
         moment: now,
     };
-    let Ok(mut results) = Vec::with_capacity(alloc, duties.len()) else {
+    let Ok(mut ends) = Vec::with_capacity(alloc, tasks.len()) else {
         return Err(AllocError);
     };
-    'duties: for duty in duties {
-        let Ok(result) = carry_out(alloc, &work, duty, desk, signer, nodes) else {
+    'tasks: for task in tasks {
+        let Ok(end) = carry_out(alloc, &work, task, desk, signer, nodes) else {
             return Err(AllocError);
         };
-        let Ok(()) = results.push(result) else {
+        let Ok(()) = ends.push(end) else {
             return Err(AllocError);
         };
     }
-    Ok(results)
+    Ok(ends)
 }
 
-/// Does a duty.
+/// Does a task.
 fn carry_out<K: DeskCalls, S: Signer, N: Node + Drop>(
+    alloc: Global,
+    work: &SlotWork,
+    task: &Task,
+    desk: &mut K,
+    signer: &mut S,
+    nodes: &mut Nodes<N>,
+) -> Result<Ended, AllocError>
+    requires ready { K.ready desk.old }
+    requires moment { work.now.moment ≤ moment_limit }
+    requires place { is_placed_task task.now ≡ true }
+    ensures ready { K.ready desk.new }
+    ensures runs { Carries Fits (Does K.leads) (task_plan work.now task.now)
+        (at_seat desk.old Free (signer_seen S.told S.faults S.denials signer.old) (nodes_seen N.told N.faults nodes.old))
+        (at_seat desk.new Free (signer_seen S.told S.faults S.denials signer.new) (nodes_seen N.told N.faults nodes.new)) (result_ok result) }
+{
+    match task {
+        Task::Fresh(duty) => do_duty(alloc, work, duty, desk, signer, nodes),
+        Task::Again(duty, unsent) => try_again(alloc, work, duty, unsent, desk, signer, nodes),
+    }
+}
+
+/// Does all of a duty.
+fn do_duty<K: DeskCalls, S: Signer, N: Node + Drop>(
     alloc: Global,
     work: &SlotWork,
     duty: &Duty,
     desk: &mut K,
     signer: &mut S,
     nodes: &mut Nodes<N>,
-) -> Result<DutyResult, AllocError>
+) -> Result<Ended, AllocError>
     requires ready { K.ready desk.old }
     requires moment { work.now.moment ≤ moment_limit }
     requires place { is_placed duty.now ≡ true }
@@ -89,4 +115,57 @@ fn carry_out<K: DeskCalls, S: Signer, N: Node + Drop>(
         Duty::Block(row) => propose_block(work, row, desk, signer, nodes),
         Duty::Vote(row) => cast_vote(alloc, work, row, desk, signer, nodes),
     }
+}
+
+/// Does what was granted for a duty and not sent once more. What was granted for a duty of the other kind comes never.
+fn try_again<K: DeskCalls, S: Signer, N: Node + Drop>(
+    alloc: Global,
+    work: &SlotWork,
+    duty: &Duty,
+    unsent: &Unsent,
+    desk: &mut K,
+    signer: &mut S,
+    nodes: &mut Nodes<N>,
+) -> Result<Ended, AllocError>
+    requires ready { K.ready desk.old }
+    requires moment { work.now.moment ≤ moment_limit }
+    requires place { is_placed duty.now ≡ true }
+    ensures ready { K.ready desk.new }
+    ensures runs { Carries Fits (Does K.leads) (again_plan work.now duty.now unsent.now)
+        (at_seat desk.old Free (signer_seen S.told S.faults S.denials signer.old) (nodes_seen N.told N.faults nodes.old))
+        (at_seat desk.new Free (signer_seen S.told S.faults S.denials signer.new) (nodes_seen N.told N.faults nodes.new)) (result_ok result) }
+{
+    match duty {
+        Duty::Block(row) => match unsent {
+            Unsent::Block(block) => propose_again(alloc, work, row, block, desk, signer, nodes),
+            Unsent::Vote(_) => Err(AllocError),
+        },
+        Duty::Vote(row) => match unsent {
+            Unsent::Vote(details) => vote_for(alloc, work, row, *details, desk, signer, nodes),
+            Unsent::Block(_) => Err(AllocError),
+        },
+    }
+}
+
+/// Proposes a copy of this block.
+fn propose_again<K: DeskCalls, S: Signer, N: Node + Drop>(
+    alloc: Global,
+    work: &SlotWork,
+    row: &ProposerRow,
+    block: &BeaconBlock,
+    desk: &mut K,
+    signer: &mut S,
+    nodes: &mut Nodes<N>,
+) -> Result<Ended, AllocError>
+    requires ready { K.ready desk.old }
+    requires moment { work.now.moment ≤ moment_limit }
+    ensures ready { K.ready desk.new }
+    ensures runs { Carries Fits (Does K.leads) (made_plan work.now row.now block.now)
+        (at_seat desk.old Free (signer_seen S.told S.faults S.denials signer.old) (nodes_seen N.told N.faults nodes.old))
+        (at_seat desk.new Free (signer_seen S.told S.faults S.denials signer.new) (nodes_seen N.told N.faults nodes.new)) (result_ok result) }
+{
+    let Ok(copy) = block_copy(alloc, block) else {
+        return Err(AllocError);
+    };
+    propose(work, row, copy, desk, signer, nodes)
 }

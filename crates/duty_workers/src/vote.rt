@@ -1,11 +1,12 @@
 //! A vote: what its committee is to vote, the desk's leave, the signature, the post.
-ghost use Rattle.std.specs.Prelude.{◌≡◌, ◌≤◌, true};
+ghost use Rattle.std.specs.Prelude.{◌≡◌, ◌≤◌, option_map, true};
 ghost use Rattle.std.specs.Result.{result_ok};
 ghost use Rattle.desk_machine.specs.Machine.{moment_limit};
 ghost use Rattle.desk_machine.specs.declared.call.Outcome.{Outcome};
 ghost use Rattle.node_calls.specs.Aggregation.{aggregation_bits};
 ghost use Rattle.client_calls.specs.Seats.{SignerSeen};
 ghost use Rattle.call_plans.specs.Paths.{Carries};
+ghost use Rattle.duty_plans.specs.Ends.{left_by, over};
 ghost use Rattle.duty_plans.specs.Hands.{Free, Holds};
 ghost use Rattle.duty_plans.specs.Messages.{vote_message, vote_post, vote_request};
 ghost use Rattle.duty_plans.specs.Plans.{granted_plan, post_plan, under, vote_plan, voted_plan, with_got};
@@ -15,7 +16,9 @@ ghost use Rattle.duty_sends.specs.Hands.{HasMessage, MayEnd, given_hand};
 ghost use Rattle.duty_workers.specs.Places.{has_place};
 
 use desk_machine::{DeskCall, DeskCalls, Grant, Outcome};
-use duty_plans::{DutyResult, Got, SlotWork, grant_in, signature_in, vote_in};
+use duty_plans::{
+    DutyResult, Ended, Got, SlotWork, Unsent, grant_in, left_by, signature_in, vote_in,
+};
 use duty_sends::{send, settle};
 use edge_kit::Sig;
 use node_calls::{Ask, AttesterRow, Node, Post, aggregation_bits};
@@ -35,7 +38,7 @@ pub(crate) fn cast_vote<K: DeskCalls, S: Signer, N: Node + Drop>(
     desk: &mut K,
     signer: &mut S,
     nodes: &mut Nodes<N>,
-) -> Result<DutyResult, AllocError>
+) -> Result<Ended, AllocError>
     requires ready { K.ready desk.old }
     requires moment { work.now.moment ≤ moment_limit }
     requires place { has_place row.now ≡ true }
@@ -60,25 +63,28 @@ fn vote_on<K: DeskCalls, S: Signer, N: Node + Drop>(
     desk: &mut K,
     signer: &mut S,
     nodes: &mut Nodes<N>,
-) -> Result<DutyResult, AllocError>
+) -> Result<Ended, AllocError>
     requires ready { K.ready desk.old }
     requires moment { work.now.moment ≤ moment_limit }
     requires place { has_place row.now ≡ true }
     ensures ready { K.ready desk.new }
-    ensures runs { Carries Fits (Does K.leads) (with_got details (λ d. voted_plan work.now row.now d))
+    ensures runs { Carries Fits (Does K.leads) (with_got over details (λ d. voted_plan work.now row.now d))
         (at_seat desk.old Free (signer_seen S.told S.faults S.denials signer.old) (nodes_seen N.told N.faults nodes.old))
         (at_seat desk.new Free (signer_seen S.told S.faults S.denials signer.new) (nodes_seen N.told N.faults nodes.new)) (result_ok result) }
 {
     match details {
         Got::Given(details) => vote_for(alloc, work, row, details, desk, signer, nodes),
-        Got::Failed(result) => Ok(result),
+        Got::Failed(result) => Ok(Ended {
+            result,
+            unsent: None,
+        }),
         Got::Nothing => Err(AllocError),
     }
 }
 
-/// Votes for this.
+/// Votes for this: for the first time, or once more.
 #[tactic(auto, using(crate::proofs::PlaceLemmas::place_below, crate::proofs::PlaceLemmas::length_within))]
-fn vote_for<K: DeskCalls, S: Signer, N: Node + Drop>(
+pub(crate) fn vote_for<K: DeskCalls, S: Signer, N: Node + Drop>(
     alloc: Global,
     work: &SlotWork,
     row: &AttesterRow,
@@ -86,7 +92,7 @@ fn vote_for<K: DeskCalls, S: Signer, N: Node + Drop>(
     desk: &mut K,
     signer: &mut S,
     nodes: &mut Nodes<N>,
-) -> Result<DutyResult, AllocError>
+) -> Result<Ended, AllocError>
     requires ready { K.ready desk.old }
     requires moment { work.now.moment ≤ moment_limit }
     requires place { has_place row.now ≡ true }
@@ -148,23 +154,40 @@ fn sign<K: DeskCalls, S: Signer, N: Node + Drop>(
     desk: &mut K,
     signer: &mut S,
     nodes: &mut Nodes<N>,
-) -> Result<DutyResult, AllocError>
+) -> Result<Ended, AllocError>
     requires ready { K.ready desk.old }
     requires settles { MayEnd (λ c. K.allows desk.old c) leave }
     requires message { HasMessage leave }
     requires bits { bits ≡ aggregation_bits row.now.validator_committee_index row.now.committee_length }
     ensures ready { K.ready desk.new }
-    ensures runs { Carries Fits (Does K.leads) (with_got leave (λ g. granted_plan (vote_request work.now details) (vote_post row.now details) g))
+    ensures runs { Carries Fits (Does K.leads) (with_got over leave (λ g. granted_plan (Unsent.Vote details) (vote_request work.now details) (vote_post row.now details) g))
         (at_seat desk.old (given_hand leave) (signer_seen S.told S.faults S.denials signer.old) (nodes_seen N.told N.faults nodes.old))
         (at_seat desk.new Free (signer_seen S.told S.faults S.denials signer.new) (nodes_seen N.told N.faults nodes.new)) (result_ok result) }
 {
     match leave {
         Got::Given(grant) => {
             let reply = signer.sign(&request_of(work, details), &grant);
-            post(row, details, bits, signature_in(reply), grant, desk, nodes)
+            let posted = post(row, details, bits, signature_in(reply), grant, desk, nodes);
+            left_of(details, posted)
         }
-        Got::Failed(result) => Ok(result),
+        Got::Failed(result) => Ok(Ended {
+            result,
+            unsent: None,
+        }),
         Got::Nothing => Err(AllocError),
+    }
+}
+
+/// The end of a vote that was granted.
+fn left_of(
+    details: AttestationData,
+    posted: Result<DutyResult, AllocError>,
+) -> Result<Ended, AllocError>
+    ensures { result_ok result ≡ option_map (λ by. left_by (Unsent.Vote details) by) (result_ok posted) }
+{
+    match posted {
+        Ok(by) => Ok(left_by(Unsent::Vote(details), by)),
+        Err(error) => Err(error),
     }
 }
 
@@ -182,9 +205,9 @@ fn post<K: DeskCalls, N: Node + Drop>(
     requires settles { (o : Outcome) → K.allows desk.old (DeskCall.Settle grant o) }
     requires bits { bits ≡ aggregation_bits row.now.validator_committee_index row.now.committee_length }
     ensures ready { K.ready desk.new }
-    ensures runs { (s : SignerSeen) → Carries Fits (Does K.leads) (under grant signature (λ x. post_plan grant (vote_post row.now details x)))
+    ensures runs { (s : SignerSeen) (unsent : Unsent) → Carries Fits (Does K.leads) (under (left_by unsent) grant signature (λ x. post_plan unsent grant (vote_post row.now details x)))
         (at_seat desk.old (Holds grant) s (nodes_seen N.told N.faults nodes.old))
-        (at_seat desk.new Free s (nodes_seen N.told N.faults nodes.new)) (result_ok result) }
+        (at_seat desk.new Free s (nodes_seen N.told N.faults nodes.new)) (option_map (λ by. left_by unsent by) (result_ok result)) }
 {
     match signature {
         Got::Given(signature) => {

@@ -19,5 +19,5 @@ pub returns-in_default-do_duties-clause-runs : goal.returns-in_default-do_duties
 returns-in_default-do_duties-clause-runs g c = λ nodes s h. blocks_short g.K.DeskCalls.leads (g.C.Clock.start c.args.clock.now) _ c.args.setup.now s _ _ _ nodes _ c.args.due.now c.as_slice-blocks.result.now (c.as_slice-blocks.ensures.value ∙ c.in-Ok.ensures) (c.in_default-do_duties.ensures.works s h)
 
 pub returns-clause-runs : goal.returns-clause-runs
-returns-clause-runs g c = λ nodes s h. blocks_done g.K.DeskCalls.leads (g.C.Clock.start c.args.clock.now) _ c.args.setup.now s _ _ _ nodes _ _ c.args.due.now c.as_slice-blocks.result.now c.as_slice-proposed.result.now c.votes_start.result c.args.held.now.slot c.wait_until-reached.result _ (c.as_slice-blocks.ensures.value ∙ c.in-Ok.ensures)
-    (rw c.as_slice-proposed.ensures.value (c.in-Ok-do_duties.ensures.works s h)) c.votes_start.ensures h.is.slot c.wait_until-reached.ensures (c.cast_votes.ensures.runs (g.C.Clock.start c.args.clock.now) nodes s h)
+returns-clause-runs g c = λ nodes s h. blocks_done g.K.DeskCalls.leads (g.C.Clock.start c.args.clock.now) _ c.args.setup.now s _ _ _ nodes _ _ c.args.due.now c.as_slice-blocks.result.now c.in-Ok-do_duties.proposed.items c.votes_start.result c.args.held.now.slot c.wait_until-reached.result _ (c.as_slice-blocks.ensures.value ∙ c.in-Ok.ensures)
+    (c.in-Ok-do_duties.ensures.works s h) c.votes_start.ensures h.is.slot c.wait_until-reached.ensures (c.cast_votes.ensures.runs nodes s h)

@@ -1,0 +1,173 @@
+-- What is left of a duty is its own, and the desk gave leave for it.
+use Rattle.std.proofs.Common.{◌≡◌, ℕ, Bool, true, false, List, [], ◌∷◌, ◌++◌, Contains, Option, Some, None, refl, sym, ◌∙◌, ap, append_assoc, subst}
+use Rattle.std.specs.Prelude.{IfSome, if◌then◌else◌}
+use Rattle.std.proofs.lemmas.Grind.{flat_map-append}
+use Rattle.std.proofs.lemmas.List.{append-nil}
+use Rattle.std.proofs.lemmas.List.Elements.{Contains-append_left, Contains-append_right}
+use Rattle.edge_kit.specs.declared.bytes.PubKey.{PubKey}
+use Rattle.edge_kit.specs.declared.bytes.Sig.{Sig}
+use Rattle.slash_defs.specs.declared.message.Message.{Message}
+use Rattle.phase0_types.specs.declared.attestation.AttestationData.{AttestationData}
+use Rattle.phase0_blocks.specs.declared.block.BeaconBlock.{BeaconBlock}
+use Rattle.desk_machine.specs.declared.open_grant.OpenGrant.{OpenGrant}
+use Rattle.desk_machine.specs.declared.call.DeskCall.{DeskCall}
+use Rattle.desk_machine.specs.declared.call.DeskCall.TheVariants as call
+use Rattle.desk_machine.specs.declared.call.DeskReply.{DeskReply}
+use Rattle.desk_machine.specs.declared.call.DeskReply.TheVariants as reply
+use Rattle.desk_machine.specs.declared.call.Outcome.{Outcome}
+use Rattle.desk_machine.specs.declared.call.Outcome.TheVariants as outcome
+use Rattle.signer_link.specs.declared.request.SignRequest.{SignRequest}
+use Rattle.node_calls.specs.declared.answer.AttesterRow.{AttesterRow}
+use Rattle.node_calls.specs.declared.answer.ProposerRow.{ProposerRow}
+use Rattle.node_calls.specs.declared.post.Post.{Post}
+use Rattle.protect_record.proofs.MemberLemmas.{contains_first}
+use Rattle.duty_schedule.specs.Checking.{block_members, data_members, first_that_differs}
+use Rattle.duty_schedule.specs.declared.rows.Duty.{Duty}
+use Rattle.duty_schedule.specs.declared.rows.Duty.TheVariants as duty
+use Rattle.call_plans.specs.Plans.{Done, Stop, Ask as Step, Follows}
+use Rattle.duty_plans.specs.declared.ended.Ended.{Ended}
+use Rattle.duty_plans.specs.declared.ended.Unsent.{Unsent}
+use Rattle.duty_plans.specs.declared.ended.Unsent.TheVariants as granted
+use Rattle.duty_plans.specs.declared.got.Got.{Got}
+use Rattle.duty_plans.specs.declared.got.Got.TheVariants as got
+use Rattle.duty_plans.specs.declared.result.DutyResult.{DutyResult}
+use Rattle.duty_plans.specs.declared.result.DutyResult.TheVariants as ended
+use Rattle.duty_plans.specs.declared.task.Task.{Task}
+use Rattle.duty_plans.specs.declared.task.Task.TheVariants as task
+use Rattle.duty_plans.specs.declared.work.SlotWork.{SlotWork}
+use Rattle.duty_plans.specs.Ends.{is_repeated, left_by, over}
+use Rattle.duty_plans.specs.Guards.{granted_by, granted_in}
+use Rattle.duty_plans.specs.Messages.{block_message, block_post, block_request, vote_message, vote_post, vote_request}
+use Rattle.duty_plans.specs.Reading.{block_of, grant_of, posted_of, signature_of, vote_of}
+use Rattle.duty_plans.specs.Steps.{DutyCall, DutyReply, DutyStep, DutyPlan, Calls, Replies, Signed, Answered, Taken, Fits, desk_calls, step_calls}
+use Rattle.duty_plans.specs.Plans.{answer_reply, desk_reply, post_reply, sign_reply, allowed_plan, block_plan, granted_plan, made_plan, post_plan, publish_plan, revealed_plan, sent, settles, task_plan, under, vote_plan, voted_plan, with_got}
+use Rattle.duty_plans.specs.Repeats.{IsLeft}
+use Rattle.duty_plans.specs.Tasks.{IsOwnTask, IsOwnUnsent, duty_of, owner_of, unsent_message}
+use Rattle.duty_plans.proofs.DutyLemmas.{block_got, grant_got, vote_got}
+
+abbrev Given : Type 0
+Given = List (PubKey × Message)
+
+granted_joined : (xs ys : List (DeskCall × DeskReply)) → granted_in (xs ++ ys) ≡ granted_in xs ++ granted_in ys
+granted_joined xs ys = flat_map-append granted_by xs ys
+
+module _ (work : SlotWork) (d : Duty) where
+  -- leave was given for it
+  abbrev Had : Given → Unsent → Type 0
+  Had so unsent = Contains so (owner_of d, unsent_message work.domains unsent)
+
+  abbrev LeftBy : Given → Ended → Type 0
+  LeftBy so e = IfSome e.unsent (λ unsent. (is_repeated e.result ≡ true) × IsOwnUnsent d unsent × Contains so (owner_of d, unsent_message work.domains unsent))
+
+  -- where leave was given for these before it, the plan leaves only what leave was given for
+  abbrev Leaves : Given → DutyPlan Ended → Type 0
+  Leaves so (Done e) = LeftBy so e
+  Leaves so Stop = Unit {0}
+  Leaves so (Step c k) = (r : DutyReply) → Fits c r → Leaves (so ++ granted_in (step_calls (c, r))) (k r)
+
+  leaves_follows : (so : Given) (plan : DutyPlan Ended) (steps : List DutyStep) (e : Ended) → Leaves so plan → Follows Fits plan steps (Some e) → LeftBy (so ++ granted_in (desk_calls steps)) e
+  leaves_follows so (Done x) [] e g f = subst (λ (l : Given). LeftBy l e) (sym (append-nil so)) (subst (λ (y : Ended). LeftBy so y) (sym f) g)
+  leaves_follows so (Done x) (s ∷ steps) e g f = absurd f
+  leaves_follows so Stop [] e g f = absurd f
+  leaves_follows so Stop (s ∷ steps) e g f = absurd f
+  leaves_follows so (Step c k) [] e g f = absurd f
+  leaves_follows so (Step c k) (s ∷ steps) e g f =
+      let rest = leaves_follows (so ++ granted_in (step_calls (c, s.1))) (k s.1) steps e (g s.1 f.1) f.2 in
+      let same : granted_in (step_calls (c, s.1)) ++ granted_in (desk_calls steps) ≡ granted_in (desk_calls (s ∷ steps)) =
+      ap (λ (x : DutyCall). granted_in (step_calls (x, s.1)) ++ granted_in (desk_calls steps)) (sym f.0) ∙ sym (granted_joined (step_calls s) (desk_calls steps)) in
+      subst (λ (l : Given). LeftBy l e) (append_assoc so (granted_in (step_calls (c, s.1))) (granted_in (desk_calls steps)) ∙ ap (λ (l : Given). so ++ l) same) rest
+
+  -- ---- under a grant
+
+  had_more : (so more : Given) (unsent : Unsent) → Had so unsent → Had (so ++ more) unsent
+  had_more so more unsent h = Contains-append_left so more (owner_of d, unsent_message work.domains unsent) h
+
+  left_if : (so : Given) (unsent : Unsent) (by : DutyResult) (b : Bool) → is_repeated by ≡ b → IsOwnUnsent d unsent → Had so unsent
+      → IfSome (if b then Some unsent else None) (λ u. (is_repeated by ≡ true) × IsOwnUnsent d u × Contains so (owner_of d, unsent_message work.domains u))
+  left_if so unsent by true is own h = (is, own, h)
+  left_if so unsent by false is own h = tt
+
+  leaves_end : (so : Given) (unsent : Unsent) (by : DutyResult) → IsOwnUnsent d unsent → Had so unsent → LeftBy so (left_by unsent by)
+  leaves_end so unsent by own h = left_if so unsent by (is_repeated by) refl own h
+
+  settled_end : (so : Given) (unsent : Unsent) (grant : OpenGrant) (o : Outcome) (by : DutyResult) → IsOwnUnsent d unsent → Had so unsent → Leaves so (settles grant o (Done (left_by unsent by)))
+  settled_end so unsent grant o by own h r f =
+      let more = granted_in (step_calls (Calls (call.Settle grant o), r)) in
+      leaves_end (so ++ more) unsent by own (had_more so more unsent h)
+
+  leaves_posted : (so : Given) (unsent : Unsent) (g : Got (Unit {0})) → IsOwnUnsent d unsent → Had so unsent → Leaves so (with_got (left_by unsent) g (sent unsent))
+  leaves_posted so unsent (got.Given x) own h = leaves_end so unsent ended.Sent own h
+  leaves_posted so unsent (got.Failed by) own h = leaves_end so unsent by own h
+  leaves_posted so unsent got.Nothing own h = tt
+
+  leaves_post : (so : Given) (unsent : Unsent) (grant : OpenGrant) (p : Post) → IsOwnUnsent d unsent → Had so unsent → Leaves so (post_plan unsent grant p)
+  leaves_post so unsent grant p own h r f r2 f2 =
+      let one = so ++ granted_in [] in
+      let more = granted_in (step_calls (Calls (call.Settle grant outcome.Sent), r2)) in
+      leaves_posted (one ++ more) unsent (posted_of (post_reply r)) own (had_more one more unsent (had_more so (granted_in []) unsent h))
+
+  leaves_signed : (so : Given) (unsent : Unsent) (grant : OpenGrant) (g : Got Sig) (made : Sig → Post) → IsOwnUnsent d unsent → Had so unsent → Leaves so (under (left_by unsent) grant g (λ signature. post_plan unsent grant (made signature)))
+  leaves_signed so unsent grant (got.Given x) made own h = leaves_post so unsent grant (made x) own h
+  leaves_signed so unsent grant (got.Failed by) made own h = settled_end so unsent grant outcome.Dropped by own h
+  leaves_signed so unsent grant got.Nothing made own h = λ r f. tt
+
+  leaves_granted : (so : Given) (unsent : Unsent) (q : SignRequest) (made : Sig → Post) (grant : OpenGrant) → IsOwnUnsent d unsent → Had so unsent → Leaves so (granted_plan unsent q made grant)
+  leaves_granted so unsent q made grant own h r f = leaves_signed (so ++ granted_in []) unsent grant (signature_of (sign_reply r)) made own (had_more so (granted_in []) unsent h)
+
+  -- ---- where nothing is left
+
+  leaves_got : {T : Type 0} (so : Given) (g : Got T) (k : T → DutyPlan Ended) → ((x : T) → g ≡ got.Given x → Leaves so (k x)) → Leaves so (with_got over g k)
+  leaves_got so (got.Given x) k h = h x refl
+  leaves_got so (got.Failed by) k h = tt
+  leaves_got so got.Nothing k h = tt
+
+  leaves_under : {T : Type 0} (so : Given) (grant : OpenGrant) (g : Got T) (k : T → DutyPlan Ended) → ((x : T) → Leaves so (k x)) → Leaves so (under over grant g k)
+  leaves_under so grant (got.Given x) k h = h x
+  leaves_under so grant (got.Failed by) k h = λ r f. tt
+  leaves_under so grant got.Nothing k h = λ r f. tt
+
+  -- ---- leave is given
+
+  granted_now : (key : PubKey) (m : Message) (now : ℕ) (r : DutyReply) (grant : OpenGrant) → Fits (Calls (call.Propose key m now)) r → grant_of (desk_reply r) ≡ got.Given grant
+      → Contains (granted_in (step_calls (Calls (call.Propose key m now), r))) (key, m)
+  granted_now key m now (Replies x) grant f e =
+      subst (λ (y : DeskReply). Contains (granted_in (step_calls (Calls (call.Propose key m now), Replies y))) (key, m)) (sym (grant_got x grant e)) (contains_first (key, m) [])
+  granted_now key m now (Signed s) grant f e = absurd f
+  granted_now key m now (Answered tried) grant f e = absurd f
+  granted_now key m now (Taken tried) grant f e = absurd f
+
+  leaves_publish : (so : Given) (now : ℕ) (unsent : Unsent) (q : SignRequest) (made : Sig → Post) → IsOwnUnsent d unsent → Leaves so (publish_plan (owner_of d) (unsent_message work.domains unsent) now unsent q made)
+  leaves_publish so now unsent q made own r f =
+      let key = owner_of d in
+      let m = unsent_message work.domains unsent in
+      let more = granted_in (step_calls (Calls (call.Propose key m now), r)) in
+      leaves_got (so ++ more) (grant_of (desk_reply r)) (λ grant. granted_plan unsent q made grant) (λ grant e.
+      leaves_granted (so ++ more) unsent q made grant own (Contains-append_right so more (key, m) (granted_now key m now r grant f e)))
+
+leaves_voted : (work : SlotWork) (row : AttesterRow) (details : AttestationData) (so : Given) → first_that_differs (data_members row details) ≡ None → Leaves work (duty.Vote row) so (voted_plan work row details)
+leaves_voted work row details so own = leaves_publish work (duty.Vote row) so work.moment (granted.Vote details) (vote_request work details) (vote_post row details) own
+
+leaves_made : (work : SlotWork) (row : ProposerRow) (block : BeaconBlock) (so : Given) → first_that_differs (block_members row.slot block) ≡ None → Leaves work (duty.Block row) so (made_plan work row block)
+leaves_made work row block so own = leaves_publish work (duty.Block row) so work.moment (granted.Block block) (block_request work block) (block_post block) own
+
+leaves_vote : (work : SlotWork) (row : AttesterRow) (so : Given) → Leaves work (duty.Vote row) so (vote_plan work row)
+leaves_vote work row so r f =
+    leaves_got work (duty.Vote row) (so ++ granted_in []) (vote_of row (answer_reply r)) (λ details. voted_plan work row details) (λ details e. leaves_voted work row details (so ++ granted_in []) (vote_got row (answer_reply r) details e))
+
+leaves_block : (work : SlotWork) (row : ProposerRow) (so : Given) → Leaves work (duty.Block row) so (block_plan work row)
+leaves_block work row so r f =
+    let D : Duty = duty.Block row in
+    let one = so ++ granted_in (step_calls (Calls (call.Allow row.pubkey work.moment), r)) in
+    let two = one ++ granted_in [] in
+    leaves_got work D one (grant_of (desk_reply r)) (λ grant. allowed_plan work row grant) (λ grant e s f2.
+    leaves_under work D two grant (signature_of (sign_reply s)) (λ reveal. revealed_plan work row grant reveal) (λ reveal a f3 t f4.
+    let three = (two ++ granted_in []) ++ granted_in (step_calls (Calls (call.Settle grant outcome.Sent), t)) in
+    leaves_got work D three (block_of row (answer_reply a)) (λ block. made_plan work row block) (λ block is. leaves_made work row block three (block_got row (answer_reply a) block is))))
+
+pub task_left : (work : SlotWork) (t : Task) (steps : List DutyStep) (e : Ended) → IsOwnTask t → Follows Fits (task_plan work t) steps (Some e) → IsLeft work t steps e
+task_left work (task.Fresh (duty.Vote row)) steps e own f = leaves_follows work (duty.Vote row) [] (vote_plan work row) steps e (leaves_vote work row []) f
+task_left work (task.Fresh (duty.Block row)) steps e own f = leaves_follows work (duty.Block row) [] (block_plan work row) steps e (leaves_block work row []) f
+task_left work (task.Again (duty.Vote row) (granted.Vote details)) steps e own f = leaves_follows work (duty.Vote row) [] (voted_plan work row details) steps e (leaves_voted work row details [] own) f
+task_left work (task.Again (duty.Block row) (granted.Block block)) steps e own f = leaves_follows work (duty.Block row) [] (made_plan work row block) steps e (leaves_made work row block [] own) f
+task_left work (task.Again (duty.Vote row) (granted.Block block)) steps e own f = absurd own
+task_left work (task.Again (duty.Block row) (granted.Vote details)) steps e own f = absurd own

@@ -1,0 +1,54 @@
+-- What is done of duties: all of each, or what was granted and not sent once more.
+use Rattle.std.specs.Prelude.{◌≡◌, List, [], ◌∷◌, ◌++◌, map, Option, Some, None}
+use Rattle.edge_kit.specs.declared.bytes.PubKey.{PubKey}
+use Rattle.slash_defs.specs.declared.message.Message.{Message}
+use Rattle.sign_roots.specs.declared.domains.Domains.{Domains}
+use Rattle.duty_schedule.specs.Checking.{block_members, data_members, first_that_differs}
+use Rattle.duty_schedule.specs.declared.rows.Duty.{Duty}
+use Rattle.duty_schedule.specs.declared.rows.Duty.TheVariants as duty
+use Rattle.duty_plans.specs.declared.ended.Ended.{Ended}
+use Rattle.duty_plans.specs.declared.ended.Unsent.{Unsent}
+use Rattle.duty_plans.specs.declared.ended.Unsent.TheVariants as granted
+use Rattle.duty_plans.specs.declared.task.Task.{Task}
+use Rattle.duty_plans.specs.declared.task.Task.TheVariants as task
+use Rattle.duty_plans.specs.Messages.{block_message, vote_message}
+
+abbrev pub fresh : List Duty → List Task
+fresh duties = map (λ d. task.Fresh d) duties
+
+abbrev pub again_by : Duty → Option Unsent → List Task
+again_by d None = []
+again_by d (Some unsent) = task.Again d unsent ∷ []
+
+abbrev pub again_of : Duty → Ended → List Task
+again_of d e = again_by d e.unsent
+
+-- what is left of these duties, which ended so
+abbrev pub again_tasks : List Duty → List Ended → List Task
+again_tasks [] ends = []
+again_tasks (d ∷ ds) [] = []
+again_tasks (d ∷ ds) (e ∷ ends) = again_of d e ++ again_tasks ds ends
+
+-- whose it is
+abbrev pub duty_of : Task → Duty
+duty_of (task.Fresh d) = d
+duty_of (task.Again d unsent) = d
+
+abbrev pub owner_of : Duty → PubKey
+owner_of (duty.Block row) = row.pubkey
+owner_of (duty.Vote row) = row.pubkey
+
+-- the message of what was granted
+abbrev pub unsent_message : Domains → Unsent → Message
+unsent_message domains (granted.Vote details) = vote_message domains details
+unsent_message domains (granted.Block block) = block_message domains block
+
+-- what was granted for a duty is the duty's
+abbrev pub IsOwnUnsent : Duty → Unsent → Type 0
+IsOwnUnsent (duty.Vote row) (granted.Vote details) = first_that_differs (data_members row details) ≡ None
+IsOwnUnsent (duty.Block row) (granted.Block block) = first_that_differs (block_members row.slot block) ≡ None
+IsOwnUnsent d unsent = ⊥
+
+abbrev pub IsOwnTask : Task → Type 0
+IsOwnTask (task.Fresh d) = Unit {0}
+IsOwnTask (task.Again d unsent) = IsOwnUnsent d unsent
