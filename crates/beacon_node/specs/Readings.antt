@@ -10,7 +10,7 @@ use Rattle.json_members.specs.Reading.{json_of, text_in, number_in, bytes_in, fl
 use Rattle.phase0_types.specs.Shapes.{Shape}
 use Rattle.phase0_types.specs.Values.{ValueOf}
 use Rattle.phase0_types.specs.Reading.{read_at}
-use Rattle.phase0_types.specs.Containers.{fork, attestation_data, beacon_block}
+use Rattle.phase0_types.specs.Containers.{fork, checkpoint, attestation_data, beacon_block}
 use Rattle.http_wire.specs.declared.message.Response.{Response}
 use Rattle.http_wire.specs.declared.message.WireFault.{WireFault}
 use Rattle.http_wire.specs.declared.message.WireFault.TheVariants as wire
@@ -116,6 +116,17 @@ attesters_in epoch d = do
   rows ← rows_in attester_row d
   if are_attester_rows epoch rows then Some (attesters_are root rows) else None
 
+-- the source of a vote is no later than its target
+unfoldable pub is_ordered : ValueOf attestation_data → Bool
+unfolding attestation_data checkpoint
+is_ordered (slot, (index, (block, ((source, source_root), ((target, target_root), end))))) = nat_le source target
+
+-- what a committee is to vote
+abbrev pub details_in : Data → Option Said
+details_in d = do
+  details ← data_value attestation_data d
+  if is_ordered details then Some (data_is details) else None
+
 -- a block of the first fork
 abbrev pub block_in : Data → Option Said
 block_in d = do
@@ -130,7 +141,7 @@ answer_in ask.Syncing d = syncing_in d
 answer_in (ask.Validators keys) d = option_map validators_are (rows_in validator_row d)
 answer_in (ask.Proposer epoch) d = proposers_in epoch d
 answer_in (ask.Attester epoch indices) d = attesters_in epoch d
-answer_in (ask.Data slot committee) d = option_map data_is (data_value attestation_data d)
+answer_in (ask.Data slot committee) d = details_in d
 answer_in (ask.Block slot reveal) d = block_in d
 answer_in (ask.Liveness epoch indices) d = option_map liveness_is (rows_in liveness_row d)
 

@@ -10,7 +10,7 @@ use edge_kit::{Items, Root, Sig};
 use http_wire::{Response, WireFault};
 use json_members::{bytes_in, flag_in, json_of, number_in, text_in};
 use node_calls::{Answer, Ask, NodeFault, are_attesters, are_proposers};
-use phase0_types::Shaped;
+use phase0_types::{AttestationData, Shaped};
 use serde_json::Value;
 use std::alloc::{AllocError, Global};
 
@@ -96,7 +96,7 @@ fn answer_in(alloc: Global, ask: &Ask, value: &Value) -> Result<Option<Answer>, 
         Ask::Validators { .. } => Ok(rows_in(alloc, value)?.map(Answer::Validators)),
         Ask::Proposer { epoch } => proposers_in(alloc, *epoch, value),
         Ask::Attester { epoch, .. } => attesters_in(alloc, *epoch, value),
-        Ask::Data { .. } => Ok(data_in(alloc, value)?.map(Answer::Data)),
+        Ask::Data { .. } => details_in(alloc, value),
         Ask::Block { .. } => block_in(alloc, value),
         Ask::Liveness { .. } => Ok(rows_in(alloc, value)?.map(Answer::Liveness)),
     }
@@ -145,6 +145,19 @@ fn block_in(alloc: Global, value: &Value) -> Result<Option<Answer>, AllocError>
         return Ok(None);
     }
     Ok(data_in(alloc, value)?.map(Answer::Block))
+}
+
+fn details_in(alloc: Global, value: &Value) -> Result<Option<Answer>, AllocError>
+    ensures means { IfOk result (λ found. option_map said found ≡ reading.details_in (view value.now)) }
+    ensures fits { IfOk result (λ found. IfSome found (λ answer. (slot committee : ℕ) → fits (Ask.Data slot committee) answer ≡ true)) }
+{
+    let Some(details) = data_in::<AttestationData>(alloc, value)? else {
+        return Ok(None);
+    };
+    if details.source.epoch > details.target.epoch {
+        return Ok(None);
+    }
+    Ok(Some(Answer::Data(details)))
 }
 
 fn proposers_in(alloc: Global, epoch: u64, value: &Value) -> Result<Option<Answer>, AllocError>

@@ -127,9 +127,9 @@ made_plan work row block = publish_plan row.pubkey (block_message work.domains b
 abbrev pub revealed_plan : SlotWork → ProposerRow → OpenGrant → Sig → DutyPlan Ended
 revealed_plan work row grant reveal = asks (ask.Block work.slot reveal) (λ a. settles grant outcome.Sent (with_got over (block_of row a) (λ block. made_plan work row block)))
 
--- the randomness is revealed
+-- the randomness is revealed; another try may begin with the reveal once more
 abbrev pub allowed_plan : SlotWork → ProposerRow → OpenGrant → DutyPlan Ended
-allowed_plan work row grant = reveals grant (reveal_request work) (λ s. under over grant (signature_of s) (λ reveal. revealed_plan work row grant reveal))
+allowed_plan work row grant = reveals grant (reveal_request work) (λ s. under (left_by granted.Reveal) grant (signature_of s) (λ reveal. revealed_plan work row grant reveal))
 
 -- leave is asked for the reveal first
 abbrev pub block_plan : SlotWork → ProposerRow → DutyPlan Ended
@@ -141,8 +141,10 @@ abbrev pub duty_plan : SlotWork → Duty → DutyPlan Ended
 duty_plan work (duty.Block row) = block_plan work row
 duty_plan work (duty.Vote row) = vote_plan work row
 
--- leave is asked for the same message once more; what was granted for a duty of the other kind comes never
+-- leave is asked for the same message once more; a block whose reveal was not signed is begun once more; what was granted for a duty of
+-- the other kind never comes
 abbrev pub again_plan : SlotWork → Duty → Unsent → DutyPlan Ended
+again_plan work (duty.Block row) granted.Reveal = block_plan work row
 again_plan work (duty.Block row) (granted.Block block) = made_plan work row block
 again_plan work (duty.Vote row) (granted.Vote details) = voted_plan work row details
 again_plan work d unsent = Stop

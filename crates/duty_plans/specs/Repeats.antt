@@ -1,5 +1,5 @@
 -- What another try proposes, and what is left of a duty.
-use Rattle.std.specs.Prelude.{◌≡◌, true, List, [], ◌∷◌, Contains, IfSome}
+use Rattle.std.specs.Prelude.{◌≡◌, true, List, [], ◌∷◌, Contains, IfSome, Option, None, Some}
 use Rattle.edge_kit.specs.declared.bytes.PubKey.{PubKey}
 use Rattle.slash_defs.specs.declared.message.Message.{Message}
 use Rattle.desk_machine.specs.declared.call.DeskCall.{DeskCall}
@@ -21,8 +21,13 @@ abbrev pub AllPropose : PubKey → Message → List DutyStep → Type 0
 AllPropose key m [] = Unit {0}
 AllPropose key m (s ∷ steps) = Proposes key m s.0 × AllPropose key m steps
 
+-- leave was given for this key and message, where there is one
+abbrev pub HadLeave : List (PubKey × Message) → PubKey → Option Message → Type 0
+HadLeave so key None = Unit {0}
+HadLeave so key (Some m) = Contains so (key, m)
+
 -- Another try may follow only where the service failed or answered something else, or no node took what was posted. What is left is the
--- duty's, and the desk gave leave for its message in these steps.
+-- duty's, and the desk gave leave for its message, if it has one, in these steps.
 abbrev pub IsLeft : SlotWork → Task → List DutyStep → Ended → Type 0
 IsLeft work t steps e = IfSome e.unsent (λ unsent. (is_repeated e.result ≡ true) × IsOwnUnsent (duty_of t) unsent
-    × Contains (granted_in (desk_calls steps)) (owner_of (duty_of t), unsent_message work.domains unsent))
+    × HadLeave (granted_in (desk_calls steps)) (owner_of (duty_of t)) (unsent_message work.domains unsent))

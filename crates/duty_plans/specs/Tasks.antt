@@ -38,13 +38,15 @@ abbrev pub owner_of : Duty → PubKey
 owner_of (duty.Block row) = row.pubkey
 owner_of (duty.Vote row) = row.pubkey
 
--- the message of what was granted
-abbrev pub unsent_message : Domains → Unsent → Message
-unsent_message domains (granted.Vote details) = vote_message domains details
-unsent_message domains (granted.Block block) = block_message domains block
+-- the message of what was granted; a reveal is none
+abbrev pub unsent_message : Domains → Unsent → Option Message
+unsent_message domains granted.Reveal = None
+unsent_message domains (granted.Vote details) = Some (vote_message domains details)
+unsent_message domains (granted.Block block) = Some (block_message domains block)
 
 -- what was granted for a duty is the duty's
 abbrev pub IsOwnUnsent : Duty → Unsent → Type 0
+IsOwnUnsent (duty.Block row) granted.Reveal = Unit {0}
 IsOwnUnsent (duty.Vote row) (granted.Vote details) = first_that_differs (data_members row details) ≡ None
 IsOwnUnsent (duty.Block row) (granted.Block block) = first_that_differs (block_members row.slot block) ≡ None
 IsOwnUnsent d unsent = ⊥

@@ -11,6 +11,8 @@ use std::alloc::{AllocError, Global};
 /// What the desk gave leave for, and was not sent.
 #[derive(Drop)]
 pub enum Unsent {
+    /// The reveal of a proposer's randomness, with which a whole block begins.
+    Reveal,
     /// What a committee is to vote.
     Vote(AttestationData),
     /// A block.
@@ -23,6 +25,7 @@ impl Unsent {
         ensures { IfOk result (λ copy. copy ≡ self.now) }
     {
         match self {
+            Unsent::Reveal => Ok(Unsent::Reveal),
             Unsent::Vote(details) => Ok(Unsent::Vote(*details)),
             Unsent::Block(block) => Ok(Unsent::Block(block_copy(alloc, block)?)),
         }

@@ -2,6 +2,7 @@
 ghost use Rattle.std.specs.Prelude.{◌≡◌, List, Some};
 ghost use Rattle.std.specs.declared.option.Option.{Option};
 ghost use Rattle.duty_schedule.specs.declared.rows.Duty.{Duty};
+ghost use Rattle.slash_defs.specs.declared.message.Message.{Message};
 ghost use Rattle.call_plans.specs.Paths.{Carries};
 ghost use Rattle.call_plans.specs.Plans.{Follows};
 ghost use Rattle.duty_plans.specs.declared.ended.Ended.{Ended};
@@ -38,11 +39,12 @@ pub fn duty_law()
     ensures each { (work : SlotWork) (tasks : List Task) (steps : List DutyStep) (ends : List Ended) → Follows Fits (slot_plan work tasks) steps (Some ends) → EachDone work tasks steps ends }
 {}
 
-/// What is done once more of a duty asks the desk for leave for no message but that of what was left, for the duty's key.
+/// What is done once more of a duty asks the desk for leave for no message but that of what was left, for the duty's key,
+/// where that has one: a block whose reveal was not signed is begun once more, and no message was granted for it.
 /// What is left of a duty is the duty's own, the desk gave leave for its message in the duty's steps, and the duty ended
 /// since the service failed or answered something else, or no node took what was posted.
 pub fn repeat_law()
-    ensures same { (work : SlotWork) (duty : Duty) (unsent : Unsent) (steps : List DutyStep) (v : Option Ended) → Follows Fits (task_plan work (Task.Again duty unsent)) steps v
-        → AllPropose (owner_of duty) (unsent_message work.domains unsent) steps }
+    ensures same { (work : SlotWork) (duty : Duty) (unsent : Unsent) (m : Message) (steps : List DutyStep) (v : Option Ended) → unsent_message work.domains unsent ≡ Some m
+        → Follows Fits (task_plan work (Task.Again duty unsent)) steps v → AllPropose (owner_of duty) m steps }
     ensures left { (work : SlotWork) (task : Task) (steps : List DutyStep) (e : Ended) → IsOwnTask task → Follows Fits (task_plan work task) steps (Some e) → IsLeft work task steps e }
 {}

@@ -14,7 +14,7 @@ use Rattle.duty_plans.specs.declared.setup.DutySetup.{DutySetup}
 use Rattle.duty_turns.specs.declared.held.DutyEnd.{DutyEnd}
 use Rattle.duty_turns.specs.declared.held.DutyEnd.TheVariants as end
 use Rattle.duty_turns.specs.Standing.{Standing}
-use Rattle.duty_turns.specs.Times.{next_slot, slot_of, slot_start, votes_start}
+use Rattle.duty_turns.specs.Times.{again_start, next_slot, slot_of, slot_start, votes_start}
 use Rattle.duty_turns.specs.TurnSteps.{TurnPlan, TurnStep, Waits, Woke}
 use Rattle.duty_turns.specs.Turns.{NextPlan, active_of, asked_plan, at_slot, blocks_in, calls, close_plan, looks_up, next_turn, refreshes, refreshes_lanes, shortens, votes_in, waits, with_active, work_of, works}
 
@@ -47,7 +47,7 @@ tried_on_time setup s ds ends tasks = works (work_of setup s) 0 tasks (λ again.
 
 abbrev pub left_on_time : DutySetup → Standing → List Duty → List Ended → List Task → NextPlan
 left_on_time setup s ds ends [] = close_plan setup s.slot ds (results_of ends) (at_slot (next_slot s.slot) s)
-left_on_time setup s ds ends (t ∷ tasks) = waits (votes_start setup.genesis_time s.slot) (λ reached. tried_on_time setup s ds ends (t ∷ tasks))
+left_on_time setup s ds ends (t ∷ tasks) = waits (again_start setup.genesis_time s.slot) (λ reached. tried_on_time setup s ds ends (t ∷ tasks))
 
 abbrev pub again_on_time : DutySetup → Standing → List Duty → List Ended → NextPlan
 again_on_time setup s ds ends = left_on_time setup s ds ends (again_tasks ds ends)

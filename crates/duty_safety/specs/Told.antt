@@ -15,7 +15,7 @@ use Rattle.duty_plans.specs.Slots.{EachDone}
 use Rattle.duty_plans.specs.Steps.{DutyStep}
 use Rattle.duty_turns.specs.Lanes.{dealt}
 use Rattle.duty_turns.specs.Lines.{duty_lines}
-use Rattle.duty_turns.specs.Times.{votes_start}
+use Rattle.duty_turns.specs.Times.{again_start, votes_start}
 use Rattle.duty_turns.specs.TurnSteps.{TurnStep, LooksUp, Waits, Works, Writes, Due, Woke, Worked, Wrote}
 use Rattle.duty_turns.specs.Turns.{Next, blocks_in, votes_in}
 
@@ -32,11 +32,11 @@ pub record AllDone (work : SlotWork) (place : ℕ) (tasks : List Task) (lanes : 
   pub each : EachDoneIn work (length lanes) 0 place tasks ends lanes
 
 -- Duties ended so, and these steps followed: where nothing was left of them, none, and they ended at last as they did at first; else all
--- that was left was tried once more in lanes, a third into the slot or later, and each other try's end stands for the first one's.
+-- that was left was tried once more in lanes, after a wait for seven seconds into the slot, and each other try's end stands for the first one's.
 abbrev pub AreTried : DutySetup → ℕ → SlotWork → List Ended → List Task → List TurnStep → List DutyResult → Type 0
 AreTried setup slot work ends [] steps results = (steps ≡ []) × (results ≡ results_of ends)
 AreTried setup slot work ends (t ∷ tasks) steps results = (reached : ℕ) × (made : List (List DutyStep)) × (again : List Ended)
-    × (steps ≡ (Waits (votes_start setup.genesis_time slot), Woke reached) ∷ (Works work 0 (t ∷ tasks), Worked made (Some again)) ∷ [])
+    × (steps ≡ (Waits (again_start setup.genesis_time slot), Woke reached) ∷ (Works work 0 (t ∷ tasks), Worked made (Some again)) ∷ [])
     × AllDone work 0 (t ∷ tasks) made again × (length again ≡ length (t ∷ tasks)) × (results ≡ merged ends again)
 
 -- The duties that are due at the slot were looked up. Blocks were done at once, and votes a third into the slot, in lanes, each duty with

@@ -16,6 +16,7 @@ pub enum DataMember {
     Slot,
     Index,
     TargetEpoch,
+    SourceEpoch,
 }
 
 impl fmt::Display for DataMember {
@@ -26,6 +27,7 @@ impl fmt::Display for DataMember {
             DataMember::Slot => "slot",
             DataMember::Index => "index",
             DataMember::TargetEpoch => "target.epoch",
+            DataMember::SourceEpoch => "source.epoch",
         })
     }
 }
@@ -40,8 +42,8 @@ pub struct DataDiffers {
 }
 
 /// Whether what a committee is to vote is what this duty is to vote: its slot is the duty's, its index is that of
-/// the duty's committee, and its target is of the slot's epoch. The error is the first that differs. Takes no
-/// memory.
+/// the duty's committee, its target is of the slot's epoch, and its source is no later than the target, which is
+/// the greatest that is wanted of a source. The error is the first that differs. Takes no memory.
 pub fn check_data(duty: &AttesterRow, details: &AttestationData) -> Result<(), DataDiffers>
     ensures { result_err result ≡ first_that_differs (data_members duty.now details.now) }
 {
@@ -51,7 +53,9 @@ pub fn check_data(duty: &AttesterRow, details: &AttestationData) -> Result<(), D
         DataMember::TargetEpoch,
         epoch_of(duty.slot),
         details.target.epoch,
-    )
+    )?;
+    let (source, target) = (details.source.epoch, details.target.epoch);
+    check_member(DataMember::SourceEpoch, source.min(target), source)
 }
 
 /// Whether a block is for this slot. Takes no memory.

@@ -17,6 +17,10 @@ slot_start genesis_time slot = capped (genesis_time + capped (slot * 12))
 abbrev pub votes_start : ℕ → ℕ → ℕ
 votes_start genesis_time slot = capped (slot_start genesis_time slot + 4)
 
+-- when what was granted in it and not sent is tried once more: after its votes, and before two thirds of it
+abbrev pub again_start : ℕ → ℕ → ℕ
+again_start genesis_time slot = capped (slot_start genesis_time slot + 7)
+
 abbrev pub next_slot : ℕ → ℕ
 next_slot slot = capped (slot + 1)
 

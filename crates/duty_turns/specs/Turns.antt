@@ -42,7 +42,7 @@ use Rattle.duty_turns.specs.Lines.{duty_lines, none_line}
 use Rattle.duty_pruning.specs.Pruning.{pruning_file}
 use Rattle.duty_turns.specs.Lanes.{dealt}
 use Rattle.duty_turns.specs.Standing.{Standing, indices_of, with_attesters, with_fork, with_indices, with_proposers}
-use Rattle.duty_turns.specs.Times.{epoch_of, is_first_slot, is_missed, next_slot, slot_of, slot_start, votes_start}
+use Rattle.duty_turns.specs.Times.{again_start, epoch_of, is_first_slot, is_missed, next_slot, slot_of, slot_start, votes_start}
 use Rattle.duty_turns.specs.TurnSteps.{TurnPlan, TurnReply, Waits, Refreshes, RefreshesLanes, Own, LooksUp, Works, Writes, Woke, Refreshed, LanesRefreshed, Owned, Due, Worked, Wrote}
 
 -- what stands after a part of a turn; None: the output failed
@@ -319,20 +319,20 @@ at_moment genesis_time moment reached s = at_slot (slot_of genesis_time reached)
 -- what stands where a slot's duties were done: the next turn is of the next slot, but where the clock was set back meanwhile
 abbrev pub after_works : ℕ → ℕ → Standing → Standing
 after_works genesis_time reached s =
-    if nat_lt reached (votes_start genesis_time s.slot) then at_moment genesis_time (votes_start genesis_time s.slot) reached s else at_slot (next_slot s.slot) s
+    if nat_lt reached (again_start genesis_time s.slot) then at_moment genesis_time (again_start genesis_time s.slot) reached s else at_slot (next_slot s.slot) s
 
 -- while the slot lasts, what was granted and not sent is tried once more, and the slot is closed with how each duty ended at last; at another
 -- moment it is closed with how each ended at first
 abbrev pub tried_plan : DutySetup → Standing → List Duty → List Ended → List Task → ℕ → NextPlan
 tried_plan setup s ds ends tasks reached =
-    if is_missed setup.genesis_time s.slot (votes_start setup.genesis_time s.slot) reached
+    if is_missed setup.genesis_time s.slot (again_start setup.genesis_time s.slot) reached
     then close_plan setup s.slot ds (results_of ends) (after_works setup.genesis_time reached s)
     else works (work_of setup s) 0 tasks (λ again. close_plan setup s.slot ds (merged ends again) (at_slot (next_slot s.slot) s))
 
--- the slot's duties were done and ended so: where nothing is left to be tried once more, the slot is closed; else the moment is looked at first
+-- the slot's duties were done and ended so: where nothing is left to be tried once more, the slot is closed; else its time is waited for
 abbrev pub left_plan : DutySetup → Standing → List Duty → List Ended → List Task → NextPlan
 left_plan setup s ds ends [] = close_plan setup s.slot ds (results_of ends) (at_slot (next_slot s.slot) s)
-left_plan setup s ds ends (t ∷ tasks) = waits (votes_start setup.genesis_time s.slot) (tried_plan setup s ds ends (t ∷ tasks))
+left_plan setup s ds ends (t ∷ tasks) = waits (again_start setup.genesis_time s.slot) (tried_plan setup s ds ends (t ∷ tasks))
 
 abbrev pub again_plan : DutySetup → Standing → List Duty → List Ended → NextPlan
 again_plan setup s ds ends = left_plan setup s ds ends (again_tasks ds ends)

@@ -2,13 +2,16 @@
 //! and so does a slot.
 ghost use Rattle.std.specs.Prelude.{◌≡◌, ◌≤◌};
 ghost use Rattle.desk_machine.specs.Machine.{moment_limit};
-ghost use Rattle.duty_turns.specs.Times.{epoch_of, is_first_slot, is_missed, next_slot, slot_of, slot_start, votes_start};
+ghost use Rattle.duty_turns.specs.Times.{again_start, epoch_of, is_first_slot, is_missed, next_slot, slot_of, slot_start, votes_start};
 
 /// How many seconds a slot has (consensus-specs, `SECONDS_PER_SLOT`).
 const SECONDS_PER_SLOT: u64 = 12;
 
 /// How many seconds into its slot a vote is cast: a third of it (consensus-specs, "Attesting").
 const SECONDS_TO_VOTE: u64 = 4;
+
+/// How many seconds into its slot what was granted and not sent is tried once more.
+const SECONDS_TO_TRY_AGAIN: u64 = 7;
 
 /// How many slots an epoch has (consensus-specs, `SLOTS_PER_EPOCH`).
 const SLOTS_PER_EPOCH: u64 = 32;
@@ -32,6 +35,14 @@ pub fn votes_start(genesis_time: u64, slot: u64) -> u64
     ensures { result ≡ votes_start genesis_time slot }
 {
     slot_start(genesis_time, slot).saturating_add(SECONDS_TO_VOTE)
+}
+
+/// When what was granted in a slot and not sent is tried once more: after its votes, and before two thirds of it. Takes no
+/// memory.
+pub fn again_start(genesis_time: u64, slot: u64) -> u64
+    ensures { result ≡ again_start genesis_time slot }
+{
+    slot_start(genesis_time, slot).saturating_add(SECONDS_TO_TRY_AGAIN)
 }
 
 /// The slot after a slot. Takes no memory.

@@ -20,7 +20,9 @@ use desk_machine::{DeskCall, DeskCalls, DeskReply};
 use duty_asks::write_text;
 use duty_plans::{DutyResult, DutySetup, Ended, Task, again_tasks, fresh, merged, results_of};
 use duty_schedule::{Duty, Schedule};
-use duty_turns::{DutyEnd, Held, duty_lines, epoch_of, is_missed, next_slot, slot_of, votes_start};
+use duty_turns::{
+    DutyEnd, Held, again_start, duty_lines, epoch_of, is_missed, next_slot, slot_of, votes_start,
+};
 use duty_workers::{Lane, run_lanes};
 use edge_clock::Clock;
 use edge_kit::Sink;
@@ -274,8 +276,8 @@ fn end_both<
     )
 }
 
-/// Ends a slot whose duties were done and ended so: what was granted and not sent is tried once more, if there is something
-/// and the slot lasts.
+/// Ends a slot whose duties were done and ended so: what was granted and not sent is tried once more at its time, if there is
+/// something and the slot lasts.
 fn end_slot<
     T: Threads + Wait + Sync,
     K: DeskCalls + Send,
@@ -315,15 +317,15 @@ fn end_slot<
         held.slot = next_slot(slot);
         return close_ended(alloc, setup, slot, duties, ends, held, desk, out);
     }
-    let moment = votes_start(setup.genesis_time, slot);
+    let moment = again_start(setup.genesis_time, slot);
     let reached = clock.wait_until(rt, moment);
     try_again(
         rt, alloc, setup, reached, duties, ends, tasks, held, desk, lanes, out,
     )
 }
 
-/// Tries once more what was granted and not sent, unless the moment that was reached is of a later slot, or before that at
-/// which votes are cast, since the clock was set back; and closes the slot.
+/// Tries once more what was granted and not sent, unless the moment that was reached is of a later slot, or before that which
+/// was waited for, since the clock was set back; and closes the slot.
 fn try_again<
     T: Threads + Sync,
     K: DeskCalls + Send,
@@ -355,7 +357,7 @@ fn try_again<
         (house desk.new (lanes_seen S.told S.faults S.denials N.told N.faults lanes.new) nodes (sink_seen O.held O.faults out.new)) result }
 {
     let slot = held.slot;
-    let start = votes_start(setup.genesis_time, slot);
+    let start = again_start(setup.genesis_time, slot);
     if is_missed(setup.genesis_time, slot, start, reached) {
         go_after(alloc, setup.genesis_time, reached, held);
         return close_ended(alloc, setup, slot, duties, ends, held, desk, out);
@@ -368,12 +370,12 @@ fn try_again<
     close_merged(alloc, setup, slot, duties, ends, again, held, desk, out)
 }
 
-/// Has the next turn be of the next slot, or of the slot of this moment, where that is before the one at which votes are
-/// cast, since the clock was set back. Takes no memory.
+/// Has the next turn be of the next slot, or of the slot of this moment, where that is before the one at which what is left
+/// is tried once more, since the clock was set back. Takes no memory.
 fn go_after(alloc: Global, genesis_time: u64, reached: u64, held: &mut Held)
     ensures { (s : Standing) → HoldsPlaced held.old s → HoldsPlaced held.new (after_works genesis_time reached s) }
 {
-    let moment = votes_start(genesis_time, held.slot);
+    let moment = again_start(genesis_time, held.slot);
     if moment <= reached {
         held.slot = next_slot(held.slot);
         return;

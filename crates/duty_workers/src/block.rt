@@ -112,7 +112,7 @@ fn ask<K: DeskCalls, S: Signer, N: Node + Drop>(
     requires moment { work.now.moment ≤ moment_limit }
     requires settles { (o : Outcome) → K.allows desk.old (DeskCall.Settle grant o) }
     ensures ready { K.ready desk.new }
-    ensures runs { Carries Fits (Does K.leads) (under over grant reveal (λ x. revealed_plan work.now row.now grant x))
+    ensures runs { Carries Fits (Does K.leads) (under (left_by Unsent.Reveal) grant reveal (λ x. revealed_plan work.now row.now grant x))
         (at_seat desk.old (Holds grant) (signer_seen S.told S.faults S.denials signer.old) (nodes_seen N.told N.faults nodes.old))
         (at_seat desk.new Free (signer_seen S.told S.faults S.denials signer.new) (nodes_seen N.told N.faults nodes.new)) (result_ok result) }
 {
@@ -127,10 +127,7 @@ fn ask<K: DeskCalls, S: Signer, N: Node + Drop>(
         }
         Got::Failed(result) => {
             settle(desk, grant, Outcome::Dropped);
-            Ok(Ended {
-                result,
-                unsent: None,
-            })
+            Ok(left_by(Unsent::Reveal, result))
         }
         Got::Nothing => {
             settle(desk, grant, Outcome::Dropped);

@@ -117,7 +117,7 @@ fn do_duty<K: DeskCalls, S: Signer, N: Node + Drop>(
     }
 }
 
-/// Does what was granted for a duty and not sent once more. What was granted for a duty of the other kind comes never.
+/// Does what was granted for a duty and not sent once more. What was granted for a duty of the other kind never comes.
 fn try_again<K: DeskCalls, S: Signer, N: Node + Drop>(
     alloc: Global,
     work: &SlotWork,
@@ -137,12 +137,13 @@ fn try_again<K: DeskCalls, S: Signer, N: Node + Drop>(
 {
     match duty {
         Duty::Block(row) => match unsent {
+            Unsent::Reveal => propose_block(work, row, desk, signer, nodes),
             Unsent::Block(block) => propose_again(alloc, work, row, block, desk, signer, nodes),
             Unsent::Vote(_) => Err(AllocError),
         },
         Duty::Vote(row) => match unsent {
             Unsent::Vote(details) => vote_for(alloc, work, row, *details, desk, signer, nodes),
-            Unsent::Block(_) => Err(AllocError),
+            Unsent::Reveal | Unsent::Block(_) => Err(AllocError),
         },
     }
 }

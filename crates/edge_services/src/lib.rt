@@ -2,6 +2,7 @@
 #![tactic(auto)]
 
 mod links;
+mod node_genesis;
 mod node_version;
 mod start;
 mod told_node;

@@ -1,4 +1,6 @@
 //! Links to the services, each with how long an exchange over it may last.
+ghost use Rattle.std.specs.Prelude.{◌≡◌, IfOk, string_bytes, unwrap_or};
+ghost use Rattle.service_url.specs.Services.{dial_host_of};
 
 use edge_sockets::{LongRequests, Peers, TcpLink};
 use edge_system::Reports;
@@ -25,7 +27,10 @@ pub(crate) fn link_to<'a, R: Net + Eprint + Clock>(
     alloc: Global,
     service: &ServiceUrl,
     seconds: u64,
-) -> Result<TcpLink<&'a R>, AllocError> {
+) -> Result<TcpLink<&'a R>, AllocError>
+    ensures host { IfOk result (λ link. string_bytes link.host ≡ dial_host_of service.now) }
+    ensures port { IfOk result (λ link. link.port ≡ unwrap_or service.now.port 80) }
+{
     let host = String::from_str(alloc, service.dial_host())?;
     let mut link = TcpLink::new(alloc, rt, host, service.port());
     link.set_limit(Duration::from_secs(seconds));
@@ -42,7 +47,10 @@ pub fn node_link<'a, R: Net + Eprint + Clock>(
     peers: &Arc<Peers, Global>,
     index: usize,
     reports: Reports,
-) -> Result<TcpLink<&'a R>, AllocError> {
+) -> Result<TcpLink<&'a R>, AllocError>
+    ensures host { IfOk result (λ link. string_bytes link.host ≡ dial_host_of service.now) }
+    ensures port { IfOk result (λ link. link.port ≡ unwrap_or service.now.port 80) }
+{
     let mut link = link_to(rt, alloc, service, seconds)?;
     link.set_reports(reports);
     link.set_long_limit(
@@ -58,7 +66,10 @@ pub fn link_to_signer<'a, R: Net + Eprint + Clock>(
     rt: &'a R,
     alloc: Global,
     service: &ServiceUrl,
-) -> Result<TcpLink<&'a R>, AllocError> {
+) -> Result<TcpLink<&'a R>, AllocError>
+    ensures host { IfOk result (λ link. string_bytes link.host ≡ dial_host_of service.now) }
+    ensures port { IfOk result (λ link. link.port ≡ unwrap_or service.now.port 80) }
+{
     let mut link = link_to(rt, alloc, service, SIGNER_SECONDS)?;
     link.set_long_limit(
         LongRequests::Keystores,

@@ -1,5 +1,6 @@
 //! What is reported when a server begins.
 
+use crate::node_genesis::{Genesis, node_genesis};
 use crate::node_version::{NodeVersion, node_version};
 use command_line::{Plan, ServeOptions, plan};
 use edge_kit::Root;
@@ -12,8 +13,9 @@ use std::net::Net;
 use std::rt::Clock;
 
 /// Reports on standard error how a server begins, a line each: the version of the program, the chain, where the server takes
-/// connections, and the services that it calls, of each node with the version that it says it has. Of other words, or of a
-/// server that is quiet, nothing.
+/// connections, and the services that it calls, of each node with the version that it says it has. Of a server that is quiet
+/// it reports none of that. In both cases it reports a node of another chain, or of one that began at another moment than the
+/// first node says. Of other words it reports nothing.
 ///
 /// # Errors
 ///
@@ -24,10 +26,12 @@ pub fn announce<R: Net + Eprint + Clock>(
     words: &[String],
 ) -> Result<(), AllocError> {
     match plan(alloc, words)? {
-        Ok(Plan::Serve(options)) if !options.quiet => {
-            announce_program(rt, alloc)?;
-            announce_server(rt, &options);
-            announce_nodes(rt, alloc, &options)
+        Ok(Plan::Serve(options)) => {
+            if !options.quiet {
+                announce_program(rt, alloc)?;
+                announce_server(rt, &options);
+            }
+            look_at_nodes(rt, alloc, &options)
         }
         _ => Ok(()),
     }
@@ -55,23 +59,72 @@ fn announce_server<R: Eprint>(rt: &R, options: &ServeOptions) {
     let _ = eprintln!(rt; "validator: signing service {signer}");
 }
 
-/// Reports the nodes of a server, in their order, each of which is asked for its version.
-fn announce_nodes<R: Net + Eprint + Clock>(
+/// Looks at the nodes of a server, in their order.
+fn look_at_nodes<R: Net + Eprint + Clock>(
     rt: &R,
     alloc: Global,
     options: &ServeOptions,
 ) -> Result<(), AllocError> {
-    for service in options.nodes.as_slice() {
-        let version = node_version(rt, alloc, service, options.timeout.seconds())?;
-        announce_node(rt, service, &version);
+    let mut began = None;
+    'nodes: for service in options.nodes.as_slice() {
+        let answers = options.quiet || has_version(rt, alloc, service, options)?;
+        if answers {
+            look_at_chain(rt, alloc, service, options, &mut began)?;
+        }
     }
     Ok(())
 }
 
-/// Reports a node with its version.
-fn announce_node<R: Eprint>(rt: &R, service: &ServiceUrl, version: &NodeVersion) {
-    let service = UrlText(service);
-    let _ = eprintln!(rt; "validator: beacon node {service}: {version}");
+/// Asks a node for its version, reports it, and says whether the node answered.
+fn has_version<R: Net + Eprint + Clock>(
+    rt: &R,
+    alloc: Global,
+    service: &ServiceUrl,
+    options: &ServeOptions,
+) -> Result<bool, AllocError> {
+    let version = node_version(rt, alloc, service, options.timeout.seconds())?;
+    let node = UrlText(service);
+    let _ = eprintln!(rt; "validator: beacon node {node}: {version}");
+    Ok(!matches!(&version, NodeVersion::Silent))
+}
+
+/// Asks a node for its chain, and reports it where it is another than that of the server, or began at another moment than the
+/// first node said, which is kept.
+fn look_at_chain<R: Net + Eprint + Clock>(
+    rt: &R,
+    alloc: Global,
+    service: &ServiceUrl,
+    options: &ServeOptions,
+    began: &mut Option<u64>,
+) -> Result<(), AllocError> {
+    let Some(genesis) = node_genesis(rt, alloc, service, options.timeout.seconds())? else {
+        return Ok(());
+    };
+    if genesis.root != options.genesis {
+        report_root(rt, service, &genesis);
+    }
+    match *began {
+        Some(first) if first != genesis.time => report_time(rt, service, &genesis, first),
+        Some(_) => {}
+        None => *began = Some(genesis.time),
+    }
+    Ok(())
+}
+
+/// Reports a node of another chain.
+fn report_root<R: Eprint>(rt: &R, service: &ServiceUrl, genesis: &Genesis) {
+    let (node, root) = (UrlText(service), RootText(&genesis.root));
+    let _ = eprintln!(rt;
+        "validator: beacon node {node} is of another chain: genesis validators root {root}"
+    );
+}
+
+/// Reports a node whose chain began at another moment than the first node said.
+fn report_time<R: Eprint>(rt: &R, service: &ServiceUrl, genesis: &Genesis, first: u64) {
+    let (node, time) = (UrlText(service), genesis.time);
+    let _ = eprintln!(rt;
+        "validator: beacon node {node} has genesis time {time}, and the first node {first}"
+    );
 }
 
 /// A root in hex.

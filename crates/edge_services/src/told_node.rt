@@ -1,7 +1,8 @@
 //! A beacon node whose unreadable answers are reported.
+ghost use Rattle.std.specs.Prelude.{◌≡◌};
 
 use edge_sockets::Visible;
-use edge_system::EpochNotes;
+use edge_system::{EpochNotes, Reports};
 use node_calls::{Answer, Ask, Node, NodeFault, Post};
 use service_url::ServiceUrl;
 use slash_defs::Granted;
@@ -11,32 +12,69 @@ use std::fmt::{Display, Formatter};
 use std::io::Eprint;
 
 /// A beacon node that reports on standard error each answer that cannot be read or does not fit its question. It notes for
-/// how many keys indices are asked.
+/// how many keys indices are asked, and reports that once, before it is first asked for duties.
 #[derive(Drop)]
 pub struct ToldNode<'a, N, E> {
     inner: N,
     service: ServiceUrl,
     handle: E,
     notes: &'a EpochNotes,
+    reports: Reports,
+    /// For how many keys it was asked indices, and answered, since it was last asked for the fork.
+    keys: u64,
+    /// Whether it was asked for duties.
+    has_begun: bool,
 }
 
 impl<'a, N, E: Eprint> ToldNode<'a, N, E> {
-    /// Such a node, of another one at this address. It reports by this handle, and notes here.
-    pub fn new(inner: N, service: ServiceUrl, handle: E, notes: &'a EpochNotes) -> Self {
+    /// Such a node, of another one at this address. It makes these reports by this handle, and notes here.
+    pub fn new(
+        inner: N,
+        service: ServiceUrl,
+        handle: E,
+        notes: &'a EpochNotes,
+        reports: Reports,
+    ) -> Self {
         ToldNode {
             inner,
             service,
             handle,
             notes,
+            reports,
+            keys: 0,
+            has_begun: false,
         }
     }
 
     // Notes what a question says of keys: the fork is asked for before the indices of the active keys are.
-    fn note_keys(&self, ask: &Ask, is_answered: bool) {
+    fn note_keys(&mut self, ask: &Ask, is_answered: bool)
+        ensures { self.new.inner ≡ self.old.inner }
+    {
         match ask {
-            Ask::Fork => self.notes.begin_keys(),
-            Ask::Validators { keys } if is_answered => self.notes.add_keys(keys.len()),
+            Ask::Fork => {
+                self.keys = 0;
+                self.notes.begin_keys();
+            }
+            Ask::Validators { keys } if is_answered => {
+                let more = u64::try_from(keys.len()).unwrap_or(u64::MAX);
+                self.keys = self.keys.saturating_add(more);
+                self.notes.add_keys(keys.len());
+            }
             _ => {}
+        }
+    }
+
+    // Reports for how many keys it was asked indices, before it is first asked for duties.
+    fn report_keys(&mut self, ask: &Ask)
+        ensures { self.new.inner ≡ self.old.inner }
+    {
+        if !matches!(ask, Ask::Proposer { .. }) || self.has_begun {
+            return;
+        }
+        self.has_begun = true;
+        let keys = self.keys;
+        if keys > 0 && self.reports.has_news() {
+            let _ = eprintln!(&self.handle; "validator: {keys} keys");
         }
     }
 
@@ -97,6 +135,7 @@ impl<N: Node + Drop, E: Eprint + Copy + Drop> Node for ToldNode<'_, N, E> {
     ghost faults = { λ s. N.faults s.inner };
 
     fn ask(&mut self, ask: &Ask) -> Result<Answer, NodeFault> {
+        self.report_keys(ask);
         let reply = self.inner.ask(ask);
         self.note_keys(ask, reply.is_ok());
         if let Err(fault) = &reply {
@@ -119,6 +158,9 @@ impl<N: Node + Drop, E: Eprint + Copy + Drop> Node for ToldNode<'_, N, E> {
             service: self.service.copy(alloc)?,
             handle: self.handle,
             notes: self.notes,
+            reports: self.reports,
+            keys: 0,
+            has_begun: false,
         })
     }
 }

@@ -4,9 +4,11 @@ use std::fmt::{Display, Formatter};
 
 /// An address or a name of a host, and a port.
 #[derive(Drop)]
-pub(crate) struct Address<'a> {
-    pub(crate) host: &'a str,
-    pub(crate) port: u16,
+pub struct Address<'a> {
+    /// The address or the name.
+    pub host: &'a str,
+    /// The port.
+    pub port: u16,
 }
 
 impl Display for Address<'_> {

@@ -11,35 +11,35 @@ const BODY_BYTES: usize = 200;
 
 /// The front of a request, and of its answer, by bytes as they went over a connection.
 #[derive(Drop)]
-pub(crate) struct Heard {
+pub struct Heard {
     asked: Vec<u8>,
     answered: Vec<u8>,
 }
 
 impl Heard {
-    // That of an exchange in which nothing was said yet. Takes no memory.
-    pub(crate) fn new(alloc: Global) -> Self {
+    /// That of an exchange in which nothing was said yet. Takes no memory.
+    pub fn new(alloc: Global) -> Self {
         Heard {
             asked: Vec::new(alloc),
             answered: Vec::new(alloc),
         }
     }
 
-    // From now on another exchange is heard.
-    pub(crate) fn begin(&mut self) {
+    /// From now on another exchange is heard.
+    pub fn begin(&mut self) {
         self.asked.clear();
         self.answered.clear();
     }
 
-    // Holds the front of the request, of which this is one piece more. Where memory is wanted it holds less. What was
-    // answered before was no answer to all of it, and is forgotten.
-    pub(crate) fn ask(&mut self, piece: &[u8]) {
+    /// Holds the front of the request, of which this is one piece more. Where memory is wanted it holds less. What was
+    /// answered before was no answer to all of it, and is forgotten.
+    pub fn ask(&mut self, piece: &[u8]) {
         self.answered.clear();
         hold(&mut self.asked, piece);
     }
 
-    // Holds the front of the answer, of which this is one piece more.
-    pub(crate) fn answer(&mut self, piece: &[u8]) {
+    /// Holds the front of the answer, of which this is one piece more.
+    pub fn answer(&mut self, piece: &[u8]) {
         hold(&mut self.answered, piece);
     }
 
@@ -48,53 +48,51 @@ impl Heard {
         self.asked.trim_ascii_start()
     }
 
-    // The method and the target of the request.
-    pub(crate) fn call(&self) -> Visible<'_> {
+    /// The method and the target of the request.
+    pub fn call(&self) -> Visible<'_> {
         let line = before(self.request(), b"\r\n");
         Visible(before(line, b" HTTP/"))
     }
 
-    // Whether a request was begun.
-    pub(crate) fn is_begun(&self) -> bool {
+    /// Whether a request was begun.
+    pub fn is_begun(&self) -> bool {
         !self.asked.is_empty()
     }
 
-    // Whether something was answered.
-    pub(crate) fn is_answered(&self) -> bool {
-        !self.answered.is_empty()
-    }
-
-    // The three digits of the answer's status, if there are any.
-    pub(crate) fn status(&self) -> Option<&[u8]> {
+    /// The three digits of the answer's status, if there are any.
+    pub fn status(&self) -> Option<&[u8]> {
         self.answered.get(9..12)
     }
 
-    // The front of the answer's body.
-    pub(crate) fn body(&self) -> Visible<'_> {
+    /// The front of the answer's body.
+    pub fn body(&self) -> Visible<'_> {
         let body = after(self.answered.as_slice(), b"\r\n\r\n");
         Visible::front(body)
     }
 
-    // Whether the answer says that what was asked was not done.
-    pub(crate) fn is_refusal(&self) -> bool {
+    /// Whether the answer says that what was asked was not done.
+    pub fn is_refusal(&self) -> bool {
         matches!(self.status(), Some(status) if !status.starts_with(b"2"))
     }
 
-    // Whether keystores were sent. What answers that may have a part of them, and is not reported.
-    pub(crate) fn is_import(&self) -> bool {
+    /// Whether keystores were sent. What answers that may have a part of them, and is not reported.
+    pub fn is_import(&self) -> bool {
         let line = before(self.request(), b"\r\n");
         line.starts_with(b"POST ") && !after(line, b"/keystores").is_empty()
     }
 
-    // Whether what was asked changes something.
-    pub(crate) fn changes(&self) -> bool {
+    /// Whether what was asked changes something.
+    pub fn changes(&self) -> bool {
         self.request().starts_with(b"POST ") || self.request().starts_with(b"DELETE ")
     }
 }
 
 /// What became of a call: the method and the target, the answer's status, and the front of its body.
 #[derive(Drop)]
-pub(crate) struct Call<'a>(pub(crate) &'a Heard);
+pub struct Call<'a>(
+    /// What was said in it.
+    pub &'a Heard,
+);
 
 impl Display for Call<'_> {
     fn fmt<W: fmt::Write>(&self, f: &mut Formatter<W>) -> fmt::Result {
@@ -106,7 +104,10 @@ impl Display for Call<'_> {
 
 /// Bytes as text: each that is no visible ASCII and no space is written as `.`.
 #[derive(Drop)]
-pub struct Visible<'a>(pub(crate) &'a [u8]);
+pub struct Visible<'a>(
+    /// All of them.
+    pub &'a [u8],
+);
 
 impl<'a> Visible<'a> {
     /// The first 200 bytes of these.
@@ -129,7 +130,7 @@ impl Display for Visible<'_> {
     }
 }
 
-// Puts the front of a piece behind what is held, as far as there is room for it.
+// Adds the front of a piece to what is held, as far as there is room for it.
 fn hold(held: &mut Vec<u8>, piece: &[u8]) {
     let room = FRONT_BYTES.saturating_sub(held.len());
     let front = piece.get(..room).unwrap_or(piece);

@@ -4,18 +4,14 @@
 
 mod address;
 mod heard;
-mod json_scan;
-mod key_outcomes;
-mod request_front;
 mod silence;
 mod span;
-mod tcp_door;
 mod tcp_link;
 mod tcp_stream;
-mod waiting;
 
-pub use heard::Visible;
+pub use address::Address;
+pub use heard::{Call, Heard, Visible};
 pub use silence::Peers;
-pub use tcp_door::{TcpConn, TcpDoor};
+pub use span::Span;
 pub use tcp_link::TcpLink;
-pub use tcp_stream::LongRequests;
+pub use tcp_stream::{LongRequests, Timed, is_later, recv_over, send_over, write_now};

@@ -6,6 +6,9 @@ use std::sync::atomic::{AtomicU64, Ordering};
 /// For how many milliseconds a peer is set aside at first.
 const FIRST_PAUSE: u64 = 1_000;
 
+/// For how many milliseconds after a limit was passed a peer is asked no question that only says whether it is there.
+const QUIET_PAUSE: u64 = 1_500;
+
 /// For how many milliseconds a peer is set aside at most.
 const LONGEST_PAUSE: u64 = 60_000;
 
@@ -16,6 +19,8 @@ struct Silence {
     until: AtomicU64,
     /// For how many milliseconds it was set aside last; 0 where it has answered after that.
     pause: AtomicU64,
+    /// Until when it is asked no question that only says whether it is there.
+    quiet_until: AtomicU64,
 }
 
 impl Silence {
@@ -24,7 +29,13 @@ impl Silence {
         Silence {
             until: AtomicU64::new(0),
             pause: AtomicU64::new(0),
+            quiet_until: AtomicU64::new(0),
         }
+    }
+
+    // Whether an exchange with it passed its limit just before this moment.
+    fn is_quiet_at(&self, now: u64) -> bool {
+        now < self.quiet_until.load(Ordering::SeqCst)
     }
 
     // Whether the peer is set aside at this moment.
@@ -35,6 +46,8 @@ impl Silence {
     // Sets the peer aside from this moment on, twice as long as the last time, and gives for how many milliseconds. One
     // that is set aside already stays so for as long as before.
     fn set_aside_at(&self, now: u64) -> Option<u64> {
+        self.quiet_until
+            .store(now.saturating_add(QUIET_PAUSE), Ordering::SeqCst);
         if self.waits_at(now) {
             return None;
         }
@@ -48,6 +61,7 @@ impl Silence {
     // Takes the peer back after it answered, and gives whether it was set aside before.
     fn take_back(&self) -> bool {
         self.pause.store(0, Ordering::SeqCst);
+        self.quiet_until.store(0, Ordering::SeqCst);
         self.until.swap(0, Ordering::SeqCst) != 0
     }
 }
@@ -88,6 +102,14 @@ impl Peers {
             }
         }
         waits && has_other
+    }
+
+    // Whether an exchange with a peer passed its limit just before, whatever other peers did.
+    pub(crate) fn is_silent<C: Clock>(&self, clock: &C, index: usize) -> bool {
+        match (self.all.get(index), shown_by(clock)) {
+            (Some(peer), Some(now)) => peer.is_quiet_at(now),
+            _ => false,
+        }
     }
 
     // Sets a peer aside after an exchange that passed its limit, and gives for how many milliseconds, where it was not set

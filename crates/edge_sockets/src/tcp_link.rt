@@ -7,7 +7,7 @@ use crate::address::Address;
 use crate::heard::{Call, Heard};
 use crate::silence::Peers;
 use crate::span::Span;
-use crate::tcp_stream::{LongRequests, Timed, recv_over, send_over};
+use crate::tcp_stream::{LongRequests, Timed, asks_for_syncing, recv_over, send_over};
 use edge_kit::{Failed, Link, count_fault};
 use edge_system::{Reports, counted};
 use std::alloc::{AllocError, Global};
@@ -50,7 +50,10 @@ pub struct TcpLink<N: Net + Eprint + Clock + Drop> {
 impl<N: Net + Eprint + Clock + Drop> TcpLink<N> {
     /// A link that is not yet connected. An exchange may last 10 seconds.
     pub fn new(alloc: Global, handle: N, host: String, port: u16) -> Self
-        ensures { result.faults ≡ 0 }
+        ensures handle { result.handle ≡ handle }
+        ensures host { result.host ≡ host }
+        ensures port { result.port ≡ port }
+        ensures faults { result.faults ≡ 0 }
     {
         TcpLink {
             alloc,
@@ -71,6 +74,7 @@ impl<N: Net + Eprint + Clock + Drop> TcpLink<N> {
     pub fn set_limit(&mut self, limit: Duration)
         ensures limit { self.new.limit ≡ limit }
         ensures faults { self.new.faults ≡ self.old.faults }
+        ensures place { (self.new.handle ≡ self.old.handle) × (self.new.host ≡ self.old.host) × (self.new.port ≡ self.old.port) }
     {
         self.limit = limit;
     }
@@ -80,6 +84,7 @@ impl<N: Net + Eprint + Clock + Drop> TcpLink<N> {
     pub fn set_long_limit(&mut self, requests: LongRequests, limit: Duration)
         ensures limit { self.new.long ≡ Some (requests, limit) }
         ensures faults { self.new.faults ≡ self.old.faults }
+        ensures place { (self.new.handle ≡ self.old.handle) × (self.new.host ≡ self.old.host) × (self.new.port ≡ self.old.port) }
     {
         self.long = Some((requests, limit));
     }
@@ -88,9 +93,11 @@ impl<N: Net + Eprint + Clock + Drop> TcpLink<N> {
     /// limit: each `connect` of this link, of those that are made of it by `twin`, and of others of this place, fails at
     /// once, for a second, then for twice as long each time in a row, for a minute at most; but where all peers are set
     /// aside, each is asked. A peer that answers is taken back. One that refuses, or ends the connection, is not set
-    /// aside.
+    /// aside. A question whether the peer is syncing fails at once for a second and a half after an exchange passed its limit,
+    /// whatever other peers do.
     pub fn set_aside_among(&mut self, peers: Arc<Peers, Global>, index: usize)
         ensures faults { self.new.faults ≡ self.old.faults }
+        ensures place { (self.new.handle ≡ self.old.handle) × (self.new.host ≡ self.old.host) × (self.new.port ≡ self.old.port) }
     {
         self.silence = Some(Place { peers, index });
     }
@@ -99,6 +106,7 @@ impl<N: Net + Eprint + Clock + Drop> TcpLink<N> {
     pub fn set_reports(&mut self, reports: Reports)
         ensures reports { self.new.reports ≡ reports }
         ensures faults { self.new.faults ≡ self.old.faults }
+        ensures place { (self.new.handle ≡ self.old.handle) × (self.new.host ≡ self.old.host) × (self.new.port ≡ self.old.port) }
     {
         self.reports = reports;
     }
@@ -140,6 +148,17 @@ impl<N: Net + Eprint + Clock + Drop> TcpLink<N> {
             Some(place) => place.peers.is_set_aside(&self.handle, place.index),
             None => false,
         }
+    }
+
+    // Whether this piece begins a question whether a node is syncing, and the node let an exchange pass its limit just before:
+    // each lane asks so, one after another, and one of them has waited for all.
+    fn is_needless(&self, piece: &[u8]) -> bool {
+        let (Some(place), Some(stream)) = (&self.silence, &self.stream) else {
+            return false;
+        };
+        stream.is_new()
+            && asks_for_syncing(piece)
+            && place.peers.is_silent(&self.handle, place.index)
     }
 
     // Sets a peer aside whose exchange passed its limit, where this is wanted.
@@ -251,6 +270,10 @@ impl<N: Net + Eprint + Clock + Copy + Drop> Link for TcpLink<N> {
     }
 
     fn send(&mut self, piece: &[u8]) -> Result<usize, Failed> {
+        if self.is_needless(piece) {
+            self.stream = None;
+            return Err(count_fault(&mut self.faults));
+        }
         self.allow_for(piece);
         let sent = send_over(&mut self.stream, &self.handle, piece);
         if let Ok(count) = &sent {

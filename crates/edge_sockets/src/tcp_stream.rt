@@ -7,7 +7,7 @@ use crate::span::Span;
 use std::alloc::Global;
 use std::io;
 use std::io::{BufReader, ErrorKind, Read, Write};
-use std::net::{OpenStream, Shutdown};
+use std::net::OpenStream;
 use std::rt::Clock;
 use std::time::Duration;
 
@@ -20,6 +20,9 @@ const SENT_BLOCKS: &[u8] = b"/beacon/blocks";
 /// What the path of a request has that takes keystores in or gives them up.
 const KEYSTORES: &[u8] = b"/eth/v1/keystores";
 
+/// What the path of a question whether a node is syncing has.
+const SYNCING: &[u8] = b"/eth/v1/node/syncing";
+
 /// Requests that may last longer than others.
 #[derive(Clone, Copy, Debug, PartialEq, Eq)]
 pub enum LongRequests {
@@ -31,7 +34,7 @@ pub enum LongRequests {
 
 /// A connection with room to read ahead, whose calls all end with its span.
 #[derive(Drop)]
-pub(crate) struct Timed<S: Read + Write + OpenStream + Drop> {
+pub struct Timed<S: Read + Write + OpenStream + Drop> {
     inner: BufReader<S>,
     span: Span,
     longest_read: Option<Duration>,
@@ -40,8 +43,8 @@ pub(crate) struct Timed<S: Read + Write + OpenStream + Drop> {
 }
 
 impl<S: Read + Write + OpenStream + Drop> Timed<S> {
-    // A connection whose calls all end with this span, and of which each read may last so long, if that is said.
-    pub(crate) fn new(
+    /// A connection whose calls all end with this span, and of which each read may last so long, if that is said.
+    pub fn new(
         alloc: Global,
         stream: S,
         span: Span,
@@ -57,31 +60,51 @@ impl<S: Read + Write + OpenStream + Drop> Timed<S> {
         })
     }
 
-    // Whether the peer has sent something, and its last call didn't fail.
-    pub(crate) fn is_heard(&self) -> bool {
+    /// Whether the peer has sent something, and its last call didn't fail.
+    pub fn is_heard(&self) -> bool {
         self.is_heard
     }
 
-    // Gives the connection this limit where the first piece that it sends, which is this one, is of such a request.
-    pub(crate) fn allow_for(&mut self, piece: &[u8], requests: LongRequests, limit: Duration) {
+    /// Whether nothing was sent over it yet.
+    pub fn is_new(&self) -> bool {
+        !self.is_begun
+    }
+
+    /// Gives the connection this limit where the first piece that it sends, which is this one, is of such a request.
+    pub fn allow_for(&mut self, piece: &[u8], requests: LongRequests, limit: Duration) {
         if !self.is_begun && is_of(piece, requests) {
             self.span = self.span.with_limit(limit);
         }
         self.is_begun = true;
     }
 
-    // Gives a reply a limit of its own, which begins with its first piece.
-    pub(crate) fn begin_reply<C: Clock>(&mut self, clock: &C, limit: Duration) -> io::Result<()> {
-        if !self.is_begun {
-            self.span = Span::begin(clock, limit)?;
-            self.is_begun = true;
-        }
-        Ok(())
+    /// From now on its calls all end with this span.
+    pub fn restart(&mut self, span: Span) {
+        self.span = span;
     }
 
-    // Says that what is sent next is another reply, which has a limit of its own.
-    pub(crate) fn await_reply(&mut self) {
-        self.is_begun = false;
+    /// Whether its calls wait for the peer from now on. What is read or sent within a span is to be waited for.
+    pub fn set_waiting(&self, waits: bool) -> io::Result<()> {
+        self.inner.get_ref().set_nonblocking(!waits)
+    }
+
+    /// Writes what the system takes of the piece at once, where its calls do not wait.
+    pub fn write_now(&mut self, piece: &[u8]) -> io::Result<usize>
+        ensures bound { WritesAtMost result piece.now }
+    {
+        write_now(self.inner.get_mut(), piece)
+    }
+
+    /// The connection alone. What was read ahead is dropped.
+    pub fn into_stream(self) -> S {
+        let Timed {
+            inner,
+            span: _span,
+            longest_read: _longest_read,
+            is_begun: _is_begun,
+            is_heard: _is_heard,
+        } = self;
+        inner.into_inner()
     }
 
     // How long the next read may last.
@@ -126,26 +149,6 @@ impl<S: Read + Write + OpenStream + Drop> Timed<S> {
         }
         read
     }
-
-    // Says to the peer that nothing further comes, and reads what the peer still sends, up to its end, to a read that lasts
-    // so long, or to the end of a span of this length.
-    pub(crate) fn hear_out<C: Clock>(
-        &mut self,
-        clock: &C,
-        silent: Duration,
-        longest: Duration,
-    ) -> io::Result<()> {
-        self.inner.get_ref().shutdown(Shutdown::Write)?;
-        self.span = Span::begin(clock, longest)?;
-        self.longest_read = Some(silent);
-        let mut piece = [0; 4096];
-        'pieces: for _ in 0..u64::MAX {
-            if self.read_in_time(clock, &mut piece)? == 0 {
-                return Ok(());
-            }
-        }
-        Ok(())
-    }
 }
 
 // Whether a piece is of such a request.
@@ -154,6 +157,11 @@ fn is_of(piece: &[u8], requests: LongRequests) -> bool {
         LongRequests::Blocks => has(piece, MADE_BLOCKS) || has(piece, SENT_BLOCKS),
         LongRequests::Keystores => has(piece, KEYSTORES),
     }
+}
+
+// Whether a piece is of a question whether a node is syncing.
+pub(crate) fn asks_for_syncing(piece: &[u8]) -> bool {
+    has(piece, SYNCING)
 }
 
 // Whether a piece has this part, which isn't empty.
@@ -175,8 +183,23 @@ fn in_time(done: io::Result<usize>) -> io::Result<usize>
     }
 }
 
-// Sends some bytes of the piece, at least one where it isn't empty.
-pub(crate) fn send_over<S: Read + Write + OpenStream + Drop, C: Clock>(
+/// Writes what the system takes of the piece at once, to what does not wait: none where it takes none now.
+pub fn write_now<W: Write>(stream: &mut W, piece: &[u8]) -> io::Result<usize>
+    ensures bound { WritesAtMost result piece.now }
+{
+    match stream.write(piece) {
+        Err(error) if is_later(error.kind()) => Ok(0),
+        done => done,
+    }
+}
+
+/// Whether a failure of what does not wait says that nothing can be done now.
+pub fn is_later(kind: ErrorKind) -> bool {
+    matches!(kind, ErrorKind::WouldBlock | ErrorKind::Interrupted)
+}
+
+/// Sends some bytes of the piece, at least one where it isn't empty.
+pub fn send_over<S: Read + Write + OpenStream + Drop, C: Clock>(
     stream: &mut Option<Timed<S>>,
     clock: &C,
     piece: &[u8],
@@ -193,8 +216,8 @@ pub(crate) fn send_over<S: Read + Write + OpenStream + Drop, C: Clock>(
     }
 }
 
-// Reads some bytes into the front of the buffer.
-pub(crate) fn recv_over<S: Read + Write + OpenStream + Drop, C: Clock>(
+/// Reads some bytes into the front of the buffer.
+pub fn recv_over<S: Read + Write + OpenStream + Drop, C: Clock>(
     stream: &mut Option<Timed<S>>,
     clock: &C,
     buf: &mut [u8],

@@ -1,5 +1,5 @@
 //! A file of the system as a disk. It tells nothing of its content.
-ghost use Rattle.std.specs.Prelude.{◌≡◌, ◌≤◌, ◌<◌, length, IfOk, OnOk, Some};
+ghost use Rattle.std.specs.Prelude.{◌≡◌, ◌≤◌, ◌<◌, length, IfOk, None, OnOk, Some};
 ghost use Rattle.std.specs.Result.{result_ok};
 ghost use Rattle.edge_kit.specs.Causes.{HasCause};
 
@@ -28,7 +28,10 @@ pub struct FileDisk<R: Files<File = File> + Eprint + Drop> {
 impl<R: Files<File = File> + Eprint + Drop> FileDisk<R> {
     /// The file of a path, not opened yet.
     pub fn new(handle: R, path: String) -> Self
-        ensures { result.faults ≡ 0 }
+        ensures handle { result.handle ≡ handle }
+        ensures path { result.path ≡ path }
+        ensures other { result.other ≡ None }
+        ensures faults { result.faults ≡ 0 }
     {
         FileDisk {
             handle,
@@ -41,6 +44,7 @@ impl<R: Files<File = File> + Eprint + Drop> FileDisk<R> {
 
     /// The same, as a file that is never the one at this other path.
     pub fn apart_from(mut self, other: String) -> Self
+        ensures handle { result.handle ≡ self.handle }
         ensures path { result.path ≡ self.path }
         ensures other { result.other ≡ Some other }
         ensures faults { result.faults ≡ self.faults }

@@ -19,4 +19,4 @@ pub use file_disk::FileDisk;
 pub use reports::Reports;
 pub use streams::{StandardStream, StandardStreams, Standing};
 pub use told::counted;
-pub use told_clock::ToldClock;
+pub use told_clock::{SetBack, ToldClock};

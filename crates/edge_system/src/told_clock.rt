@@ -7,6 +7,26 @@ use std::sync::Wait;
 /// How many seconds late a wait is that is reported: a slot's.
 const LATE_SECONDS: u64 = 12;
 
+/// What a clock that is set back does to whoever waits.
+#[derive(Clone, Copy, PartialEq, Eq, Debug)]
+pub enum SetBack {
+    /// The wait is over, and the run goes on.
+    GoesOn,
+    /// The clock is halted as well, which ends the run: keys that became active in the false time are watched from a
+    /// false epoch on, and a new start has all of them watched from the true one.
+    Halts,
+}
+
+impl SetBack {
+    // What is reported to follow.
+    fn consequence(self) -> &'static str {
+        match self {
+            SetBack::GoesOn => "duties go on with the slot of now",
+            SetBack::Halts => "the run ends, and a new start watches keys from the epoch of now on",
+        }
+    }
+}
+
 /// A clock that reports on standard error each wait that is over so late that the duties of a slot are dropped, and each
 /// that is over before its moment, since the clock was set back. It notes what is waited for.
 #[derive(Drop)]
@@ -14,15 +34,17 @@ pub struct ToldClock<'a, C, E> {
     inner: C,
     handle: E,
     notes: &'a EpochNotes,
+    set_back: SetBack,
 }
 
 impl<'a, C, E> ToldClock<'a, C, E> {
-    /// Such a clock, of another one. It reports by this handle, and notes here.
-    pub fn new(inner: C, handle: E, notes: &'a EpochNotes) -> Self {
+    /// Such a clock, of another one. It reports by this handle, and notes here. Where it is set back, that does this.
+    pub fn new(inner: C, handle: E, notes: &'a EpochNotes, set_back: SetBack) -> Self {
         ToldClock {
             inner,
             handle,
             notes,
+            set_back,
         }
     }
 }
@@ -42,8 +64,12 @@ impl<C: Clock, E: Eprint + Sync> Clock for ToldClock<'_, C, E> {
                 "a wait for second {moment} was over at {reached}: the duties of slots that are over are dropped"
             );
         } else if reached < moment && !self.inner.is_halted() {
+            if self.set_back == SetBack::Halts {
+                self.inner.halt();
+            }
+            let then = self.set_back.consequence();
             let _ = eprintln!(&self.handle;
-                "the clock was set back to {reached} in a wait for second {moment}: duties go on with the slot of now"
+                "the clock was set back to {reached} in a wait for second {moment}: {then}"
             );
         }
         reached

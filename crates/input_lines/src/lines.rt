@@ -3,7 +3,7 @@ ghost use Rattle.std.specs.Prelude.{◌≡◌, ◌≢◌, ◌<◌, ◌≤◌, �
 ghost use Rattle.std.specs.Io.KnownBytes.{Consumes, Keeps, IsAtEnd};
 ghost use Rattle.edge_kit.specs.Causes.{Rose};
 ghost use Rattle.input_lines.specs.Lines.{IsOneLine, IsShortLine, TakesLine, IsLast, BeginsTooLong};
-ghost use Rattle.input_lines.specs.Reading.{Pending, IsScanned, ReadsMore, GivesLine};
+ghost use Rattle.input_lines.specs.Reading.{Pending, IsScanned, ReadsMore, ReadsPiece, GivesLine};
 ghost use Rattle.program_end.specs.Limits.{line_limit, input_limit};
 ghost use Rattle.program_end.specs.declared.limit.Limit.{Limit};
 
@@ -32,13 +32,13 @@ pub struct Lines {
 
 impl Model for Lines {
     ghost use Rattle.std.specs.Prelude.{◌≡◌, ◌<◌, ◌-◌, ◌^◌, drop, length};
-    ghost use Rattle.input_lines.specs.Reading.{Pending, IsScanned};
+    ghost use Rattle.input_lines.specs.Reading.{Pending, IsScanned, piece_size};
 
     ghost Value = { Pending };
 
     ghost view = { λ l. record { bytes = drop l.start l.ready.items; total = l.total } };
 
-    ghost invariant = { λ l. IsScanned l.ready.items l.start l.scanned × (length l.piece.items ≡ 65536) };
+    ghost invariant = { λ l. IsScanned l.ready.items l.start l.scanned × (length l.piece.items ≡ piece_size) };
 }
 
 impl Lines {
@@ -149,7 +149,7 @@ impl Lines {
 
     /// Reads some bytes more. Where memory runs out nothing was read.
     fn read_more<I: Source>(&mut self, source: &mut I) -> Result<usize, LineFault>
-        ensures more { ReadsMore (I.left source.old) (I.left source.new) self.old self.new }
+        ensures more { ReadsPiece (I.left source.old) (I.left source.new) self.old self.new }
         ensures count { IfOk result (λ count. length self.new.bytes ≡ length self.old.bytes + count) }
         ensures end { IfOk result (λ count. count ≡ 0 → IsAtEnd (I.left source.new)) }
         ensures kept { OnErr result (self.new ≡ self.old) }

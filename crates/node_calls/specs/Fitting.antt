@@ -51,7 +51,7 @@ are_attester_rows epoch rows =
     && list_all (is_attester_row epoch) rows
     && are_distinct key_order (map (λ row. row.pubkey) rows)
 
--- the answer is of the question's name, and duties are within these bounds
+-- the answer is of the question's name, duties are within these bounds, and a vote's source is no later than its target
 abbrev pub fits : Ask → Answer → Bool
 fits ask.Genesis (answer.Genesis genesis_time root) = true
 fits ask.Fork (answer.Fork fork) = true
@@ -59,7 +59,7 @@ fits ask.Syncing (answer.Syncing is_syncing) = true
 fits (ask.Validators keys) (answer.Validators rows) = true
 fits (ask.Proposer epoch) (answer.Proposer root rows) = are_proposer_rows epoch rows
 fits (ask.Attester epoch indices) (answer.Attester root rows) = are_attester_rows epoch rows
-fits (ask.Data slot committee) (answer.Data details) = true
+fits (ask.Data slot committee) (answer.Data details) = nat_le details.source.epoch details.target.epoch
 fits (ask.Block slot reveal) (answer.Block block) = true
 fits (ask.Liveness epoch indices) (answer.Liveness rows) = true
 fits _ _ = false

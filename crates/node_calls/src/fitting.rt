@@ -23,7 +23,8 @@ const MAX_DUTY_ROWS: usize = 65_536;
 impl Answer {
     /// Whether this answers the question: it is of the same name, and of duties it has at most 65,536 rows, all
     /// at slots of the epoch that was asked for. No two proposers have one slot, and no two attesters one key.
-    /// Each attester's committee has 1 to 2048 members, and its place is below that. The error is want of memory.
+    /// Each attester's committee has 1 to 2048 members, and its place is below that. The source of a vote is no
+    /// later than its target. The error is want of memory.
     pub fn fits(&self, alloc: Global, ask: &Ask) -> Result<bool, AllocError>
         ensures { IfOk result (λ b. b ≡ fits ask.now self.now) }
     {
@@ -32,7 +33,6 @@ impl Answer {
             | (Ask::Fork, Answer::Fork(_))
             | (Ask::Syncing, Answer::Syncing { .. })
             | (Ask::Validators { .. }, Answer::Validators(_))
-            | (Ask::Data { .. }, Answer::Data(_))
             | (Ask::Block { .. }, Answer::Block(_))
             | (Ask::Liveness { .. }, Answer::Liveness(_)) => Ok(true),
             (Ask::Proposer { epoch }, Answer::Proposer { rows, .. }) => {
@@ -40,6 +40,9 @@ impl Answer {
             }
             (Ask::Attester { epoch, .. }, Answer::Attester { rows, .. }) => {
                 are_attesters(alloc, *epoch, rows.as_slice())
+            }
+            (Ask::Data { .. }, Answer::Data(details)) => {
+                Ok(details.source.epoch <= details.target.epoch)
             }
             _ => Ok(false),
         }

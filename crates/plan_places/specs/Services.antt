@@ -1,4 +1,5 @@
--- The services that are asked for, where connections are taken and what token they must bear, and whether faults alone are told.
+-- The services that are asked for, where connections are taken and what token they must bear, whether faults alone are reported, and
+-- whether a server watches its keys.
 use Rattle.std.specs.Prelude.{ℕ, Bool, false, List, [], Option, None, Some}
 use Rattle.service_url.specs.Services.{Service}
 use Rattle.command_line.specs.Plans.{Asked, session, serve}
@@ -34,3 +35,8 @@ token_of asked = None
 abbrev pub quiet_of : Asked → Bool
 quiet_of (serve options) = options.quiet
 quiet_of asked = false
+
+-- whether a server watches the keys that become active
+abbrev pub watch_of : Asked → Bool
+watch_of (serve options) = options.watch
+watch_of asked = false

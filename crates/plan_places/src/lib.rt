@@ -5,7 +5,7 @@
 ghost use Rattle.std.specs.Prelude.{◌≡◌, [], IfOk, None, Ok, Some, false, map, option_map, string_bytes, ◌++◌};
 ghost use Rattle.command_line.specs.Plans.{asked_of, taken_as};
 ghost use Rattle.plan_places.specs.Files.{files_at, files_of};
-ghost use Rattle.plan_places.specs.Services.{listen_of, nodes_of, quiet_of, signer_of, timeout_of, token_of};
+ghost use Rattle.plan_places.specs.Services.{listen_of, nodes_of, quiet_of, signer_of, timeout_of, token_of, watch_of};
 
 mod token_file;
 
@@ -38,6 +38,8 @@ pub struct Services {
     pub token: Option<TokenText>,
     /// Whether standard error has lines of faults alone.
     pub quiet: bool,
+    /// Whether a server watches the keys that become active.
+    pub watch: bool,
 }
 
 /// What the words of a command line name of the outside; nothing where they are no command.
@@ -53,6 +55,7 @@ pub fn named(alloc: Global, words: &[String]) -> Result<Places, AllocError>
     ensures listen { IfOk result (λ x. x.services.listen ≡ listen_of (asked_of (map string_bytes words.now))) }
     ensures token { IfOk result (λ x. x.services.token ≡ token_of (asked_of (map string_bytes words.now))) }
     ensures quiet { IfOk result (λ x. x.services.quiet ≡ quiet_of (asked_of (map string_bytes words.now))) }
+    ensures watch { IfOk result (λ x. x.services.watch ≡ watch_of (asked_of (map string_bytes words.now))) }
 {
     match plan(alloc, words)? {
         Ok(plan) => named_by(alloc, plan),
@@ -72,6 +75,7 @@ fn named_by(alloc: Global, plan: Plan) -> Result<Places, AllocError>
     ensures listen { IfOk result (λ x. x.services.listen ≡ listen_of (taken_as (Ok plan))) }
     ensures token { IfOk result (λ x. x.services.token ≡ token_of (taken_as (Ok plan))) }
     ensures quiet { IfOk result (λ x. x.services.quiet ≡ quiet_of (taken_as (Ok plan))) }
+    ensures watch { IfOk result (λ x. x.services.watch ≡ watch_of (taken_as (Ok plan))) }
 {
     let files = plan_files(alloc, &plan)?;
     let services = services_in(alloc, plan);
@@ -86,6 +90,7 @@ fn no_services(alloc: Global) -> Services
     ensures listen { result.listen ≡ None }
     ensures token { result.token ≡ None }
     ensures quiet { result.quiet ≡ false }
+    ensures watch { result.watch ≡ false }
 {
     Services {
         signer: None,
@@ -94,6 +99,7 @@ fn no_services(alloc: Global) -> Services
         listen: None,
         token: None,
         quiet: false,
+        watch: false,
     }
 }
 
@@ -105,6 +111,7 @@ fn services_in(alloc: Global, plan: Plan) -> Services
     ensures listen { result.listen ≡ listen_of (taken_as (Ok plan)) }
     ensures token { result.token ≡ token_of (taken_as (Ok plan)) }
     ensures quiet { result.quiet ≡ quiet_of (taken_as (Ok plan)) }
+    ensures watch { result.watch ≡ watch_of (taken_as (Ok plan)) }
 {
     match plan {
         Plan::Serve(options) => services_of(options),
@@ -115,6 +122,7 @@ fn services_in(alloc: Global, plan: Plan) -> Services
             listen: None,
             token: None,
             quiet: false,
+            watch: false,
         },
         _ => no_services(alloc),
     }
@@ -128,6 +136,7 @@ fn services_of(options: ServeOptions) -> Services
     ensures listen { result.listen ≡ Some options.listen }
     ensures token { result.token ≡ Some options.token }
     ensures quiet { result.quiet ≡ options.quiet }
+    ensures watch { result.watch ≡ options.watch }
 {
     let ServeOptions {
         genesis: _genesis,
@@ -135,7 +144,7 @@ fn services_of(options: ServeOptions) -> Services
         signer,
         listen,
         token,
-        watch: _watch,
+        watch,
         slots: _slots,
         connections: _connections,
         lanes: _lanes,
@@ -151,6 +160,7 @@ fn services_of(options: ServeOptions) -> Services
         listen: Some(listen),
         token: Some(token),
         quiet,
+        watch,
     }
 }
 

@@ -159,7 +159,7 @@ ServiceLivesOn {D} {C} shows moment leaves faults see = (clock : Option ℕ) (op
     → ClientRuns shows moment leaves faults see clock options disks_before disks_now before now noted ended
     → (client : ℕ) (past : List Event) (files : Files) → Show shows disks_before files → (stop : StopsIn options.genesis client (no_state options.genesis) past files) → LeftBy leaves options.genesis client past disks_before (now_of moment disks_before)
     → HasLived {D = D} {C = C} moment leaves faults see options.genesis client past
-    → Unstarted moment leaves options client past before now noted ended disks_before disks_now
+    → Unstarted moment leaves options.genesis options client past before now noted ended disks_before disks_now
     ⊎ ((flags : List Bool) × (x : Serviced moment leaves faults see clock options before (now flags) noted ended client past files stop disks_before disks_now)
     × Opening shows moment leaves faults disks_before options.genesis options.watch x.epoch x.opened
     × ((acts : List (Act Event)) → TellsOf moment leaves faults see clock options x.start x.opened x.closed x.equipped (now flags) ended client x.came acts

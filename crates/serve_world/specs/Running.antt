@@ -15,6 +15,7 @@ use Rattle.node_calls.specs.declared.told.NodeCall.{NodeCall}
 use Rattle.node_calls.specs.declared.told.NodeCall.TheVariants as told
 use Rattle.node_fallback.specs.Seen.{Seen as Asked}
 use Rattle.desk_machine.specs.States.{no_state}
+use Rattle.desk_machine.specs.Machine.{IsUp}
 use Rattle.desk_machine.specs.declared.event.DeskEvent.{DeskEvent}
 use Rattle.check_sign.specs.Contents.{Seen, disks_in}
 use Rattle.check_sign.specs.Crashes.{Files, LeftAt, Moments, NotAfter, now_of}
@@ -22,9 +23,11 @@ use Rattle.check_sign.specs.Opening.{Opening}
 use Rattle.check_sign.specs.Paths.{IsDuring, Path}
 use Rattle.check_sign.specs.Standing.{DeskStands}
 use Rattle.desk_seat.specs.Turns.{calls_of}
+use Rattle.key_custody.specs.Once.{IsWhole}
 use Rattle.world_law.specs.Worlds.{Event}
 use Rattle.world_law.specs.Worlds.Event.{Crash}
 use Rattle.world_law.specs.Clients.{RunsFrom, state_over, own, messages_in}
+use Rattle.session_world.specs.Others.{AreOfAnother}
 use Rattle.session_world.specs.Running.{LeftBy, StaysSo}
 use Rattle.session_world.specs.Starting.{Show}
 use Rattle.session_world.specs.Stopping.{StopsIn, StopsBehind}
@@ -78,7 +81,7 @@ pub record Behind {D : Type 0} (moment : D → ℕ) (leaves : D → ℕ → List
 
 -- Over disks and with parts that were handed in, a desk was opened. Before that the nodes gave genesis and fork; then lanes were made, of
 -- the parts as they were then; and the epoch is that of a moment that the clock showed. The desk that was opened stands for what the client's
--- start leaves. There are acts that tell what was done from then on, and all such acts are those of the client after its start. A crash up
+-- start leaves, a state in which no key without a past has a state and no disk has failed. There are acts that tell what was done from then on, and all such acts are those of the client after its start. A crash up
 -- to the opening's end leaves what a stop before the start leaves.
 pub record Serviced {D C : Type 0} (moment : D → ℕ) (leaves : D → ℕ → List ℕ → Type 0) (faults : D → ℕ) (see : C → LinkSeen) (clock : Option ℕ) (options : ServeOptions) (before now_parts : Parts C) (noted : List DeskEvent) (ended : Status) (client : ℕ) (past : List Event) (files : Files)
     (stop : StopsIn options.genesis client (no_state options.genesis) past files) (first last : Disks D) : Type 0 where
@@ -94,6 +97,8 @@ pub record Serviced {D C : Type 0} (moment : D → ℕ) (leaves : D → ℕ → 
   pub opened : Seen D
   pub closed : Seen D
   pub begins : DeskStands opened.contents (state_over (no_state options.genesis) (restarted options.genesis client past files stop epoch options.watch))
+  pub whole : IsWhole (state_over (no_state options.genesis) (restarted options.genesis client past files stop epoch options.watch))
+  pub up : IsUp (state_over (no_state options.genesis) (restarted options.genesis client past files stop epoch options.watch))
   pub noted_is : noted ≡ closed.contents.events
   pub last_is : last ≡ disks_in closed
   pub came : CameOf moment leaves faults see clock options start opened closed equipped now_parts ended
@@ -123,10 +128,10 @@ pub record OnlyBegins {C : Type 0} (options : ServeOptions) (before now : Parts 
   pub lanes : (now.lanes ≡ before.lanes) ⊎ ((made : Parts C) × HasLanes (with_nodes before now.nodes) options.lanes made × OnlyWrites made now)
 
 -- No desk was opened: the client signed and posted nothing and answered no connection, and noted nothing; and a crash leaves what one before
--- would have left. This is what the parts tell, with some of the nodes counting as syncing. One line closed the output, or memory ran out
--- and nothing was written.
-pub record Unstarted {D C : Type 0} (moment : D → ℕ) (leaves : D → ℕ → List ℕ → Type 0) (options : ServeOptions) (client : ℕ) (past : List Event) (before : Parts C) (now : List Bool → Parts C) (noted : List DeskEvent) (ended : Status) (first last : Disks D) : Type 0 where
-  pub stays : StaysSo moment leaves options.genesis client past first last
+-- would have left, of a client of this chain. This is what the parts tell, with some of the nodes counting as syncing. One line closed the
+-- output, or memory ran out and nothing was written.
+pub record Unstarted {D C : Type 0} (moment : D → ℕ) (leaves : D → ℕ → List ℕ → Type 0) (genesis : Root) (options : ServeOptions) (client : ℕ) (past : List Event) (before : Parts C) (now : List Bool → Parts C) (noted : List DeskEvent) (ended : Status) (first last : Disks D) : Type 0 where
+  pub stays : StaysSo moment leaves genesis client past first last
   pub none : noted ≡ []
   pub flags : List Bool
   pub begins : OnlyBegins options before (now flags)
@@ -139,6 +144,15 @@ abbrev pub ServiceGoesOn : {D C : Type 0} → (D → List ℕ → Type 0) → (D
 ServiceGoesOn {D} {C} shows moment leaves faults see = (clock : Option ℕ) (options : ServeOptions) (disks_before disks_now : Disks D) (before : Parts C) (now : List Bool → Parts C) (noted : List DeskEvent) (ended : Status)
     → ClientRuns shows moment leaves faults see clock options disks_before disks_now before now noted ended
     → (client : ℕ) (past : List Event) (files : Files) → Show shows disks_before files → (stop : StopsIn options.genesis client (no_state options.genesis) past files) → LeftBy leaves options.genesis client past disks_before (now_of moment disks_before)
-    → Unstarted moment leaves options client past before now noted ended disks_before disks_now
+    → Unstarted moment leaves options.genesis options client past before now noted ended disks_before disks_now
     ⊎ ((flags : List Bool) × (x : Serviced moment leaves faults see clock options before (now flags) noted ended client past files stop disks_before disks_now)
     × Opening shows moment leaves faults disks_before options.genesis options.watch x.epoch x.opened)
+
+-- However such a run ends whose words name another chain than that of the journal, whose client a stop left these files: no desk was opened,
+-- and the disks show these files still. So a run for the client's own chain finds what it would have found before.
+abbrev pub OtherServiceIdles : {D C : Type 0} → (D → List ℕ → Type 0) → (D → ℕ) → (D → ℕ → List ℕ → Type 0) → (D → ℕ) → (C → LinkSeen) → Type 0
+OtherServiceIdles {D} {C} shows moment leaves faults see = (clock : Option ℕ) (options : ServeOptions) (disks_before disks_now : Disks D) (before : Parts C) (now : List Bool → Parts C) (noted : List DeskEvent) (ended : Status)
+    → ClientRuns shows moment leaves faults see clock options disks_before disks_now before now noted ended
+    → (genesis : Root) (client : ℕ) (past : List Event) (files : Files) → AreOfAnother options.genesis files → Show shows disks_before files → StopsIn genesis client (no_state genesis) past files
+    → LeftBy leaves genesis client past disks_before (now_of moment disks_before)
+    → Unstarted moment leaves genesis options client past before now noted ended disks_before disks_now × Show shows disks_now files

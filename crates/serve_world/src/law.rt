@@ -2,7 +2,10 @@
 ghost use Rattle.keymanager_api.specs.Serving.{LinkSeen};
 ghost use Rattle.serve_world.specs.Serving.{ActsKeepOrder, ServeRuns, ServeStops, ServeTold};
 ghost use Rattle.serve_world.specs.Custody.{DeletionsAnswered, DeletionsInOrder, ImportsInOrder};
-ghost use Rattle.serve_world.specs.Running.{ServiceGoesOn};
+ghost use Rattle.serve_world.specs.Running.{OtherServiceIdles, ServiceGoesOn};
+ghost use Rattle.serve_world.specs.Silence.{ServeSilent, ServeUngranted};
+ghost use Rattle.serve_world.specs.Repeating.{RepeatsChangeNothing};
+ghost use Rattle.serve_world.specs.Retrying.{ServeDeletesAgain, ServeImportsAgain};
 ghost use Rattle.serve_world.specs.Lives.{CommandLivesOn, Headline, ServiceLivesOn, SessionLivesOn};
 
 use edge_kit::{Disk, Door};
@@ -29,12 +32,36 @@ pub fn custody_order_law<D: Disk, R: Door>()
     ensures answered { (see : R.Conn → LinkSeen) → DeletionsAnswered D.moment D.leaves D.faults see }
 {}
 
+/// Of a client that served over its desk: between a Close of a key and its next activation nothing is granted for the key
+/// and nothing of it is posted, and nothing before the first activation of a key that was not active when the desk was
+/// opened. This is so whatever was called, and wants no lawful events.
+pub fn silence_law<D: Disk, R: Door>()
+    ensures granted { (see : R.Conn → LinkSeen) → ServeUngranted D.moment D.leaves D.faults see }
+    ensures sent { (see : R.Conn → LinkSeen) → ServeSilent D.moment D.leaves D.faults see }
+{}
+
+/// A proposal that was granted and comes again, anywhere later, over calls and stops of the client, writes nothing and
+/// changes no record, whether it is granted again or not.
+pub fn repeat_law()
+    ensures { RepeatsChangeNothing }
+{}
+
+/// A deletion that was carried out without error and comes again while a client serves changes nothing, and asks the
+/// signer nothing, where no key of it became active between, whatever others call between any two of its calls. So does an
+/// import that was carried out without error and comes again, where no deletion of a key of it was begun between.
+pub fn again_law<D: Disk, R: Door>()
+    ensures deletions { (see : R.Conn → LinkSeen) → ServeDeletesAgain D.moment D.leaves D.faults see }
+    ensures imports { (see : R.Conn → LinkSeen) → ServeImportsAgain D.moment D.leaves D.faults see }
+{}
+
 /// However a run of the program ends that was asked for the validator client, over disks that show what a stop of the
 /// client left, and of which a crash leaves such files: the client did nothing but ask its nodes what a start asks, and
 /// what a crash leaves is as before; or it started with the parts and over the disks that were handed in, and what it did
-/// is a list of events after those before the stop, as `serve_law` says.
+/// is a list of events after those before the stop, as `serve_law` says. Where its words name another chain than that of
+/// the journal, no desk is opened, and the journal stays as it was.
 pub fn service_law<D: Disk, R: Door>()
-    ensures { (see : R.Conn → LinkSeen) → ServiceGoesOn D.shows D.moment D.leaves D.faults see }
+    ensures goes_on { (see : R.Conn → LinkSeen) → ServiceGoesOn D.shows D.moment D.leaves D.faults see }
+    ensures other { (see : R.Conn → LinkSeen) → OtherServiceIdles D.shows D.moment D.leaves D.faults see }
 {}
 
 /// Whatever runs of sessions, of commands on a journal and of the validator client any number of clients made, one

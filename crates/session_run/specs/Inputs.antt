@@ -1,10 +1,11 @@
 -- What was read of an input.
-use Rattle.std.specs.Prelude.{◌≡◌, ℕ, ◌<◌, ◌==◌, ◌⊎◌, List, [], ◌∷◌, ◌++◌, length, map, if◌then◌else◌, Option, Some, None, min}
+use Rattle.std.specs.Prelude.{◌≡◌, ℕ, ◌+◌, ◌<◌, ◌≤◌, ◌==◌, ◌⊎◌, List, [], ◌∷◌, ◌++◌, length, flat_map, map, if◌then◌else◌, Option, Some, None, min}
 use Rattle.std.specs.Io.KnownBytes.{Consumes, IsAtEnd}
-use Rattle.program_end.specs.Limits.{input_limit}
+use Rattle.program_end.specs.Limits.{line_limit, input_limit}
 use Rattle.program_end.specs.declared.limit.Limit.{Limit}
 use Rattle.program_end.specs.declared.limit.Limit.TheVariants as limit
 use Rattle.input_lines.specs.Lines.{lines_of, IsShortLine, BeginsTooLong}
+use Rattle.input_lines.specs.Reading.{piece_size}
 use Rattle.session_run.specs.Turns.{Turn, line_of}
 
 -- The turns are the lines that ended in what was read; what is pending goes on.
@@ -20,13 +21,22 @@ AreShort (line ∷ lines) = IsShortLine line × AreShort lines
 abbrev pub last_lines : List ℕ → List (List ℕ)
 last_lines line = if length line == 0 then [] else line ∷ []
 
--- so much was read: the lines of the turns, and what is pending
+-- the lines of the turns, each with the newline that ended it
+abbrev pub ended_line : Turn → List ℕ
+ended_line t = t.line ++ 10 ∷ []
+
+abbrev pub ended_lines : List Turn → List ℕ
+ended_lines ts = flat_map ended_line ts
+
+-- So much was read: the lines of the turns, and what is pending, which is at most as long as a line may be, and one piece more.
 pub record HasRead (left_before left_now : Option (List ℕ)) (turns : List Turn) (pending : List ℕ) (total : ℕ) : Type 0 where
   pub read : List ℕ
   pub taken : Consumes left_before left_now read
   pub lines : HasLines read turns pending
   pub short : AreShort (map line_of turns)
   pub count : total ≡ min (length read) input_limit
+  pub parts : read ≡ ended_lines turns ++ pending
+  pub ahead : length pending ≤ line_limit + piece_size
 
 -- the whole input was read, within the limits, and the turns are its lines
 pub record ReadsWhole (left_before left_now : Option (List ℕ)) (turns : List Turn) : Type 0 where
@@ -36,17 +46,19 @@ pub record ReadsWhole (left_before left_now : Option (List ℕ)) (turns : List T
   pub lines : lines_of read ≡ map line_of turns
   pub short : AreShort (map line_of turns)
   pub within : length read < input_limit
+  pub ahead : length read ≤ length (ended_lines turns)
 
 -- the lines of the turns are the first of these bytes, however they go on
 abbrev pub BeginWith : List ℕ → List Turn → Type 0
 BeginWith read turns = (tail : List ℕ) → (rest : List (List ℕ)) × (lines_of (read ++ tail) ≡ map line_of turns ++ rest)
 
--- The turns are the first lines of what was read, each whole: it ended in what was read, or the input did.
+-- The turns are the first lines of what was read, each whole: it ended in what was read, or the input did. At most one piece more was read.
 pub record ReadsFirst (left_before left_now : Option (List ℕ)) (turns : List Turn) : Type 0 where
   pub read : List ℕ
   pub taken : Consumes left_before left_now read
   pub lines : BeginWith read turns ⊎ (IsAtEnd left_now × (lines_of read ≡ map line_of turns))
   pub short : AreShort (map line_of turns)
+  pub ahead : length read ≤ length (ended_lines turns) + piece_size
 
 -- the first line of these bytes, whole: a newline ended it, or the input did
 abbrev pub IsNext : Option (List ℕ) → List ℕ → List ℕ → Type 0

@@ -2,3 +2,4 @@ pub mod Events
 pub mod Stopping
 pub mod Starting
 pub mod Running
+pub mod Others

@@ -3,6 +3,7 @@ ghost use Rattle.session_world.specs.Events.{CallsRun, SessionRuns};
 ghost use Rattle.session_world.specs.Stopping.{CallsStop, SessionStops};
 ghost use Rattle.session_world.specs.Starting.{StartsAgain, StartsEmpty, StartsKeep};
 ghost use Rattle.session_world.specs.Running.{CommandGoesOn, RunGoesOn};
+ghost use Rattle.session_world.specs.Others.{OtherIdles};
 
 use edge_kit::Disk;
 
@@ -38,8 +39,10 @@ pub fn start_law<D: Disk>()
 /// stop of the client left, and of which a crash leaves such files: the client did nothing, and what a crash leaves is
 /// as before; or it started, and what its lines did, as `session_law` says, or its one call, are events of it after
 /// those before the stop. So the runs over one journal, one after another, are one list of events of one client, which
-/// `handover_law` speaks of.
+/// `handover_law` speaks of. A run that is asked for another chain than that of the journal does nothing to it: the
+/// client's own next run finds what it would have found before.
 pub fn run_law<D: Disk>()
     ensures session { RunGoesOn D.shows D.moment D.leaves D.faults }
     ensures command { CommandGoesOn D.shows D.moment D.leaves D.faults }
+    ensures other { OtherIdles D.shows D.moment D.leaves D.faults }
 {}

@@ -11,12 +11,13 @@ use crate::token::{TokenNote, TokenWords, token_words};
 use beacon_node::BeaconNode;
 use command_line::{ListenAddress, NodeTimeout, TokenText};
 use edge_clock::{Halt, SystemClock};
+use edge_door::TcpDoor;
 use edge_kit::{Disk, Disks, Door, MemDisk};
 use edge_services::{ToldNode, ToldSigner, announce, link_to_signer, node_link};
-use edge_sockets::{Peers, TcpDoor, TcpLink};
+use edge_sockets::{Peers, TcpLink};
 use edge_system::{
-    EpochCounts, EpochNotes, FileDisk, Reading, Reports, StandardStream, StandardStreams, Standing,
-    ToldClock, Writing,
+    EpochCounts, EpochNotes, FileDisk, Reading, Reports, SetBack, StandardStream, StandardStreams,
+    Standing, ToldClock, Writing,
 };
 use node_calls::Node;
 use plan_places::{Places, Services, named};
@@ -48,13 +49,14 @@ struct DoorPlace {
     token: Option<TokenText>,
 }
 
-/// What the objects of a run share: the halt that ends what the door and the clock wait for, what is known of an epoch, and
-/// which reports are made.
+/// What the objects of a run share: the halt that ends what the door and the clock wait for, what is known of an epoch,
+/// which reports are made, and what a clock that is set back does.
 #[derive(Clone, Copy)]
 struct Shared<'a> {
     halt: &'a Halt,
     notes: &'a EpochNotes,
     reports: Reports,
+    set_back: SetBack,
 }
 
 /// The words of the command line. Where one is no UTF-8 there are none, which is no command.
@@ -111,7 +113,7 @@ fn nodes_at<'a, R: Net + Eprint + Clock>(
     'services: for (index, service) in services.into_iter().enumerate() {
         let seconds = timeout.seconds();
         let link = node_link(rt, alloc, &service, seconds, &peers, index, shared.reports)?;
-        nodes.push(node_over(rt, alloc, link, service, shared.notes)?)?;
+        nodes.push(node_over(rt, alloc, link, service, shared)?)?;
     }
     Ok(nodes)
 }
@@ -122,10 +124,11 @@ fn node_over<'a, R: Net + Eprint + Clock>(
     alloc: Global,
     link: TcpLink<&'a R>,
     service: ServiceUrl,
-    notes: &'a EpochNotes,
+    shared: Shared<'a>,
 ) -> Result<SystemNode<'a, R>, AllocError> {
     let place = service.copy(alloc)?;
-    Ok(ToldNode::new(BeaconNode::new(link, service), place, rt, notes))
+    let node = BeaconNode::new(link, service);
+    Ok(ToldNode::new(node, place, rt, shared.notes, shared.reports))
 }
 
 /// The door at an address, which the halt shuts; where there is none, one that is never opened.
@@ -173,6 +176,7 @@ where
         listen,
         token,
         quiet: _quiet,
+        watch: _watch,
     } = services;
     let place = DoorPlace { listen, token };
     let nodes = NodePlaces {
@@ -261,6 +265,7 @@ fn run<
         halt,
         notes,
         reports,
+        set_back,
     } = shared;
     let mut input = Reading::new(rt.reader(), rt);
     let output = Writing::new(io::writer(rt), rt);
@@ -272,7 +277,7 @@ fn run<
         disks,
         signer,
         nodes,
-        ToldClock::new(SystemClock::new(rt, halt), rt, notes),
+        ToldClock::new(SystemClock::new(rt, halt), rt, notes, set_back),
         door,
         &mut input,
         &mut output,
@@ -435,6 +440,15 @@ fn reports_of(quiet: bool) -> Reports {
     if quiet { Reports::Faults } else { Reports::All }
 }
 
+/// What a clock that is set back does to a server that watches keys, or to one that does not.
+fn set_back_of(watch: bool) -> SetBack {
+    if watch {
+        SetBack::Halts
+    } else {
+        SetBack::GoesOn
+    }
+}
+
 /// The status of the run: over the files of the journal that the words name, else over disks in memory; and with the
 /// services that they name. The standard streams are kept to the end.
 fn main(rt: HostRuntime) -> ExitCode {
@@ -454,6 +468,7 @@ fn main(rt: HostRuntime) -> ExitCode {
         halt: &halt,
         notes: &notes,
         reports: reports_of(services.quiet),
+        set_back: set_back_of(services.watch),
     };
     let status = match files {
         Some((first, second)) => match file_disks(&rt, alloc, first, second) {

@@ -1,9 +1,9 @@
 //! Connections that were accepted and whose requests are coming in.
 use crate::request_front::is_ready;
-use crate::span::Span;
+use edge_sockets::{Span, is_later};
 use std::alloc::Global;
 use std::io;
-use std::io::{ErrorKind, Read, Write};
+use std::io::{Read, Write};
 use std::net::OpenStream;
 use std::rt::Clock;
 use std::time::Duration;
@@ -26,14 +26,14 @@ pub(crate) struct Waiting<S> {
     is_over: bool,
 }
 
-/// What a look at the connections that wait has found.
-#[derive(Drop)]
-pub(crate) enum Look<S> {
-    /// A connection whose request is to be served now.
-    Ready(Waiting<S>),
-    /// More of some request has come in.
+/// What a look at the connections has found.
+#[derive(Clone, Copy)]
+pub(crate) enum Look {
+    /// The request of the one at this place among those that wait is to be served now.
+    Ready(usize),
+    /// More of something has come in, or has left.
     More,
-    /// Nothing has come in.
+    /// Nothing can be done now.
     Nothing,
 }
 
@@ -80,8 +80,8 @@ impl<S: Read + Write + OpenStream + Drop> Room<S> {
         }
     }
 
-    /// Reads what has come in. The first connection whose request is to be served now waits no longer.
-    pub(crate) fn look<C: Clock>(&mut self, clock: &C, token: &str) -> Look<S> {
+    /// Reads what has come in, and finds the first connection whose request is to be served now.
+    pub(crate) fn look<C: Clock>(&mut self, clock: &C, token: &str) -> Look {
         let mut ready = None;
         let mut has_come = false;
         'waiting: for (place, waiting) in self.waiting.iter_mut().enumerate() {
@@ -92,9 +92,18 @@ impl<S: Read + Write + OpenStream + Drop> Room<S> {
             }
         }
         match ready {
-            Some(place) if place < self.waiting.len() => Look::Ready(self.waiting.remove(place)),
-            _ if has_come => Look::More,
-            _ => Look::Nothing,
+            Some(place) => Look::Ready(place),
+            None if has_come => Look::More,
+            None => Look::Nothing,
+        }
+    }
+
+    /// The connection at a place, which waits no longer; none where none is there.
+    pub(crate) fn take(&mut self, place: usize) -> Option<Waiting<S>> {
+        if place < self.waiting.len() {
+            Some(self.waiting.remove(place))
+        } else {
+            None
         }
     }
 }
@@ -181,9 +190,4 @@ impl<S: Read + Write + OpenStream + Drop> Waiting<S> {
             self.silence = silence;
         }
     }
-}
-
-// Whether a failure says that nothing has come in yet.
-fn is_later(kind: ErrorKind) -> bool {
-    matches!(kind, ErrorKind::WouldBlock | ErrorKind::Interrupted)
 }

@@ -1,6 +1,6 @@
 //! What became of the keys of a request of the Keymanager API, key by key.
-use crate::heard::Visible;
 use crate::json_scan::{JsonScan, Met};
+use edge_sockets::Visible;
 use edge_system::Reports;
 use std::alloc::Global;
 use std::fmt;

@@ -1,0 +1,201 @@
+//! Connections that were served, and whose replies the system has not taken yet, or may still take back.
+use crate::rest::Rest;
+use edge_sockets::{Heard, Span, Visible, is_later};
+use std::alloc::{AllocError, Global};
+use std::io;
+use std::io::{Eprint, Read, Write};
+use std::net::{OpenStream, Shutdown};
+use std::rt::Clock;
+use std::time::Duration;
+
+/// How many connections leave at most.
+const PLACES: usize = 8;
+
+/// How many bytes are read of a connection at a time.
+const PIECE_BYTES: usize = 16_384;
+
+/// How many milliseconds the peer of a reply that was sent may be silent before its connection is dropped.
+const SILENT_MILLISECONDS: u64 = 500;
+
+/// For how many seconds what the peer sends after its reply is read at most.
+const READING_SECONDS: u64 = 2;
+
+/// How far a connection is that leaves.
+#[derive(Clone, Copy)]
+enum Stage {
+    /// Its reply is sent, within this span.
+    Sends(Span),
+    /// Its reply was sent, and what its peer still sends is read and dropped, so that the system does not take the reply
+    /// back: within the whole of the one span, and as long as the peer is silent no longer than the other one.
+    Reads { whole: Span, silence: Span },
+    /// Nothing goes over it any more.
+    Over,
+}
+
+impl Stage {
+    // The same stage, whose time begins now.
+    fn again<C: Clock>(self, clock: &C) -> io::Result<Stage> {
+        match self {
+            Stage::Sends(span) => Ok(Stage::Sends(span.again(clock)?)),
+            Stage::Reads { whole, silence } => Ok(Stage::Reads {
+                whole: whole.again(clock)?,
+                silence: silence.again(clock)?,
+            }),
+            Stage::Over => Ok(Stage::Over),
+        }
+    }
+}
+
+/// A connection that leaves.
+#[derive(Drop)]
+pub(crate) struct Leaving<S> {
+    stream: S,
+    rest: Rest,
+    stage: Stage,
+    heard: Heard,
+}
+
+/// Connections that leave, at most `PLACES`.
+#[derive(Drop)]
+pub(crate) struct Exit<S> {
+    leaving: Vec<Leaving<S>>,
+}
+
+impl<S: Read + Write + OpenStream + Drop> Exit<S> {
+    /// No connection leaves. Takes no memory.
+    pub(crate) fn new(alloc: Global) -> Self {
+        Exit {
+            leaving: Vec::new(alloc),
+        }
+    }
+
+    /// Makes room for one more, so that none takes memory when it leaves.
+    pub(crate) fn make_room(&mut self) -> Result<(), AllocError> {
+        self.leaving.reserve(1)
+    }
+
+    /// Whether there is a place for one more.
+    pub(crate) fn has_place(&self) -> bool {
+        self.leaving.len() < PLACES
+    }
+
+    /// Whether no connection leaves.
+    pub(crate) fn is_empty(&self) -> bool {
+        self.leaving.is_empty()
+    }
+
+    /// Begins the time of each connection anew, since none was gone on with while another was served.
+    pub(crate) fn resume<C: Clock>(&mut self, clock: &C) {
+        'leaving: for leaving in self.leaving.iter_mut() {
+            leaving.resume(clock);
+        }
+    }
+
+    /// Lets a connection leave. Where there is no room for it, it is dropped.
+    pub(crate) fn admit(&mut self, leaving: Leaving<S>) {
+        let _ = self.leaving.push(leaving);
+    }
+
+    /// Sends what the system takes at once, and reads what has come in. Says whether it did anything. Whoever has nothing more
+    /// to send or to read leaves no longer.
+    pub(crate) fn work<C: Eprint + Clock>(&mut self, handle: &C) -> bool {
+        let mut has_worked = false;
+        'leaving: for leaving in self.leaving.iter_mut() {
+            has_worked |= leaving.work(handle);
+        }
+        self.leaving.retain(|leaving| !leaving.is_over());
+        has_worked
+    }
+}
+
+impl<S: Read + Write + OpenStream + Drop> Leaving<S> {
+    /// A connection that does not wait for its peer, of whose reply this rest is to be sent within this span.
+    pub(crate) fn new(stream: S, rest: Rest, span: Span, heard: Heard) -> Self {
+        Leaving {
+            stream,
+            rest,
+            stage: Stage::Sends(span),
+            heard,
+        }
+    }
+
+    // Its time begins now.
+    fn resume<C: Clock>(&mut self, clock: &C) {
+        self.stage = self.stage.again(clock).unwrap_or(self.stage);
+    }
+
+    // Whether nothing goes over it any more.
+    fn is_over(&self) -> bool {
+        matches!(self.stage, Stage::Over)
+    }
+
+    // Does what can be done now, and says whether that was anything.
+    fn work<C: Eprint + Clock>(&mut self, handle: &C) -> bool {
+        match self.stage {
+            Stage::Sends(span) => self.send(handle, span),
+            Stage::Reads { whole, silence } => self.read(handle, whole, silence),
+            Stage::Over => false,
+        }
+    }
+
+    // Sends what the system takes at once, and says whether that was anything.
+    fn send<C: Eprint + Clock>(&mut self, handle: &C, span: Span) -> bool {
+        let Ok(count) = self.rest.send(&mut self.stream) else {
+            self.stage = Stage::Over;
+            return true;
+        };
+        if self.rest.is_empty() {
+            self.stage = self.shut(handle).unwrap_or(Stage::Over);
+            return true;
+        }
+        if span.left(handle).is_err() {
+            self.report(handle);
+            self.stage = Stage::Over;
+        }
+        count > 0
+    }
+
+    // Says to the peer that nothing further comes.
+    fn shut<C: Clock>(&self, clock: &C) -> io::Result<Stage> {
+        self.stream.shutdown(Shutdown::Write)?;
+        let whole = Span::begin(clock, Duration::from_secs(READING_SECONDS))?;
+        let silence = whole.with_limit(Duration::from_millis(SILENT_MILLISECONDS));
+        Ok(Stage::Reads { whole, silence })
+    }
+
+    // Reads what has come in, and says whether that was anything.
+    fn read<C: Clock>(&mut self, clock: &C, whole: Span, silence: Span) -> bool {
+        let mut piece = [0; PIECE_BYTES];
+        let has_come = match self.stream.read(&mut piece) {
+            Err(error) if is_later(error.kind()) => false,
+            Ok(0) | Err(_) => {
+                self.stage = Stage::Over;
+                return true;
+            }
+            Ok(_) => true,
+        };
+        self.stage = read_on(clock, whole, silence, has_come).unwrap_or(Stage::Over);
+        has_come
+    }
+
+    // Reports that the reply was not taken in its time.
+    fn report<E: Eprint>(&self, handle: &E) {
+        let call = self.heard.call();
+        let status = Visible(self.heard.status().unwrap_or(&[]));
+        let _ = eprintln!(handle;
+            "Keymanager API: {call}: {status}: the reply was not read in time"
+        );
+    }
+}
+
+// The stage of a connection of which more is read, where there is time for that.
+fn read_on<C: Clock>(clock: &C, whole: Span, silence: Span, has_come: bool) -> io::Result<Stage> {
+    let silence = if has_come {
+        silence.again(clock)?
+    } else {
+        silence
+    };
+    whole.left(clock)?;
+    silence.left(clock)?;
+    Ok(Stage::Reads { whole, silence })
+}

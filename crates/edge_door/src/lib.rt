@@ -1,0 +1,16 @@
+//! The system's connections that come in, by the meanings that every layer takes of them. Each opens the real thing at its
+//! first call. They are trusted in what they read and write, and tell nothing of it.
+#![tactic(auto)]
+
+mod json_scan;
+mod key_outcomes;
+mod leaving;
+mod lobby;
+mod request_front;
+mod rest;
+mod tcp_conn;
+mod tcp_door;
+mod waiting;
+
+pub use tcp_conn::TcpConn;
+pub use tcp_door::TcpDoor;

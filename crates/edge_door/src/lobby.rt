@@ -1,0 +1,269 @@
+//! The connections of a door that are not being served: those that wait for that, and those that leave.
+use crate::leaving::{Exit, Leaving};
+use crate::tcp_conn::{LIMIT_SECONDS, READ_SECONDS};
+use crate::waiting::{Look, Room, Waiting};
+use edge_clock::Halt;
+use edge_sockets::Address;
+use std::alloc::Global;
+use std::io::{Eprint, ErrorKind};
+use std::net::{Net, OpenListener, TcpListener};
+use std::rt::Clock;
+use std::time::Duration;
+use std::{io, thread};
+
+/// For how many milliseconds the door waits after the system could not accept for now.
+const NAP_MILLISECONDS: u64 = 100;
+
+/// For how many milliseconds the door waits at most before it looks again whether a connection came, more of one came in or
+/// can be sent, or its halt was raised.
+const LONGEST_LOOK: u64 = 50;
+
+/// The system's number for a process that may open no more files.
+const NO_MORE_FILES: i32 = 24;
+
+/// The system's number for a machine that may open no more files.
+const NO_MORE_FILES_AT_ALL: i32 = 23;
+
+/// The system's number for a fault of the protocol of one connection.
+const PROTOCOL_FAULT: i32 = 71;
+
+/// The system's number for want of buffers.
+const NO_BUFFERS: i32 = 105;
+
+/// The system's number for a protocol that is not there.
+const NO_PROTOCOL: i32 = 92;
+
+/// The system's number for a machine that is on no network.
+const NO_NETWORK: i32 = 64;
+
+/// The system's number for a host that is down.
+const HOST_DOWN: i32 = 112;
+
+/// The system's number for what a socket cannot do.
+const NOT_SUPPORTED: i32 = 95;
+
+/// The system's number for a connection that its firewall forbids.
+const FORBIDDEN: i32 = 1;
+
+/// The connections of a door at an address that are not being served, each of which goes on beside the others. Where it is
+/// dropped, what is left of the replies is sent first.
+pub(crate) struct Lobby<'a, N: Net + Eprint + Clock + Drop> {
+    handle: N,
+    host: String,
+    port: u16,
+    token: String,
+    halt: &'a Halt,
+    room: Room<N::Stream>,
+    exit: Exit<N::Stream>,
+    /// The system could not accept at the last try, which was reported.
+    is_barred: bool,
+}
+
+impl<'a, N: Net + Eprint + Clock + Drop> Lobby<'a, N> {
+    // That of a door to which no connection came yet. Takes no memory.
+    pub(crate) fn new(
+        alloc: Global,
+        handle: N,
+        host: String,
+        port: u16,
+        token: String,
+        halt: &'a Halt,
+    ) -> Self {
+        Lobby {
+            handle,
+            host,
+            port,
+            token,
+            halt,
+            room: Room::new(alloc),
+            exit: Exit::new(alloc),
+            is_barred: false,
+        }
+    }
+
+    // What its connections are reached by.
+    pub(crate) fn handle(&self) -> &N {
+        &self.handle
+    }
+
+    // Where the door is.
+    pub(crate) fn address(&self) -> Address<'_> {
+        Address {
+            host: &self.host,
+            port: self.port,
+        }
+    }
+
+    // A listener at the address, whose `accept` does not wait.
+    pub(crate) fn bind(&self) -> io::Result<N::Listener> {
+        let listener = TcpListener::bind(&self.handle, (self.host.as_str(), self.port))?;
+        listener.set_nonblocking(true)?;
+        Ok(listener)
+    }
+
+    // The next connection whose request is there, of those that a listener accepts, once there is room for it to leave. None
+    // once the halt is raised, and no connection leaves any more.
+    pub(crate) fn next(
+        &mut self,
+        listener: &N::Listener,
+    ) -> io::Result<Option<Waiting<N::Stream>>> {
+        self.room.resume(&self.handle);
+        let mut nap = 1;
+        'looks: for _ in 0..u64::MAX {
+            if self.halt.is_raised() {
+                self.send_out();
+                return Ok(None);
+            }
+            let has_room = self.exit.make_room().is_ok();
+            match self.look(listener)? {
+                Look::Ready(place) if has_room => {
+                    if let Some(waiting) = self.room.take(place) {
+                        return Ok(Some(waiting));
+                    }
+                }
+                Look::More => nap = 1,
+                _ => nap = self.look_later(nap),
+            }
+        }
+        Ok(None)
+    }
+
+    // Lets a connection leave.
+    pub(crate) fn admit_leaving(&mut self, leaving: Leaving<N::Stream>) {
+        self.exit.admit(leaving);
+    }
+
+    // Lets connections leave and come, until none leaves any more, or one is ready to be served. In the end there is a place
+    // for one more to leave.
+    pub(crate) fn go_on(&mut self, listener: &N::Listener) {
+        self.room.resume(&self.handle);
+        self.exit.resume(&self.handle);
+        let mut nap = 1;
+        'looks: for _ in 0..u64::MAX {
+            if self.exit.is_empty() {
+                return;
+            }
+            let found = self.look(listener).unwrap_or(Look::Nothing);
+            if matches!(found, Look::Ready(_)) && self.exit.has_place() {
+                return;
+            }
+            nap = match found {
+                Look::More => 1,
+                _ => self.look_later(nap),
+            };
+        }
+    }
+
+    // Lets all connections leave.
+    fn send_out(&mut self) {
+        let mut nap = 1;
+        'looks: for _ in 0..u64::MAX {
+            if self.exit.is_empty() {
+                return;
+            }
+            nap = if self.exit.work(&self.handle) {
+                1
+            } else {
+                self.look_later(nap)
+            };
+        }
+    }
+
+    // Goes on with all connections, each as far as it does not wait.
+    fn look(&mut self, listener: &N::Listener) -> io::Result<Look> {
+        let has_left = self.exit.work(&self.handle);
+        let has_come = self.admit(listener)?;
+        match self.room.look(&self.handle, self.token.as_str()) {
+            Look::Nothing if has_left || has_come => Ok(Look::More),
+            found => Ok(found),
+        }
+    }
+
+    // Lets the next connection wait that the listener accepts now, where there is a place for one, and says whether one
+    // came. What passes is waited out, and reported once.
+    fn admit(&mut self, listener: &N::Listener) -> io::Result<bool> {
+        if !self.room.has_place() {
+            return Ok(false);
+        }
+        match listener.accept() {
+            Ok((stream, _)) => {
+                self.is_barred = false;
+                let limit = Duration::from_secs(LIMIT_SECONDS);
+                let silent = Duration::from_secs(READ_SECONDS);
+                self.room.admit(&self.handle, stream, limit, silent);
+                Ok(true)
+            }
+            Err(error) if error.kind() == ErrorKind::WouldBlock => {
+                self.is_barred = false;
+                Ok(false)
+            }
+            Err(error) if is_of_one(error.kind()) => Ok(true),
+            Err(error) if is_passing(&error) => {
+                self.wait_out(&error);
+                Ok(false)
+            }
+            Err(error) => Err(error),
+        }
+    }
+
+    // Waits for that many milliseconds, and gives for how many to wait the next time.
+    fn look_later(&self, milliseconds: u64) -> u64 {
+        thread::sleep(&self.handle, Duration::from_millis(milliseconds));
+        milliseconds.saturating_mul(2).min(LONGEST_LOOK)
+    }
+
+    // Waits a little, and reports what for where that was not reported yet.
+    fn wait_out(&mut self, error: &io::Error) {
+        if !self.is_barred {
+            self.report(error);
+        }
+        self.is_barred = true;
+        thread::sleep(&self.handle, Duration::from_millis(NAP_MILLISECONDS));
+    }
+
+    // Reports a failure at the address.
+    fn report(&self, error: &io::Error) {
+        let host = self.host.as_str();
+        let port = self.port;
+        let _ = eprintln!(&self.handle; "{host}:{port}: {error}");
+    }
+}
+
+impl<N: Net + Eprint + Clock + Drop> Drop for Lobby<'_, N> {
+    fn drop(mut self) {
+        self.send_out();
+        let Lobby {
+            handle: _handle,
+            host: _host,
+            port: _port,
+            token: _token,
+            halt: _halt,
+            room: _room,
+            exit: _exit,
+            is_barred: _is_barred,
+        } = self;
+    }
+}
+
+// Whether a failure is that of one connection, or of none.
+fn is_of_one(kind: ErrorKind) -> bool {
+    matches!(
+        kind,
+        ErrorKind::Interrupted | ErrorKind::ConnectionAborted | ErrorKind::ConnectionReset
+    )
+}
+
+// Whether a failure is one of the system that passes.
+fn is_passing(error: &io::Error) -> bool {
+    match error.raw_os_error() {
+        Some(NO_MORE_FILES | NO_MORE_FILES_AT_ALL | PROTOCOL_FAULT | NO_BUFFERS) => true,
+        Some(NO_PROTOCOL | NO_NETWORK | HOST_DOWN | NOT_SUPPORTED | FORBIDDEN) => true,
+        _ => matches!(
+            error.kind(),
+            ErrorKind::NetworkDown
+                | ErrorKind::NetworkUnreachable
+                | ErrorKind::HostUnreachable
+                | ErrorKind::OutOfMemory
+        ),
+    }
+}

@@ -1,0 +1,310 @@
+//! A connection of the system that came in, as a link. It tells nothing of its bytes.
+ghost use Rattle.std.specs.Prelude.{◌≡◌, ◌<◌, None, IfOk, length};
+ghost use Rattle.std.specs.Io.{ReadsAtMost, WritesAtMost};
+ghost use Rattle.std.specs.Result.{result_ok};
+ghost use Rattle.edge_kit.specs.Causes.{HasCause};
+
+use crate::key_outcomes::KeyOutcomes;
+use crate::leaving::Leaving;
+use crate::rest::Rest;
+use edge_kit::{Failed, Link, count_fault};
+use edge_sockets::{Call, Heard, Span, Timed, recv_over, send_over};
+use edge_system::Reports;
+use std::alloc::{AllocError, Global};
+use std::io;
+use std::io::{Eprint, ErrorKind, Read, Write};
+use std::net::OpenStream;
+use std::rt::Clock;
+use std::time::Duration;
+
+/// How many seconds the request of an accepted connection may last, from the start to its last byte, and its reply, from
+/// the first byte to the last.
+pub(crate) const LIMIT_SECONDS: u64 = 30;
+
+/// How many seconds each read of an accepted connection may last.
+pub(crate) const READ_SECONDS: u64 = 10;
+
+/// A connection that was accepted, with a count of its failures. A single read has a limit of time (10 seconds), and so
+/// have the whole request and the whole reply (30 seconds), the reply's from its first byte on; what is read after a
+/// response of status 100 has as long from that one on. It was begun by its peer, so `connect` begins no other, and fails.
+///
+/// A reply does not wait for its peer: `send` takes the whole piece, and what the system does not take at once is kept in
+/// memory. `hang_up` ends the calls at once; what is left of the reply is sent once the door has the connection back. A
+/// response of status 100 has left before the request is read on.
+///
+/// It reports on standard error a request that changes something and one that is refused: the method, the target, the status
+/// and the first 200 bytes of the reply's body; and before that what became of each key that was to be taken in or given up.
+/// Where the reply is not taken in its time, that is reported as well.
+#[derive(Drop)]
+pub struct TcpConn<S: Read + Write + OpenStream + Drop, C: Eprint + Clock + Drop> {
+    stream: Option<Timed<S>>,
+    /// The connection after its end, where a reply was begun.
+    ended: Option<Timed<S>>,
+    /// What was read of the request before the connection was accepted.
+    arrived: Vec<u8>,
+    /// How much of that was received.
+    taken: usize,
+    /// The span of the reply, where one was begun.
+    reply: Option<Span>,
+    /// What is still to be sent of it.
+    rest: Rest,
+    clock: C,
+    heard: Heard,
+    outcomes: KeyOutcomes,
+    reports: Reports,
+    faults: u64,
+}
+
+// A connection whose calls wait, and all end with this span.
+fn timed<S: Read + Write + OpenStream + Drop>(
+    alloc: Global,
+    stream: S,
+    span: Span,
+) -> io::Result<Timed<S>> {
+    stream.set_nonblocking(false)?;
+    let longest = Duration::from_secs(READ_SECONDS);
+    Timed::new(alloc, stream, span, Some(longest))
+}
+
+impl<S: Read + Write + OpenStream + Drop, C: Eprint + Clock + Drop> TcpConn<S, C> {
+    // A connection whose request is to be read within this span, where these bytes of it were read before, and that makes
+    // these reports. One of which the system does not let it read fails at each call.
+    pub(crate) fn new(
+        alloc: Global,
+        stream: S,
+        span: Span,
+        arrived: Vec<u8>,
+        clock: C,
+        reports: Reports,
+    ) -> Self
+        ensures { result.faults ≡ 0 }
+    {
+        let stream = timed(alloc, stream, span).ok();
+        let taken = if stream.is_some() { 0 } else { arrived.len() };
+        TcpConn {
+            stream,
+            ended: None,
+            arrived,
+            taken,
+            reply: None,
+            rest: Rest::new(alloc),
+            clock,
+            heard: Heard::new(alloc),
+            outcomes: KeyOutcomes::new(alloc),
+            reports,
+            faults: 0,
+        }
+    }
+
+    // The connection as it leaves, where a reply was begun and it was ended.
+    pub(crate) fn into_leaving(self) -> Option<Leaving<S>> {
+        let TcpConn {
+            stream: _stream,
+            ended,
+            arrived: _arrived,
+            taken: _taken,
+            reply,
+            rest,
+            clock: _clock,
+            heard,
+            outcomes: _outcomes,
+            reports: _reports,
+            faults: _faults,
+        } = self;
+        Some(Leaving::new(ended?.into_stream(), rest, reply?, heard))
+    }
+
+    /// How many calls have failed.
+    pub fn faults(&self) -> u64
+        ensures { result ≡ self.now.faults }
+    {
+        self.faults
+    }
+
+    // Begins a reply with its first piece. It has a limit of its own, and does not wait for the peer.
+    fn begin_reply(&mut self) -> io::Result<()>
+        ensures { self.new.faults ≡ self.old.faults }
+    {
+        let Some(stream) = &mut self.stream else {
+            return Err(io::Error::from(ErrorKind::NotConnected));
+        };
+        if self.reply.is_none() {
+            let span = Span::begin(&self.clock, Duration::from_secs(LIMIT_SECONDS))?;
+            stream.set_waiting(false)?;
+            stream.restart(span);
+            self.reply = Some(span);
+        }
+        Ok(())
+    }
+
+    // Sends what the system takes of a piece at once: nothing while something before it is still to be sent.
+    fn send_now(&mut self, piece: &[u8]) -> io::Result<usize>
+        ensures bound { WritesAtMost result piece.now }
+        ensures faults { self.new.faults ≡ self.old.faults }
+    {
+        match &mut self.stream {
+            Some(stream) if self.rest.is_empty() => stream.write_now(piece),
+            _ => Ok(0),
+        }
+    }
+
+    // Takes a piece of a reply: what the system does not take at once is kept, where there is memory for it.
+    fn reply(&mut self, piece: &[u8]) -> io::Result<usize>
+        ensures bound { WritesAtMost result piece.now }
+        ensures some { IfOk result (λ n. 0 < length piece.now → 0 < n) }
+        ensures faults { self.new.faults ≡ self.old.faults }
+    {
+        self.begin_reply()?;
+        let count = self.send_now(piece)?;
+        match self.rest.keep(piece.get(count..).unwrap_or(&[])) {
+            Ok(()) => Ok(piece.len()),
+            Err(AllocError) if count > 0 => Ok(count),
+            Err(AllocError) => self.reply_waiting(piece),
+        }
+    }
+
+    // Sends what is kept and some bytes of a piece within the reply's time, and waits for that, since nothing more can be kept.
+    fn reply_waiting(&mut self, piece: &[u8]) -> io::Result<usize>
+        ensures bound { WritesAtMost result piece.now }
+        ensures some { IfOk result (λ n. 0 < length piece.now → 0 < n) }
+        ensures faults { self.new.faults ≡ self.old.faults }
+    {
+        if let Some(stream) = &self.stream {
+            stream.set_waiting(true)?;
+        }
+        self.rest.send_all(&mut self.stream, &self.clock)?;
+        let sent = send_over(&mut self.stream, &self.clock, piece);
+        if let Some(stream) = &self.stream {
+            let _ = stream.set_waiting(false);
+        }
+        sent
+    }
+
+    // Has all leave that was sent before the request is read on, which was a response of status 100.
+    fn end_reply(&mut self) -> io::Result<()>
+        ensures { self.new.faults ≡ self.old.faults }
+    {
+        if self.reply.take().is_none() {
+            return Ok(());
+        }
+        if let Some(stream) = &self.stream {
+            stream.set_waiting(true)?;
+        }
+        self.rest.send_all(&mut self.stream, &self.clock)
+    }
+
+    // Reads some bytes of a request: of those that were read before, or of the connection.
+    fn read(&mut self, buf: &mut [u8]) -> io::Result<usize>
+        ensures bound { ReadsAtMost result buf.new }
+        ensures faults { self.new.faults ≡ self.old.faults }
+    {
+        self.end_reply()?;
+        let mut rest = self.arrived.get(self.taken..).unwrap_or(&[]);
+        if rest.is_empty() {
+            return recv_over(&mut self.stream, &self.clock, buf);
+        }
+        let count = rest.read(buf)?;
+        self.taken = self.taken.saturating_add(count);
+        Ok(count)
+    }
+
+    // Reports a request that changes something, or that was refused.
+    fn report(&self) {
+        let is_news = self.reports.has_news() && self.heard.changes();
+        if self.stream.is_some() && (is_news || self.heard.is_refusal()) {
+            let call = Call(&self.heard);
+            let _ = eprintln!(&self.clock; "Keymanager API: {call}");
+        }
+    }
+
+    // Notes what was sent of a reply.
+    fn note_reply(&mut self, piece: &[u8])
+        ensures { self.new.faults ≡ self.old.faults }
+    {
+        self.heard.answer(piece);
+        if self.heard.changes() {
+            self.outcomes.answer(&self.clock, self.reports, piece);
+        }
+    }
+
+    // Notes what was read of a request.
+    fn note_request(&mut self, piece: &[u8])
+        ensures { self.new.faults ≡ self.old.faults }
+    {
+        self.heard.ask(piece);
+        self.outcomes.ask(piece);
+    }
+
+    // What the system answered, whose failure is counted.
+    fn counted<T>(&mut self, done: io::Result<T>) -> Result<T, Failed>
+        ensures same { result_ok result ≡ result_ok done }
+        ensures cause { HasCause self.old.faults self.new.faults result }
+    {
+        match done {
+            Ok(value) => Ok(value),
+            Err(_) => Err(count_fault(&mut self.faults)),
+        }
+    }
+}
+
+impl<S: Read + Write + OpenStream + Drop, C: Eprint + Clock + Copy + Drop> Link for TcpConn<S, C> {
+    ghost left = { λ _. None };
+
+    ghost coming = { λ _. None };
+
+    ghost held = { λ _. None };
+
+    ghost faults = { λ s. s.faults };
+
+    fn connect(&mut self) -> Result<(), Failed> {
+        self.stream = None;
+        Err(count_fault(&mut self.faults))
+    }
+
+    fn send(&mut self, piece: &[u8]) -> Result<usize, Failed> {
+        let sent = self.reply(piece);
+        if let Ok(count) = &sent {
+            self.note_reply(piece.get(..*count).unwrap_or(piece));
+        }
+        self.counted(sent)
+    }
+
+    fn recv(&mut self, buf: &mut [u8]) -> Result<usize, Failed> {
+        let read = self.read(buf);
+        if let Ok(count) = &read {
+            self.note_request(buf.get(..*count).unwrap_or(&[]));
+        }
+        self.counted(read)
+    }
+
+    fn hang_up(&mut self) -> Result<(), Failed> {
+        self.report();
+        if let Some(stream) = self.stream.take()
+            && self.reply.is_some()
+        {
+            self.ended = Some(stream);
+        }
+        Ok(())
+    }
+
+    /// A connection that is not there, since its peer began one alone: each `connect`, `send` and `recv` of it fails
+    /// and is counted. Takes no memory.
+    fn twin(&self, alloc: Global) -> Result<Self, AllocError>
+        ensures faults { IfOk result (λ t. t.faults ≡ 0) }
+        ensures gone { IfOk result (λ t. t.stream ≡ None) }
+    {
+        Ok(TcpConn {
+            stream: None,
+            ended: None,
+            arrived: Vec::new(alloc),
+            taken: 0,
+            reply: None,
+            rest: Rest::new(alloc),
+            clock: self.clock,
+            heard: Heard::new(alloc),
+            outcomes: KeyOutcomes::new(alloc),
+            reports: self.reports,
+            faults: 0,
+        })
+    }
+}

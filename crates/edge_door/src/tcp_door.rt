@@ -1,0 +1,165 @@
+//! A TCP listener of the system as a door. It tells nothing of its connections.
+ghost use Rattle.std.specs.Prelude.{◌≡◌, None};
+ghost use Rattle.std.specs.Result.{result_ok};
+ghost use Rattle.edge_kit.specs.Causes.{HasCause};
+
+use crate::lobby::Lobby;
+use crate::tcp_conn::TcpConn;
+use crate::waiting::Waiting;
+use edge_clock::Halt;
+use edge_kit::{Door, Failed};
+use edge_system::{Reports, counted};
+use std::alloc::Global;
+use std::io;
+use std::io::Eprint;
+use std::net::Net;
+use std::rt::Clock;
+
+/// A door at an address, or a host's name, and a port, with a count of its failures. It listens from the first
+/// `listen` or `accept` on. What the system says of a failure is reported on standard error. A connection that ends
+/// while it is accepted is passed over. Where the system cannot accept for now, as when the process may open no more
+/// files, that is reported once, and the door tries again until it can. Once its halt is raised `accept` waits for no
+/// connection: no further one comes.
+///
+/// Some connections wait beside each other until their requests have come in, so that a slow peer bars no other: the first
+/// whose request is there is given first. One whose head does not bear the token is given once that head is there.
+///
+/// A connection that was taken back leaves beside the others: what is left of its reply is sent as its peer takes it, and
+/// then what the peer still sends is read and dropped, for 2 seconds at most and until it is silent for half a second, so
+/// that the system does not take the reply back. `finish` goes on with that until none leaves any more, or a request is there
+/// to be served. Up to eight leave at a time; where there are as many, `finish` waits until one has left. A reply that was
+/// begun is sent within its time whatever ends the door.
+#[derive(Drop)]
+pub struct TcpDoor<'a, N: Net + Eprint + Clock + Drop> {
+    alloc: Global,
+    reports: Reports,
+    listener: Option<N::Listener>,
+    lobby: Lobby<'a, N>,
+    faults: u64,
+}
+
+impl<'a, N: Net + Eprint + Clock + Drop> TcpDoor<'a, N> {
+    /// A door that doesn't listen yet, and that accepts nothing once this halt is raised. Requests are to bear this token.
+    pub fn new(
+        alloc: Global,
+        handle: N,
+        host: String,
+        port: u16,
+        token: String,
+        halt: &'a Halt,
+    ) -> Self
+        ensures { result.faults ≡ 0 }
+    {
+        TcpDoor {
+            alloc,
+            reports: Reports::All,
+            listener: None,
+            lobby: Lobby::new(alloc, handle, host, port, token, halt),
+            faults: 0,
+        }
+    }
+
+    /// From now on connections that are accepted make these reports. That a request changes something, and that a key is
+    /// taken in or given up, is no fault.
+    pub fn set_reports(&mut self, reports: Reports)
+        ensures reports { self.new.reports ≡ reports }
+        ensures faults { self.new.faults ≡ self.old.faults }
+    {
+        self.reports = reports;
+    }
+
+    /// How many calls have failed.
+    pub fn faults(&self) -> u64
+        ensures { result ≡ self.now.faults }
+    {
+        self.faults
+    }
+
+    /// Listens from now on, where it doesn't yet, so that a port that is taken is known before the first `accept`.
+    /// A failure is counted and reported as that of `accept` is.
+    pub fn listen(&mut self) -> Result<(), Failed>
+        ensures cause { HasCause self.old.faults self.new.faults result }
+    {
+        let opened = self.open();
+        self.counted(opened)
+    }
+
+    // Listens from now on.
+    fn open(&mut self) -> io::Result<()>
+        ensures { self.new.faults ≡ self.old.faults }
+    {
+        let listener = self.take()?;
+        self.listener = Some(listener);
+        Ok(())
+    }
+
+    // The listener for one call, which listens where none did yet.
+    fn take(&mut self) -> io::Result<N::Listener>
+        ensures { self.new.faults ≡ self.old.faults }
+    {
+        match self.listener.take() {
+            Some(listener) => Ok(listener),
+            None => self.lobby.bind(),
+        }
+    }
+
+    // The next connection whose request is there, of those that the listener accepts, which listens from now on; none once
+    // the halt is raised.
+    fn next(&mut self) -> io::Result<Option<Waiting<N::Stream>>>
+        ensures { self.new.faults ≡ self.old.faults }
+    {
+        let listener = self.take()?;
+        let next = self.lobby.next(&listener);
+        self.listener = Some(listener);
+        next
+    }
+
+    // What the system answered, whose failure is counted and reported.
+    fn counted<T>(&mut self, done: io::Result<T>) -> Result<T, Failed>
+        ensures same { result_ok result ≡ result_ok done }
+        ensures cause { HasCause self.old.faults self.new.faults result }
+    {
+        let address = self.lobby.address();
+        counted(done, self.lobby.handle(), address, &mut self.faults)
+    }
+}
+
+impl<N: Net + Eprint + Clock + Copy + Drop> TcpDoor<'_, N> {
+    // A connection whose request is there, whose calls go on within what is left of its span.
+    fn served(&self, waiting: Waiting<N::Stream>) -> TcpConn<N::Stream, N>
+        ensures { result.faults ≡ 0 }
+    {
+        let (stream, span, arrived) = waiting.into_parts();
+        let handle = *self.lobby.handle();
+        TcpConn::new(self.alloc, stream, span, arrived, handle, self.reports)
+    }
+}
+
+impl<N: Net + Eprint + Clock + Copy + Drop> Door for TcpDoor<'_, N> {
+    type Conn = TcpConn<N::Stream, N>;
+
+    ghost coming = { λ _. None };
+
+    ghost finished = { λ _. None };
+
+    ghost lent = { λ _. None };
+
+    ghost faults = { λ d. d.faults };
+
+    fn accept(&mut self) -> Result<Option<TcpConn<N::Stream, N>>, Failed> {
+        let next = self.next();
+        let Some(waiting) = self.counted(next)? else {
+            return Ok(None);
+        };
+        Ok(Some(self.served(waiting)))
+    }
+
+    fn finish(&mut self, conn: TcpConn<N::Stream, N>) {
+        if let Some(leaving) = conn.into_leaving() {
+            self.lobby.admit_leaving(leaving);
+        }
+        if let Some(listener) = &self.listener {
+            self.lobby.go_on(listener);
+        }
+    }
+}
