@@ -1,31 +1,25 @@
 //! A clock of trials.
 use edge_clock::{Clock, MemClock};
 use std::sync::Wait;
-use std::sync::atomic::{AtomicU64, Ordering};
 
-/// A wait that comes again: each but the first for this moment is over at another one.
+/// A wait for this moment is over at another one.
 #[derive(Clone, Copy, PartialEq, Eq, Debug)]
-pub struct Later {
+pub struct Jump {
     pub moment: u64,
     pub reached: u64,
 }
 
-/// A clock in memory, but for a wait that comes again.
+/// A clock in memory, but for such a wait, if one is given.
 #[derive(Drop)]
 pub struct TrialClock {
     clock: MemClock,
-    later: Option<Later>,
-    waits: AtomicU64,
+    jump: Option<Jump>,
 }
 
 impl TrialClock {
     /// This clock, with such a wait, if one is given.
-    pub fn new(clock: MemClock, later: Option<Later>) -> Self {
-        TrialClock {
-            clock,
-            later,
-            waits: AtomicU64::new(0),
-        }
+    pub fn new(clock: MemClock, jump: Option<Jump>) -> Self {
+        TrialClock { clock, jump }
     }
 }
 
@@ -39,14 +33,10 @@ impl Clock for TrialClock {
     }
 
     fn wait_until<R: Wait>(&self, rt: &R, moment: u64) -> u64 {
-        let reached = self.clock.wait_until(rt, moment);
-        let Some(later) = self.later else {
-            return reached;
-        };
-        if later.moment != moment || self.waits.fetch_add(1, Ordering::SeqCst) == 0 {
-            return reached;
+        match self.jump {
+            Some(jump) if jump.moment == moment => jump.reached,
+            _ => self.clock.wait_until(rt, moment),
         }
-        later.reached
     }
 
     /// Does nothing.

@@ -1,6 +1,6 @@
 //! The subject `turns`: turns of the duty loop. The first part of a line has the words `start=N`, when the clock starts;
 //! `turns=N`, how many are taken; `watches=1` where keys are watched; `late=MOMENT,SECONDS`, the wait that is over
-//! late; `again=MOMENT,REACHED`, the moment that is reached where one is waited for once more; `keep=N` of how many
+//! late; `jump=MOMENT,REACHED`, the moment at which the wait for another is over; `keep=N` of how many
 //! epochs all is kept, all of it where that is absent; and `joins=KEY`, the keys that become active after the first of
 //! two turns. The second part describes the loop's own desk and node, and each further part a lane. The chain began at
 //! second 1000. Where not all is kept, what is kept at the loop's own desk is written.
@@ -8,7 +8,7 @@ ghost use Rattle.std.specs.Prelude.{OnOk};
 ghost use Rattle.duty_work.specs.Houses.{IsHolding};
 
 use crate::answers::FORK;
-use crate::clocks::{Later, TrialClock};
+use crate::clocks::{Jump, TrialClock};
 use crate::lanes::{MemLane, activate_all, lane_of};
 use crate::telling::{write_kept, write_lane};
 use crate::words::{keys_in, number_in, numbers_in, root};
@@ -36,12 +36,12 @@ fn clock_of(alloc: Global, part: &str) -> Option<TrialClock> {
     if let [moment, seconds] = *late.as_slice() {
         delays.push(Delay { moment, seconds }).ok()?;
     }
-    let again = numbers_in(alloc, part, "again")?;
-    let later = match *again.as_slice() {
-        [moment, reached] => Some(Later { moment, reached }),
+    let jump = numbers_in(alloc, part, "jump")?;
+    let jump = match *jump.as_slice() {
+        [moment, reached] => Some(Jump { moment, reached }),
         _ => None,
     };
-    Some(TrialClock::new(MemClock::new(start, delays), later))
+    Some(TrialClock::new(MemClock::new(start, delays), jump))
 }
 
 fn course_of(alloc: Global, part: &str) -> Option<Course> {
