@@ -21,7 +21,7 @@ use Rattle.program_end.specs.declared.status.Status.{Status}
 use Rattle.program_end.specs.declared.status.Status.TheVariants as status
 use Rattle.program_end.proofs.ClosingLemmas.{closed_by}
 use Rattle.input_lines.specs.Lines.{IsShortLine, BeginsTooLong}
-use Rattle.input_lines.specs.Reading.{Pending, ReadsMore, GivesLine}
+use Rattle.input_lines.specs.Reading.{Pending, ReadsMore, GivesLine, piece_size}
 use Rattle.session_run.specs.Inputs.{HasRead, ReadsWhole, ReadsFirst, IsNext, StopsReading, StoppedShort, PassesLimit, WithinLimits}
 use Rattle.session_run.specs.Acts.{AtBench, DeskFares, Unanswered}
 use Rattle.std.specs.Map.{keys_of}
@@ -35,7 +35,7 @@ use Rattle.input_lines.specs.declared.next.LineFault.TheVariants as fault
 use Rattle.input_lines.specs.declared.next.Next.TheVariants as next
 use Rattle.session_run.specs.declared.session.Unserved.{Unserved}
 use Rattle.session_run.specs.declared.session.Unserved.TheVariants as unserved
-use Rattle.session_run.proofs.ReadLemmas.{read_none, read_on, read_line, read_last, first_of, first_whole, one_line, no_line}
+use Rattle.session_run.proofs.ReadLemmas.{read_none, read_on, read_line, read_last, left_few, first_of, first_whole, line_fits, no_line_fits, one_line, no_line}
 use Rattle.check_sign.specs.PathLaws.{path_more}
 use Rattle.call_plans.proofs.PlanLemmas.{cut_now}
 use Rattle.client_calls.specs.Steps.{Fits, desk_calls}
@@ -49,6 +49,7 @@ use Rattle.session_run.proofs.LimitLemmas.{passes_none}
 pub record SoFar {D : Type 0} (moment : D → ℕ) (leaves : D → ℕ → List ℕ → Type 0) (faults : D → ℕ) (domains : Domains) (left_before left_now : Option (List ℕ)) (bench_before bench_now : AtBench D) (held_before held_now : Option (List ℕ)) (pending : Pending) (latest : ℕ) : Type 0 where
   pub turns : List Turn
   pub has_read : HasRead left_before left_now turns pending.bytes pending.total
+  pub few : length pending.bytes ≤ piece_size
   pub run : Run moment leaves faults domains 0 turns bench_before bench_now
   pub answered : Appends held_before held_now (written turns)
   pub latest_is : latest ≡ moment_after 0 turns
@@ -106,6 +107,7 @@ module _ {D : Type 0} (moment : D → ℕ) (leaves : D → ℕ → List ℕ → 
   so_far_none left bench held pending none zero up = record {
     turns = [];
     has_read = let P : List ℕ → Type 0 = λ bs. HasRead left left [] bs pending.total in let Q : ℕ → Type 0 = λ n. HasRead left left [] [] n in subst P (sym none) (subst Q (sym zero) (read_none left));
+    few = omega (arith, ap length none);
     run = refl;
     answered = Appends-nil held;
     latest_is = refl;
@@ -119,12 +121,17 @@ module _ {D : Type 0} (moment : D → ℕ) (leaves : D → ℕ → List ℕ → 
         let P : ℕ → Type 0 = λ n. IsTurn moment leaves faults domains n line b c t in
         run_then moment leaves faults domains 0 s.turns t a b c s.run s.up is.request (subst P s.latest_is is).turned
 
+    -- what is left after a line
+    few_left : (line : _) → GivesLine l2 l3 old new (next.Line line) → length new.bytes ≤ piece_size
+    few_left line gives = left_few old.bytes gives.more line.items new.bytes gives.ahead s.few gives.line.0
+
     pub so_far_line : (line : _) (n : ℕ) (wf2 wf3 : ℕ) → GivesLine l2 l3 old new (next.Line line) → ServesLine moment leaves faults domains latest line.items b c h2 h3 wf2 wf3 (Ok n) → SoFar moment leaves faults domains l1 l3 a c h1 h3 new n
     so_far_line line n wf2 wf3 gives v =
         let t = v.0 in
         record {
           turns = s.turns ++ t ∷ [];
-          has_read = read_line {new = new} t line.items new.bytes gives.more s.has_read gives.taken gives.line.0 gives.line.1 refl gives.total gives.within v.1.is_line;
+          has_read = read_line {new = new} t line.items new.bytes gives.more s.has_read gives.taken gives.line.0 gives.line.1 refl gives.total gives.within v.1.is_line (few_left line gives);
+          few = few_left line gives;
           run = run_on t line.items v.1;
           answered = written_then h1 h2 h3 s.turns t s.answered v.2;
           latest_is = v.3 ∙ ap (λ m. moment_by m t.request) s.latest_is ∙ sym (moment_then 0 s.turns (t ∷ []));
@@ -133,11 +140,11 @@ module _ {D : Type 0} (moment : D → ℕ) (leaves : D → ℕ → List ℕ → 
 
     -- what was read where a line is the next
     line_first : (line : _) (t : Turn) → GivesLine l2 l3 old new (next.Line line) → t.line ≡ line.items → ReadsFirst l1 l3 (s.turns ++ t ∷ [])
-    line_first line t gives is = first_of (read_line {new = new} t line.items new.bytes gives.more s.has_read gives.taken gives.line.0 gives.line.1 refl gives.total gives.within is)
+    line_first line t gives is = first_of (read_line {new = new} t line.items new.bytes gives.more s.has_read gives.taken gives.line.0 gives.line.1 refl gives.total gives.within is (few_left line gives)) (few_left line gives)
 
     last_whole : (line : _) (t : Turn) → GivesLine l2 l3 old new (next.Last line) → IsAtEnd l3 → nat_eq (length line.items) 0 ≡ false → t.line ≡ line.items → ReadsWhole l1 l3 (s.turns ++ t ∷ [])
     last_whole line t gives end some is =
-        read_last (t ∷ []) line.items gives.more new.total s.has_read gives.taken gives.line.0 gives.line.1 gives.total gives.within end (ap (λ l. l ∷ []) is ∙ one_line line.items some)
+        read_last (t ∷ []) line.items gives.more new.total s.has_read gives.taken gives.line.0 gives.line.1 gives.total gives.within end (ap (λ l. l ∷ []) is ∙ one_line line.items some) (line_fits t line.items is)
 
     -- ---- a line that is not served to its end
 
@@ -199,7 +206,7 @@ module _ {D : Type 0} (moment : D → ℕ) (leaves : D → ℕ → List ℕ → 
 
     -- what was read, and nothing given of it
     more_read : (gives_more : List ℕ) (given : _) → (gives : GivesLine l2 l3 old new given) → HasRead l1 l3 s.turns (old.bytes ++ gives.more) new.total
-    more_read gives_more given gives = read_on {new = record { bytes = old.bytes ++ gives.more; total = new.total }} s.has_read (record { more = gives.more; taken = gives.taken; bytes = refl; total = omega (arith, gives.total, gives.within) })
+    more_read gives_more given gives = read_on {new = record { bytes = old.bytes ++ gives.more; total = new.total }} s.has_read (record { more = gives.more; taken = gives.taken; bytes = refl; total = omega (arith, gives.total, gives.within); ahead = gives.ahead })
 
     pub ends_line : (line : _) (f : Unserved) (h4 : Option (List ℕ)) (rf1 rf2 wf1 wf2 wf3 wf4 : ℕ) (result : Status) → GivesLine l2 l3 old new (next.Line line) → ServesLine moment leaves faults domains latest line.items b c h2 h3 wf2 wf3 (Err f) → UnservedCloses f h3 h4 wf3 wf4 result → wf1 ≤ wf2 → wf2 ≤ wf3
         → Ends moment leaves faults domains a c (record { left = l1; held = h1; reads_failed = rf1; writes_failed = wf1 }) (record { left = l3; held = h4; reads_failed = rf2; writes_failed = wf4 }) result
@@ -226,7 +233,7 @@ module _ {D : Type 0} (moment : D → ℕ) (leaves : D → ℕ → List ℕ → 
         → Ends moment leaves faults domains a b (record { left = l1; held = h1; reads_failed = rf1; writes_failed = wf1 }) (record { left = l3; held = h2; reads_failed = rf2; writes_failed = wf2 }) status.Done
     ends_empty line rf1 rf2 wf1 wf2 gives end none =
         let W : List Turn → Type 0 = λ ts. ReadsWhole l1 l3 ts in
-        let whole = read_last [] line.items gives.more new.total s.has_read gives.taken gives.line.0 gives.line.1 gives.total gives.within end (no_line line.items none) in
+        let whole = read_last [] line.items gives.more new.total s.has_read gives.taken gives.line.0 gives.line.1 gives.total gives.within end (no_line line.items none) (no_line_fits line.items none) in
         served s.turns a b _ _ status.Done s.run ((refl, refl), subst W (append-nil s.turns) whole, s.answered, s.up)
 
     -- ---- reading stopped
