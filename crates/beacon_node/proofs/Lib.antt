@@ -1,3 +1,4 @@
 mod CallLemmas
+mod DetailsLemmas
 mod PlainLemmas
 mod RowLemmas
