@@ -20,7 +20,7 @@ use Rattle.duty_turns.specs.declared.held.DutyEnd.TheVariants as end
 use Rattle.duty_turns.specs.Lines.{duty_lines}
 use Rattle.duty_turns.specs.Standing.{Standing}
 use Rattle.duty_pruning.specs.Pruning.{pruning_file}
-use Rattle.duty_turns.specs.Times.{epoch_of, is_first_slot, is_missed, next_slot, slot_start, votes_start}
+use Rattle.duty_turns.specs.Times.{again_start, epoch_of, is_first_slot, is_missed, next_slot, slot_start, votes_start}
 use Rattle.duty_turns.specs.TurnSteps.{TurnPlan, TurnReply, TurnStep, Fits, Own, Owned, Writes, Wrote}
 use Rattle.duty_turns.specs.Turns.{Next, NextPlan, active_of, after_works, again_plan, asked_plan, at_moment, at_slot, blocks_in, calls, close_plan, closed_plan, due_plan, exported, exports, failed_plan, keys_of_turn, left_plan, merges, listed_plan, next_turn, own_reply, prunes, ready_plan, refreshes, refreshes_lanes, is_worth_compacting, shortens, sized, tried_plan, turn_plan, turns_plan, unless_short, votes_in, votes_plan, waits, with_active, woken_plan, work_of, works}
 use Rattle.duty_loop.proofs.GivesLemmas.{Always, Gives, Said, calls_always, gives_ask, gives_bind, gives_done, if_always, looks_up_always, refreshes_always, refreshes_lanes_always, stop_always, waits_always, works_always}
@@ -101,13 +101,13 @@ tried_turn : (setup : DutySetup) (s : Standing) (ds : List Duty) (ends : List En
 tried_turn setup s ds ends tasks reached =
     let next = after_works setup.genesis_time reached s in
     let after : List Ended → NextPlan = λ again. close_plan setup s.slot ds (merged ends again) (at_slot (next_slot s.slot) s) in
-    if_always (Why Standing) (is_missed setup.genesis_time s.slot (votes_start setup.genesis_time s.slot) reached) (close_plan setup s.slot ds (results_of ends) next) (works (work_of setup s) 0 tasks after)
+    if_always (Why Standing) (is_missed setup.genesis_time s.slot (again_start setup.genesis_time s.slot) reached) (close_plan setup s.slot ds (results_of ends) next) (works (work_of setup s) 0 tasks after)
     (close_turn setup s.slot ds (results_of ends) next)
     (works_always (Why Standing) (work_of setup s) 0 tasks after (λ again. close_turn setup s.slot ds (merged ends again) (at_slot (next_slot s.slot) s)))
 
 left_turn : (setup : DutySetup) (s : Standing) (ds : List Duty) (ends : List Ended) (tasks : List Task) → IsTurn (left_plan setup s ds ends tasks)
 left_turn setup s ds ends [] = close_turn setup s.slot ds (results_of ends) (at_slot (next_slot s.slot) s)
-left_turn setup s ds ends (t ∷ tasks) = waits_always (Why Standing) (votes_start setup.genesis_time s.slot) (tried_plan setup s ds ends (t ∷ tasks)) (tried_turn setup s ds ends (t ∷ tasks))
+left_turn setup s ds ends (t ∷ tasks) = waits_always (Why Standing) (again_start setup.genesis_time s.slot) (tried_plan setup s ds ends (t ∷ tasks)) (tried_turn setup s ds ends (t ∷ tasks))
 
 votes_turn : (setup : DutySetup) (s : Standing) (ds : List Duty) (proposed : List Ended) (reached : ℕ) → IsTurn (votes_plan setup s ds proposed reached)
 votes_turn setup s ds proposed reached =

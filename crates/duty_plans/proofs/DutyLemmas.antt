@@ -185,7 +185,7 @@ only_block work row =
       tt,
       λ r f. only_got P over (grant_of (desk_reply r)) (λ grant. allowed_plan work row grant) (λ grant e.
           let of = got_for (call.Allow row.pubkey work.moment) r grant f e in
-          ((refl, of.0, of.1), λ s f2. only_under P over grant (signature_of (sign_reply s)) (λ reveal. revealed_plan work row grant reveal) (λ given o. tt) (λ reveal. only_revealed work row grant reveal))),
+          ((refl, of.0, of.1), λ s f2. only_under P (left_by granted.Reveal) grant (signature_of (sign_reply s)) (λ reveal. revealed_plan work row grant reveal) (λ given o. tt) (λ reveal. only_revealed work row grant reveal))),
     )
 
 pub task_own : (work : SlotWork) (t : Task) (steps : List DutyStep) (v : Option Ended) → IsOwnTask t → Follows Fits (task_plan work t) steps v → AllOwn work (duty_of t) steps
@@ -193,6 +193,8 @@ task_own work (task.Fresh (duty.Vote row)) steps v own f = own_follows work (dut
 task_own work (task.Fresh (duty.Block row)) steps v own f = own_follows work (duty.Block row) (block_plan work row) steps v (only_block work row) f
 task_own work (task.Again (duty.Vote row) (granted.Vote details)) steps v own f = own_follows work (duty.Vote row) (voted_plan work row details) steps v (only_voted work row details own) f
 task_own work (task.Again (duty.Block row) (granted.Block block)) steps v own f = own_follows work (duty.Block row) (made_plan work row block) steps v (only_made work row block own) f
+task_own work (task.Again (duty.Block row) granted.Reveal) steps v own f = own_follows work (duty.Block row) (block_plan work row) steps v (only_block work row) f
+task_own work (task.Again (duty.Vote row) granted.Reveal) steps v own f = absurd own
 task_own work (task.Again (duty.Vote row) (granted.Block block)) steps v own f = absurd own
 task_own work (task.Again (duty.Block row) (granted.Vote details)) steps v own f = absurd own
 
@@ -201,14 +203,21 @@ task_own work (task.Again (duty.Block row) (granted.Vote details)) steps v own f
 only_proposes : (key : PubKey) (m : Message) (now : ℕ) (unsent : Unsent) (q : SignRequest) (made : Sig → Post) → Only (Proposes key m) (publish_plan key m now unsent q made)
 only_proposes key m now unsent q made = only_publish (Proposes key m) key m now unsent q made (refl, refl) (λ grant o. tt) (λ grant of. (tt, λ s. tt))
 
-pub again_proposes : (work : SlotWork) (d : Duty) (unsent : Unsent) (steps : List DutyStep) (v : Option Ended) → Follows Fits (task_plan work (task.Again d unsent)) steps v
-    → AllPropose (owner_of d) (unsent_message work.domains unsent) steps
-again_proposes work (duty.Vote row) (granted.Vote details) steps v f = propose_follows row.pubkey (vote_message work.domains details) (voted_plan work row details) steps v
+same_message : {m n : Message} → Some m ≡ Some n → m ≡ n
+same_message e = cc
+
+propose_of : (key : PubKey) (m n : Message) (plan : DutyPlan Ended) (steps : List DutyStep) (v : Option Ended) → Some m ≡ Some n → Only (Proposes key m) plan → Follows Fits plan steps v → AllPropose key n steps
+propose_of key m n plan steps v is o f = subst (λ (x : Message). AllPropose key x steps) (same_message is) (propose_follows key m plan steps v o f)
+
+pub again_proposes : (work : SlotWork) (d : Duty) (unsent : Unsent) (m : Message) (steps : List DutyStep) (v : Option Ended) → unsent_message work.domains unsent ≡ Some m
+    → Follows Fits (task_plan work (task.Again d unsent)) steps v → AllPropose (owner_of d) m steps
+again_proposes work (duty.Vote row) (granted.Vote details) m steps v is f = propose_of row.pubkey (vote_message work.domains details) m (voted_plan work row details) steps v is
     (only_proposes row.pubkey (vote_message work.domains details) work.moment (granted.Vote details) (vote_request work details) (vote_post row details)) f
-again_proposes work (duty.Block row) (granted.Block block) steps v f = propose_follows row.pubkey (block_message work.domains block) (made_plan work row block) steps v
+again_proposes work (duty.Block row) (granted.Block block) m steps v is f = propose_of row.pubkey (block_message work.domains block) m (made_plan work row block) steps v is
     (only_proposes row.pubkey (block_message work.domains block) work.moment (granted.Block block) (block_request work block) (block_post block)) f
-again_proposes work (duty.Vote row) (granted.Block block) steps v f = propose_follows row.pubkey (block_message work.domains block) Stop steps v tt f
-again_proposes work (duty.Block row) (granted.Vote details) steps v f = propose_follows row.pubkey (vote_message work.domains details) Stop steps v tt f
+again_proposes work d granted.Reveal m steps v is f = absurd cc
+again_proposes work (duty.Vote row) (granted.Block block) m steps v is f = propose_follows row.pubkey m Stop steps v tt f
+again_proposes work (duty.Block row) (granted.Vote details) m steps v is f = propose_follows row.pubkey m Stop steps v tt f
 
 -- ---- what it gives
 
@@ -328,12 +337,14 @@ gives_revealed work row grant reveal r f = gives_settles (duty.Block row) (failu
 
 gives_block : (work : SlotWork) (row : ProposerRow) → Gives (duty.Block row) None (block_plan work row)
 gives_block work row r f = gives_got (duty.Block row) (failure_of (duty.Block row) (Calls (call.Allow row.pubkey work.moment), r)) over (grant_of (desk_reply r)) (λ grant. allowed_plan work row grant) over_so (call_failure (duty.Block row) (call.Allow row.pubkey work.moment) r f)
-    (λ grant s f2. gives_under (duty.Block row) (failure_of (duty.Block row) (Reveals grant (reveal_request work), s)) over grant (signature_of (sign_reply s)) (λ reveal. revealed_plan work row grant reveal) over_so (reveal_failure (duty.Block row) grant work s f2) (λ reveal. gives_revealed work row grant reveal))
+    (λ grant s f2. gives_under (duty.Block row) (failure_of (duty.Block row) (Reveals grant (reveal_request work), s)) (left_by granted.Reveal) grant (signature_of (sign_reply s)) (λ reveal. revealed_plan work row grant reveal) (left_so granted.Reveal) (reveal_failure (duty.Block row) grant work s f2) (λ reveal. gives_revealed work row grant reveal))
 
 pub task_result : (work : SlotWork) (t : Task) (steps : List DutyStep) (e : Ended) → Follows Fits (task_plan work t) steps (Some e) → e.result ≡ result_by (duty_of t) steps
 task_result work (task.Fresh (duty.Vote row)) steps e f = gives_follows (duty.Vote row) None (vote_plan work row) steps e (gives_vote work row) f
 task_result work (task.Fresh (duty.Block row)) steps e f = gives_follows (duty.Block row) None (block_plan work row) steps e (gives_block work row) f
 task_result work (task.Again (duty.Vote row) (granted.Vote details)) steps e f = gives_follows (duty.Vote row) None (voted_plan work row details) steps e (gives_voted work row details) f
 task_result work (task.Again (duty.Block row) (granted.Block block)) steps e f = gives_follows (duty.Block row) None (made_plan work row block) steps e (gives_made work row block) f
+task_result work (task.Again (duty.Block row) granted.Reveal) steps e f = gives_follows (duty.Block row) None (block_plan work row) steps e (gives_block work row) f
+task_result work (task.Again (duty.Vote row) granted.Reveal) steps e f = gives_follows (duty.Vote row) None Stop steps e tt f
 task_result work (task.Again (duty.Vote row) (granted.Block block)) steps e f = gives_follows (duty.Vote row) None Stop steps e tt f
 task_result work (task.Again (duty.Block row) (granted.Vote details)) steps e f = gives_follows (duty.Block row) None Stop steps e tt f

@@ -41,7 +41,7 @@ use Rattle.duty_plans.specs.Messages.{block_message, block_post, block_request, 
 use Rattle.duty_plans.specs.Reading.{block_of, grant_of, posted_of, signature_of, vote_of}
 use Rattle.duty_plans.specs.Steps.{DutyCall, DutyReply, DutyStep, DutyPlan, Calls, Replies, Signed, Answered, Taken, Fits, desk_calls, step_calls}
 use Rattle.duty_plans.specs.Plans.{answer_reply, desk_reply, post_reply, sign_reply, allowed_plan, block_plan, granted_plan, made_plan, post_plan, publish_plan, revealed_plan, sent, settles, task_plan, under, vote_plan, voted_plan, with_got}
-use Rattle.duty_plans.specs.Repeats.{IsLeft}
+use Rattle.duty_plans.specs.Repeats.{HadLeave, IsLeft}
 use Rattle.duty_plans.specs.Tasks.{IsOwnTask, IsOwnUnsent, duty_of, owner_of, unsent_message}
 use Rattle.duty_plans.proofs.DutyLemmas.{block_got, grant_got, vote_got}
 
@@ -51,13 +51,21 @@ Given = List (PubKey × Message)
 granted_joined : (xs ys : List (DeskCall × DeskReply)) → granted_in (xs ++ ys) ≡ granted_in xs ++ granted_in ys
 granted_joined xs ys = flat_map-append granted_by xs ys
 
+-- leave that was given was given still where more is
+leave_more : (so more : Given) (key : PubKey) (o : Option Message) → HadLeave so key o → HadLeave (so ++ more) key o
+leave_more so more key None h = tt
+leave_more so more key (Some m) h = Contains-append_left so more (key, m) h
+
+leave_for : (so : Given) (key : PubKey) (m : Message) (o : Option Message) → o ≡ Some m → Contains so (key, m) → HadLeave so key o
+leave_for so key m o is h = subst (λ (x : Option Message). HadLeave so key x) (sym is) h
+
 module _ (work : SlotWork) (d : Duty) where
   -- leave was given for it
   abbrev Had : Given → Unsent → Type 0
-  Had so unsent = Contains so (owner_of d, unsent_message work.domains unsent)
+  Had so unsent = HadLeave so (owner_of d) (unsent_message work.domains unsent)
 
   abbrev LeftBy : Given → Ended → Type 0
-  LeftBy so e = IfSome e.unsent (λ unsent. (is_repeated e.result ≡ true) × IsOwnUnsent d unsent × Contains so (owner_of d, unsent_message work.domains unsent))
+  LeftBy so e = IfSome e.unsent (λ unsent. (is_repeated e.result ≡ true) × IsOwnUnsent d unsent × HadLeave so (owner_of d) (unsent_message work.domains unsent))
 
   -- where leave was given for these before it, the plan leaves only what leave was given for
   abbrev Leaves : Given → DutyPlan Ended → Type 0
@@ -80,10 +88,10 @@ module _ (work : SlotWork) (d : Duty) where
   -- ---- under a grant
 
   had_more : (so more : Given) (unsent : Unsent) → Had so unsent → Had (so ++ more) unsent
-  had_more so more unsent h = Contains-append_left so more (owner_of d, unsent_message work.domains unsent) h
+  had_more so more unsent h = leave_more so more (owner_of d) (unsent_message work.domains unsent) h
 
   left_if : (so : Given) (unsent : Unsent) (by : DutyResult) (b : Bool) → is_repeated by ≡ b → IsOwnUnsent d unsent → Had so unsent
-      → IfSome (if b then Some unsent else None) (λ u. (is_repeated by ≡ true) × IsOwnUnsent d u × Contains so (owner_of d, unsent_message work.domains u))
+      → IfSome (if b then Some unsent else None) (λ u. (is_repeated by ≡ true) × IsOwnUnsent d u × HadLeave so (owner_of d) (unsent_message work.domains u))
   left_if so unsent by true is own h = (is, own, h)
   left_if so unsent by false is own h = tt
 
@@ -121,10 +129,10 @@ module _ (work : SlotWork) (d : Duty) where
   leaves_got so (got.Failed by) k h = tt
   leaves_got so got.Nothing k h = tt
 
-  leaves_under : {T : Type 0} (so : Given) (grant : OpenGrant) (g : Got T) (k : T → DutyPlan Ended) → ((x : T) → Leaves so (k x)) → Leaves so (under over grant g k)
-  leaves_under so grant (got.Given x) k h = h x
-  leaves_under so grant (got.Failed by) k h = λ r f. tt
-  leaves_under so grant got.Nothing k h = λ r f. tt
+  leaves_under : {T : Type 0} (so : Given) (unsent : Unsent) (grant : OpenGrant) (g : Got T) (k : T → DutyPlan Ended) → IsOwnUnsent d unsent → Had so unsent → ((x : T) → Leaves so (k x)) → Leaves so (under (left_by unsent) grant g k)
+  leaves_under so unsent grant (got.Given x) k own had h = h x
+  leaves_under so unsent grant (got.Failed by) k own had h = settled_end so unsent grant outcome.Dropped by own had
+  leaves_under so unsent grant got.Nothing k own had h = λ r f. tt
 
   -- ---- leave is given
 
@@ -136,19 +144,18 @@ module _ (work : SlotWork) (d : Duty) where
   granted_now key m now (Answered tried) grant f e = absurd f
   granted_now key m now (Taken tried) grant f e = absurd f
 
-  leaves_publish : (so : Given) (now : ℕ) (unsent : Unsent) (q : SignRequest) (made : Sig → Post) → IsOwnUnsent d unsent → Leaves so (publish_plan (owner_of d) (unsent_message work.domains unsent) now unsent q made)
-  leaves_publish so now unsent q made own r f =
+  leaves_publish : (so : Given) (m : Message) (now : ℕ) (unsent : Unsent) (q : SignRequest) (made : Sig → Post) → unsent_message work.domains unsent ≡ Some m → IsOwnUnsent d unsent → Leaves so (publish_plan (owner_of d) m now unsent q made)
+  leaves_publish so m now unsent q made is own r f =
       let key = owner_of d in
-      let m = unsent_message work.domains unsent in
       let more = granted_in (step_calls (Calls (call.Propose key m now), r)) in
       leaves_got (so ++ more) (grant_of (desk_reply r)) (λ grant. granted_plan unsent q made grant) (λ grant e.
-      leaves_granted (so ++ more) unsent q made grant own (Contains-append_right so more (key, m) (granted_now key m now r grant f e)))
+      leaves_granted (so ++ more) unsent q made grant own (leave_for (so ++ more) key m (unsent_message work.domains unsent) is (Contains-append_right so more (key, m) (granted_now key m now r grant f e))))
 
 leaves_voted : (work : SlotWork) (row : AttesterRow) (details : AttestationData) (so : Given) → first_that_differs (data_members row details) ≡ None → Leaves work (duty.Vote row) so (voted_plan work row details)
-leaves_voted work row details so own = leaves_publish work (duty.Vote row) so work.moment (granted.Vote details) (vote_request work details) (vote_post row details) own
+leaves_voted work row details so own = leaves_publish work (duty.Vote row) so (vote_message work.domains details) work.moment (granted.Vote details) (vote_request work details) (vote_post row details) refl own
 
 leaves_made : (work : SlotWork) (row : ProposerRow) (block : BeaconBlock) (so : Given) → first_that_differs (block_members row.slot block) ≡ None → Leaves work (duty.Block row) so (made_plan work row block)
-leaves_made work row block so own = leaves_publish work (duty.Block row) so work.moment (granted.Block block) (block_request work block) (block_post block) own
+leaves_made work row block so own = leaves_publish work (duty.Block row) so (block_message work.domains block) work.moment (granted.Block block) (block_request work block) (block_post block) refl own
 
 leaves_vote : (work : SlotWork) (row : AttesterRow) (so : Given) → Leaves work (duty.Vote row) so (vote_plan work row)
 leaves_vote work row so r f =
@@ -160,7 +167,7 @@ leaves_block work row so r f =
     let one = so ++ granted_in (step_calls (Calls (call.Allow row.pubkey work.moment), r)) in
     let two = one ++ granted_in [] in
     leaves_got work D one (grant_of (desk_reply r)) (λ grant. allowed_plan work row grant) (λ grant e s f2.
-    leaves_under work D two grant (signature_of (sign_reply s)) (λ reveal. revealed_plan work row grant reveal) (λ reveal a f3 t f4.
+    leaves_under work D two granted.Reveal grant (signature_of (sign_reply s)) (λ reveal. revealed_plan work row grant reveal) tt tt (λ reveal a f3 t f4.
     let three = (two ++ granted_in []) ++ granted_in (step_calls (Calls (call.Settle grant outcome.Sent), t)) in
     leaves_got work D three (block_of row (answer_reply a)) (λ block. made_plan work row block) (λ block is. leaves_made work row block three (block_got row (answer_reply a) block is))))
 
@@ -169,5 +176,7 @@ task_left work (task.Fresh (duty.Vote row)) steps e own f = leaves_follows work 
 task_left work (task.Fresh (duty.Block row)) steps e own f = leaves_follows work (duty.Block row) [] (block_plan work row) steps e (leaves_block work row []) f
 task_left work (task.Again (duty.Vote row) (granted.Vote details)) steps e own f = leaves_follows work (duty.Vote row) [] (voted_plan work row details) steps e (leaves_voted work row details [] own) f
 task_left work (task.Again (duty.Block row) (granted.Block block)) steps e own f = leaves_follows work (duty.Block row) [] (made_plan work row block) steps e (leaves_made work row block [] own) f
+task_left work (task.Again (duty.Block row) granted.Reveal) steps e own f = leaves_follows work (duty.Block row) [] (block_plan work row) steps e (leaves_block work row []) f
+task_left work (task.Again (duty.Vote row) granted.Reveal) steps e own f = absurd own
 task_left work (task.Again (duty.Vote row) (granted.Block block)) steps e own f = absurd own
 task_left work (task.Again (duty.Block row) (granted.Vote details)) steps e own f = absurd own

@@ -30,7 +30,7 @@ use Rattle.duty_plans.specs.declared.setup.DutySetup.{DutySetup}
 use Rattle.duty_plans.specs.declared.work.SlotWork.{SlotWork}
 use Rattle.duty_turns.specs.Lines.{duty_lines, none_line}
 use Rattle.duty_turns.specs.Standing.{Standing, indices_of, with_attesters, with_fork, with_indices, with_proposers}
-use Rattle.duty_turns.specs.Times.{epoch_of, is_first_slot, is_missed, next_slot, slot_start, votes_start}
+use Rattle.duty_turns.specs.Times.{again_start, epoch_of, is_first_slot, is_missed, next_slot, slot_start, votes_start}
 use Rattle.duty_turns.specs.TurnSteps.{TurnCall, TurnPlan, TurnReply, TurnStep, Fits, Due, LanesRefreshed, LooksUp, Own, Owned, Refreshed, Refreshes, RefreshesLanes, Waits, Woke, Worked, Works, Writes, Wrote}
 use Rattle.duty_turns.specs.Turns.{NextPlan, PartPlan, active_of, after_works, again_plan, left_plan, tried_plan, answered_plan, ask_plan, asked_plan, asks, at_moment, at_slot, attesters_plan, blocks_in, by_32, calls, close_plan, closed_plan, due_plan, duties_plan, epoch_plan, epochs_plan, exported, exports, failed_plan, found, index_plan, is_worth_compacting, keys_of_turn, lanes_refreshed, listed_plan, lived_plan, liveness_plan, looks_up, merges, missing_epochs, missing_keys, noted, notes_of, notes_plan, on_standing, own_answer, own_reply, prunes, ready_plan, refreshed, refreshes, refreshes_lanes, renew_plan, renewed_now, renewed_plan, renews, shortens, sized, then_on, to_renew, turn_plan, unless_short, voters_plan, votes_in, votes_plan, waits, watch_plan, with_active, woken, woken_plan, work_of, worked, works, writes, written}
 use Rattle.duty_turns.specs.declared.held.DutyEnd.{DutyEnd}
@@ -266,13 +266,13 @@ tried_quiet : (setup : DutySetup) (s : Standing) (ds : List Duty) (ends : List E
 tried_quiet setup s ds ends tasks reached =
     let next = after_works setup.genesis_time reached s in
     let after : List Ended → NextPlan = λ again. close_plan setup s.slot ds (merged ends again) (at_slot (next_slot s.slot) s) in
-    if_quiet setup.keep_epochs (epoch_of s.slot) (is_missed setup.genesis_time s.slot (votes_start setup.genesis_time s.slot) reached) (close_plan setup s.slot ds (results_of ends) next) (works (work_of setup s) 0 tasks after)
+    if_quiet setup.keep_epochs (epoch_of s.slot) (is_missed setup.genesis_time s.slot (again_start setup.genesis_time s.slot) reached) (close_plan setup s.slot ds (results_of ends) next) (works (work_of setup s) 0 tasks after)
     (close_quiet setup s.slot ds (results_of ends) next)
     (works_quiet setup.keep_epochs (epoch_of s.slot) (work_of setup s) 0 tasks after (λ again. close_quiet setup s.slot ds (merged ends again) (at_slot (next_slot s.slot) s)))
 
 left_quiet : (setup : DutySetup) (s : Standing) (ds : List Duty) (ends : List Ended) (tasks : List Task) → Quiet setup.keep_epochs (epoch_of s.slot) (left_plan setup s ds ends tasks)
 left_quiet setup s ds ends [] = close_quiet setup s.slot ds (results_of ends) (at_slot (next_slot s.slot) s)
-left_quiet setup s ds ends (t ∷ tasks) = waits_quiet setup.keep_epochs (epoch_of s.slot) (votes_start setup.genesis_time s.slot) (tried_plan setup s ds ends (t ∷ tasks)) (tried_quiet setup s ds ends (t ∷ tasks))
+left_quiet setup s ds ends (t ∷ tasks) = waits_quiet setup.keep_epochs (epoch_of s.slot) (again_start setup.genesis_time s.slot) (tried_plan setup s ds ends (t ∷ tasks)) (tried_quiet setup s ds ends (t ∷ tasks))
 
 votes_quiet : (setup : DutySetup) (s : Standing) (ds : List Duty) (proposed : List Ended) (reached : ℕ) → Quiet setup.keep_epochs (epoch_of s.slot) (votes_plan setup s ds proposed reached)
 votes_quiet setup s ds proposed reached =

@@ -29,7 +29,7 @@ use Rattle.duty_turns.specs.declared.held.DutyEnd.TheVariants as end
 use Rattle.duty_turns.specs.Lanes.{DidShares, HasEach, dealt}
 use Rattle.duty_turns.specs.Lines.{duty_lines}
 use Rattle.duty_turns.specs.Standing.{Standing}
-use Rattle.duty_turns.specs.Times.{is_first_slot, next_slot, slot_start, votes_start}
+use Rattle.duty_turns.specs.Times.{again_start, is_first_slot, next_slot, slot_start, votes_start}
 use Rattle.duty_turns.specs.TurnSteps.{Fits, TurnCall, TurnPlan, TurnReply, TurnStep, LooksUp, Own, Refreshes, RefreshesLanes, Waits, Works, Writes, Due, Refreshed, LanesRefreshed, Woke, Worked, Wrote}
 use Rattle.duty_turns.specs.Turns.{Next, NextPlan, active_of, asked_plan, at_slot, blocks_in, calls, close_plan, lanes_refreshed, own_reply, refreshed, refreshes, refreshes_lanes, is_worth_compacting, shortens, sized, unless_short, votes_in, waits, with_active, woken, work_of, works}
 use Rattle.duty_safety.specs.OnTime.{AllWaits, IsWait, Wait, again_on_time, cast_plan, done_plan, left_on_time, listed_on_time, on_time_turn, ready_on_time, tried_on_time}
@@ -132,7 +132,7 @@ closed_so setup s ds ends [] steps t f =
     let close = close_so setup s.slot ds (results_of ends) (at_slot (next_slot s.slot) s) steps t f in
     record { tries = []; results = results_of ends; behind = close.0; are = close.1; tried = (refl, refl) }
 closed_so setup s ds ends (k ∷ tasks) steps t f =
-    let moment = votes_start setup.genesis_time s.slot in
+    let moment = again_start setup.genesis_time s.slot in
     let work = work_of setup s in
     let next = at_slot (next_slot s.slot) s in
     let woke = waits_so moment (λ reached. tried_on_time setup s ds ends (k ∷ tasks)) steps (Ok t) f in

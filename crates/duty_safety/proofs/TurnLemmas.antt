@@ -25,7 +25,7 @@ use Rattle.duty_turns.specs.declared.held.DutyEnd.TheVariants as end
 use Rattle.duty_turns.specs.Lines.{duty_lines}
 use Rattle.duty_turns.specs.Standing.{Standing}
 use Rattle.duty_pruning.specs.Pruning.{pruning_file}
-use Rattle.duty_turns.specs.Times.{epoch_of, is_first_slot, is_missed, next_slot, slot_of, slot_start, votes_start}
+use Rattle.duty_turns.specs.Times.{again_start, epoch_of, is_first_slot, is_missed, next_slot, slot_of, slot_start, votes_start}
 use Rattle.duty_turns.specs.TurnSteps.{Does, Fits, House, TurnCall, TurnPlan, TurnReply, TurnStep, LooksUp, Own, Refreshes, RefreshesLanes, Waits, Works, Writes, Woke, Wrote}
 use Rattle.duty_turns.specs.Turns.{Next, NextPlan, active_of, after_works, again_plan, left_plan, tried_plan, asked_plan, at_moment, at_slot, blocks_in, calls, close_plan, closed_plan, due_plan, exported, exports, failed_plan, found, keys_of_turn, lanes_refreshed, listed_plan, merges, next_turn, own_reply, prunes, ready_plan, refreshed, refreshes, refreshes_lanes, is_worth_compacting, shortens, sized, turn_plan, turns_plan, unless_short, votes_in, votes_plan, waits, with_active, woken, woken_plan, work_of, worked, works}
 use Rattle.duty_safety.specs.OnTime.{AllWaits, AreOnTime, IsWait, Wait, WakesInSlot, again_on_time, cast_plan, done_plan, left_on_time, listed_on_time, on_time_turn, on_time_turns, ready_on_time, tried_on_time}
@@ -39,6 +39,9 @@ start_slot genesis slot = omega arith
 
 votes_slot : (genesis slot : ℕ) → slot_of genesis (votes_start genesis slot) ≤ slot
 votes_slot genesis slot = omega arith
+
+again_slot : (genesis slot : ℕ) → slot_of genesis (again_start genesis slot) ≤ slot
+again_slot genesis slot = omega arith
 
 slot_behind : (first slot : ℕ) → first < 2 ^ 64 → first ≤ slot → first ≤ next_slot slot
 slot_behind first slot cap below = omega arith
@@ -113,22 +116,22 @@ shortens_keeps W first s p q h =
 -- ---- a turn
 
 module _ (setup : DutySetup) (W : Wait) (first : ℕ) (cap : first < 2 ^ 64) (bounds : Bounds setup W first) where
-  tried_keep : (s : Standing) (ds : List Duty) (ends : List Ended) (tasks : List Task) (reached : ℕ) → first ≤ s.slot → W (votes_start setup.genesis_time s.slot) reached
+  tried_keep : (s : Standing) (ds : List Duty) (ends : List Ended) (tasks : List Task) (reached : ℕ) → first ≤ s.slot → W (again_start setup.genesis_time s.slot) reached
       → Keeps W (From first) (tried_plan setup s ds ends tasks reached) (tried_on_time setup s ds ends tasks)
   tried_keep s ds ends tasks reached h w =
-      let moment = votes_start setup.genesis_time s.slot in
+      let moment = again_start setup.genesis_time s.slot in
       let next = at_slot (next_slot s.slot) s in
       let after : List Ended → NextPlan = λ again. close_plan setup s.slot ds (merged ends again) next in
       let tries = tried_on_time setup s ds ends tasks in
       keeps_else W (From first) (is_missed setup.genesis_time s.slot moment reached) (close_plan setup s.slot ds (results_of ends) (after_works setup.genesis_time reached s)) tries tries
-      (bounds s.slot moment reached h (votes_slot setup.genesis_time s.slot) w)
+      (bounds s.slot moment reached h (again_slot setup.genesis_time s.slot) w)
       (keeps_ask W (From first) (Works (work_of setup s) 0 tasks) (λ r. worked r after) (λ r. worked r after)
       (λ r is. worked_keeps W (From first) r after after (λ again. close_keeps W first setup s.slot ds (merged ends again) next (slot_behind first s.slot cap h))))
 
   left_keep : (s : Standing) (ds : List Duty) (ends : List Ended) (tasks : List Task) → first ≤ s.slot → Keeps W (From first) (left_plan setup s ds ends tasks) (left_on_time setup s ds ends tasks)
   left_keep s ds ends [] h = close_keeps W first setup s.slot ds (results_of ends) (at_slot (next_slot s.slot) s) (slot_behind first s.slot cap h)
   left_keep s ds ends (t ∷ tasks) h =
-      let moment = votes_start setup.genesis_time s.slot in
+      let moment = again_start setup.genesis_time s.slot in
       let old : ℕ → NextPlan = tried_plan setup s ds ends (t ∷ tasks) in
       let new : ℕ → NextPlan = λ reached. tried_on_time setup s ds ends (t ∷ tasks) in
       keeps_ask W (From first) (Waits moment) (λ x. woken x old) (λ x. woken x new) (λ x is. woken_keeps W (From first) moment x old new is (λ reached on. tried_keep s ds ends (t ∷ tasks) reached h on))

@@ -273,14 +273,14 @@ module _ {K : Type 0} (leads : Leads K) (start : Option ℕ) where
   }
 
   -- a moment was waited for
-  pub looked_at : (Holds : Standing → Type 0) (genesis : ℕ) (next : ℕ → NextPlan) (a b : House K) (moment slot held reached : ℕ) (result : Result (Unit {0}) DutyEnd) → moment ≡ votes_start genesis slot → slot ≡ held → IsWaited start moment reached
-      → Turns leads start Holds (next reached) a b result → Turns leads start Holds (waits (votes_start genesis held) next) a b result
-  looked_at Holds genesis next a b moment slot held reached result is at timed t =
-      let same : moment ≡ votes_start genesis held = is ∙ ap (λ n. votes_start genesis n) at in
+  pub looked_at : (Holds : Standing → Type 0) (begins : ℕ → ℕ → ℕ) (genesis : ℕ) (next : ℕ → NextPlan) (a b : House K) (moment slot held reached : ℕ) (result : Result (Unit {0}) DutyEnd) → moment ≡ begins genesis slot → slot ≡ held → IsWaited start moment reached
+      → Turns leads start Holds (next reached) a b result → Turns leads start Holds (waits (begins genesis held) next) a b result
+  looked_at Holds begins genesis next a b moment slot held reached result is at timed t =
+      let same : moment ≡ begins genesis held = is ∙ ap (λ n. begins genesis n) at in
       record {
         after = t.after;
         held = t.held;
-        runs = turn_waits leads start a b (votes_start genesis held) reached next (next_value t.after result) (subst (λ n. IsWaited start n reached) same timed) t.runs;
+        runs = turn_waits leads start a b (begins genesis held) reached next (next_value t.after result) (subst (λ n. IsWaited start n reached) same timed) t.runs;
       }
 
   pub blocks_done : (Holds : Standing → Type 0) (setup : DutySetup) (s : Standing) (d : K) (ls ks : List (Seat K)) (ns : List Seen) (o : SinkSeen) (b : House K) (ds blocks : List Duty) (ends : List Ended) (moment slot reached : ℕ) (result : Result (Unit {0}) DutyEnd)
@@ -289,7 +289,7 @@ module _ {K : Type 0} (leads : Leads K) (start : Option ℕ) where
   blocks_done Holds setup s d ls ks ns o b ds blocks ends moment slot reached result of work is at timed rest =
       tasks_done Holds (work_of setup s) 0 (fresh (blocks_in ds)) (λ proposed. waits (votes_start setup.genesis_time s.slot) (votes_plan setup s ds proposed)) d ls ks ns o b ends result
       (subst (λ (l : List Duty). WorksDone leads (work_of setup s) 0 (fresh l) ls ks (Some ends)) of work)
-      (looked_at Holds setup.genesis_time (votes_plan setup s ds ends) (house d ks ns o) b moment slot s.slot reached result is at timed rest)
+      (looked_at Holds votes_start setup.genesis_time (votes_plan setup s ds ends) (house d ks ns o) b moment slot s.slot reached result is at timed rest)
 
   pub blocks_short : (Holds : Standing → Type 0) (setup : DutySetup) (s : Standing) (d : K) (ls ks : List (Seat K)) (ns : List Seen) (o : SinkSeen) (ds blocks : List Duty)
       → blocks ≡ blocks_in ds → WorksDone leads (work_of setup s) 0 (fresh blocks) ls ks None → Turns leads start Holds (due_plan setup s ds) (house d ls ns o) (house d ks ns o) (Err end.OutOfMemory)

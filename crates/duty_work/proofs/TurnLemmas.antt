@@ -15,7 +15,7 @@ use Rattle.duty_plans.specs.Ends.{merged, results_of}
 use Rattle.duty_plans.specs.Tasks.{again_tasks, fresh}
 use Rattle.duty_plans.specs.declared.setup.DutySetup.{DutySetup}
 use Rattle.duty_turns.specs.Standing.{Standing}
-use Rattle.duty_turns.specs.Times.{is_missed, next_slot, slot_start, votes_start}
+use Rattle.duty_turns.specs.Times.{again_start, is_missed, next_slot, slot_start, votes_start}
 use Rattle.duty_turns.specs.Turns.{after_works, again_plan, at_moment, at_slot, blocks_in, calls, close_plan, first_standing, left_plan, listed_plan, next_turn, refreshes, refreshes_lanes, shortens, tried_plan, turn_plan, turns_plan, votes_in, votes_plan, waits, woken_plan, work_of, works}
 use Rattle.duty_turns.specs.TurnSteps.{Does, Fits, House, TurnPlan}
 use Rattle.duty_turns.specs.declared.held.DutyEnd.{DutyEnd}
@@ -55,29 +55,29 @@ left_none setup s ds ends [] is none = ap (λ (l : List Task). left_plan setup s
 left_none setup s ds ends (t ∷ tasks) is none = absurd (omega arith)
 
 pub left_some : (setup : DutySetup) (s : Standing) (ds : List Duty) (ends : List Ended) (tasks : List Task) → tasks ≡ again_tasks ds ends → (length tasks ≡ 0 → ⊥)
-    → again_plan setup s ds ends ≡ waits (votes_start setup.genesis_time s.slot) (tried_plan setup s ds ends tasks)
+    → again_plan setup s ds ends ≡ waits (again_start setup.genesis_time s.slot) (tried_plan setup s ds ends tasks)
 left_some setup s ds ends [] is some = absurd (some refl)
 left_some setup s ds ends (t ∷ tasks) is some = ap (λ (l : List Task). left_plan setup s ds ends l) (sym is)
 
-pub tried_late : (setup : DutySetup) (s : Standing) (ds : List Duty) (ends : List Ended) (tasks : List Task) (reached : ℕ) → is_missed setup.genesis_time s.slot (votes_start setup.genesis_time s.slot) reached ≡ true
+pub tried_late : (setup : DutySetup) (s : Standing) (ds : List Duty) (ends : List Ended) (tasks : List Task) (reached : ℕ) → is_missed setup.genesis_time s.slot (again_start setup.genesis_time s.slot) reached ≡ true
     → tried_plan setup s ds ends tasks reached ≡ close_plan setup s.slot ds (results_of ends) (after_works setup.genesis_time reached s)
 tried_late setup s ds ends tasks reached late = rw late refl
 
-pub tried_now : (setup : DutySetup) (s : Standing) (ds : List Duty) (ends : List Ended) (tasks : List Task) (reached : ℕ) → is_missed setup.genesis_time s.slot (votes_start setup.genesis_time s.slot) reached ≡ false
+pub tried_now : (setup : DutySetup) (s : Standing) (ds : List Duty) (ends : List Ended) (tasks : List Task) (reached : ℕ) → is_missed setup.genesis_time s.slot (again_start setup.genesis_time s.slot) reached ≡ false
     → tried_plan setup s ds ends tasks reached ≡ works (work_of setup s) 0 tasks (λ again. close_plan setup s.slot ds (merged ends again) (at_slot (next_slot s.slot) s))
 tried_now setup s ds ends tasks reached now = rw now refl
 
 -- what stands after the duties, by a moment that was looked at
-pub after_next : (genesis moment held reached : ℕ) (s : Standing) → moment ≡ votes_start genesis held → held ≡ s.slot → moment ≤ reached → after_works genesis reached s ≡ at_slot (next_slot s.slot) s
+pub after_next : (genesis moment held reached : ℕ) (s : Standing) → moment ≡ again_start genesis held → held ≡ s.slot → moment ≤ reached → after_works genesis reached s ≡ at_slot (next_slot s.slot) s
 after_next genesis moment held reached s is at past =
-    let same : moment ≡ votes_start genesis s.slot = is ∙ ap (λ n. votes_start genesis n) at in
-    let on : nat_lt reached (votes_start genesis s.slot) ≡ false = le-ltb reached (votes_start genesis s.slot) (subst (λ n. n ≤ reached) same past) in
+    let same : moment ≡ again_start genesis s.slot = is ∙ ap (λ n. again_start genesis n) at in
+    let on : nat_lt reached (again_start genesis s.slot) ≡ false = le-ltb reached (again_start genesis s.slot) (subst (λ n. n ≤ reached) same past) in
     rw on refl
 
-pub after_back : (genesis moment held reached : ℕ) (s : Standing) → moment ≡ votes_start genesis held → held ≡ s.slot → reached < moment → after_works genesis reached s ≡ at_moment genesis (votes_start genesis s.slot) reached s
+pub after_back : (genesis moment held reached : ℕ) (s : Standing) → moment ≡ again_start genesis held → held ≡ s.slot → reached < moment → after_works genesis reached s ≡ at_moment genesis (again_start genesis s.slot) reached s
 after_back genesis moment held reached s is at before =
-    let same : moment ≡ votes_start genesis s.slot = is ∙ ap (λ n. votes_start genesis n) at in
-    let back : nat_lt reached (votes_start genesis s.slot) ≡ true = lt-ltb reached (votes_start genesis s.slot) (subst (λ n. reached < n) same before) in
+    let same : moment ≡ again_start genesis s.slot = is ∙ ap (λ n. again_start genesis n) at in
+    let back : nat_lt reached (again_start genesis s.slot) ≡ true = lt-ltb reached (again_start genesis s.slot) (subst (λ n. reached < n) same before) in
     rw back refl
 
 -- ---- turn after turn

@@ -2,7 +2,7 @@ use Rattle.std.proofs.Common.{◌≡◌, ◌∙◌, List, true, false, length, r
 use Rattle.std.proofs.lemmas.Bool.{eqb-true, eqb-false}
 use Rattle.duty_plans.specs.declared.task.Task.{Task}
 use Rattle.duty_plans.specs.Ends.{results_of}
-use Rattle.duty_turns.specs.Times.{next_slot}
+use Rattle.duty_turns.specs.Times.{again_start, next_slot}
 use Rattle.duty_turns.specs.Turns.{again_plan, at_slot, tried_plan}
 use Rattle.duty_workers.specs.Places.{are_placed_tasks}
 use Rattle.duty_work.proofs.PlacedLemmas.{again_placed}
@@ -28,5 +28,5 @@ pub returns-clause-runs : goal.returns-clause-runs
 returns-clause-runs g c = λ nodes s h.
     turns_as g.K.DeskCalls.leads (g.C.Clock.start c.args.clock.now) _ (again_plan c.args.setup.now s c.args.duties.now c.args.ends.now) _ _ _ c.try_again.result
     (left_some c.args.setup.now s c.args.duties.now c.args.ends.now c.as_slice-tasks.result.now (c.as_slice-tasks.ensures.value ∙ c.in-Ok.ensures) (eqb-false (length c.as_slice-tasks.result.now) 0 (sym c.is_empty.ensures ∙ c.if-is_empty.false)))
-    (looked_at g.K.DeskCalls.leads (g.C.Clock.start c.args.clock.now) _ c.args.setup.now.genesis_time (tried_plan c.args.setup.now s c.args.duties.now c.args.ends.now c.as_slice-tasks.result.now) _ _ c.votes_start-moment.result c.args.held.now.slot s.slot c.wait_until-reached.result c.try_again.result
-    c.votes_start-moment.ensures h.is.slot c.wait_until-reached.ensures (c.try_again.ensures.runs (g.C.Clock.start c.args.clock.now) nodes s h))
+    (looked_at g.K.DeskCalls.leads (g.C.Clock.start c.args.clock.now) _ again_start c.args.setup.now.genesis_time (tried_plan c.args.setup.now s c.args.duties.now c.args.ends.now c.as_slice-tasks.result.now) _ _ c.again_start-moment.result c.args.held.now.slot s.slot c.wait_until-reached.result c.try_again.result
+    c.again_start-moment.ensures h.is.slot c.wait_until-reached.ensures (c.try_again.ensures.runs (g.C.Clock.start c.args.clock.now) nodes s h))

@@ -14,7 +14,7 @@ returns-in-Given-clause-runs g c = rw c.in-Given.is (runs_ask g.K.DeskCalls.lead
     (got_is g.K.DeskCalls.leads g.met.K.DeskCalls.leads_none _ _ (λ b. made_plan c.args.work.now c.args.row.now b) _ _ _ c.block_in.ensures c.publish.ensures.runs)))
 
 pub returns-in-Failed-clause-runs : goal.returns-in-Failed-clause-runs
-returns-in-Failed-clause-runs g c = rw c.in-Failed.is (runs_dropped g.K.DeskCalls.leads g.met.K.DeskCalls.leads_none _ _ _ _ c.args.grant _ _ c.settle-in-Failed.ensures.settled refl)
+returns-in-Failed-clause-runs g c = rw c.in-Failed.is (runs_dropped g.K.DeskCalls.leads g.met.K.DeskCalls.leads_none _ _ _ _ c.args.grant _ _ c.settle-in-Failed.ensures.settled c.left_by.ensures)
 
 pub returns-in-Nothing-clause-runs : goal.returns-in-Nothing-clause-runs
 returns-in-Nothing-clause-runs g c = rw c.in-Nothing.is (runs_dropped g.K.DeskCalls.leads g.met.K.DeskCalls.leads_none _ _ _ _ c.args.grant _ _ c.settle-in-Nothing.ensures.settled tt)
