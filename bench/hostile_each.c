@@ -1,7 +1,7 @@
 /* Runs a program once for each line of its input: the words of its own command line, with the file that the line names as standard input and
    the file after a tab as standard output; what it says on standard error is dropped. Writes a line for each: the status (256 and more: a
    signal), the microseconds of processor time, the microseconds that went by, and the greatest resident memory in KiB. Being small itself,
-   it does not hide what the program takes. A run of more than a minute is ended. */
+   it does not hide what the program takes. A run of more than five minutes is ended. */
 #define _GNU_SOURCE
 #include <fcntl.h>
 #include <stdio.h>
@@ -23,7 +23,7 @@ static void begin(char **words, const char *in, const char *out) {
     if (reading < 0 || writing < 0 || nowhere < 0 || dup2(reading, 0) < 0 || dup2(writing, 1) < 0 || dup2(nowhere, 2) < 0)
         _exit(99);
     close(reading), close(writing), close(nowhere);
-    alarm(60);
+    alarm(300);
     execv(words[0], words);
     _exit(99);
 }
