@@ -4,9 +4,14 @@ use edge_kit::{Items, PubKey, Root, Sig};
 use node_calls::{Answer, Ask, AttesterRow, ProposerRow};
 use std::alloc::{AllocError, Global};
 
-/// The key whose bytes are a number.
+/// The key whose bytes are a number. Above 255 each byte is the number's last one, and to the first two of them those before
+/// it are added, so that each number has its key.
 fn key_of(number: u64) -> PubKey {
-    PubKey([byte_of(number); 48])
+    let last = number % 256;
+    let mut bytes = [byte_of(number); 48];
+    bytes[0] = byte_of(last + number / 256);
+    bytes[1] = byte_of(last + number / 65_536);
+    PubKey(bytes)
 }
 
 /// The root whose bytes are a number.
@@ -77,11 +82,44 @@ pub fn attester(alloc: Global, words: &str) -> Result<AttesterRow, Stop> {
     }
 }
 
+/// Adds an attester for each key from this number to the one that the words begin with.
+fn push_range(
+    alloc: Global,
+    rows: &mut Vec<AttesterRow>,
+    first: u64,
+    words: &str,
+) -> Result<(), Stop> {
+    let row = attester(alloc, words)?;
+    let numbers = numbers_in(alloc, words)?;
+    let Some(last) = numbers.first() else {
+        return Err(Stop::Unread);
+    };
+    for number in first..=*last {
+        rows.push(AttesterRow {
+            pubkey: key_of(number),
+            ..row
+        })?;
+    }
+    Ok(())
+}
+
+/// Adds an attester, or one for each key from a number to another.
+fn push_attesters(alloc: Global, rows: &mut Vec<AttesterRow>, words: &str) -> Result<(), Stop> {
+    let (front, rest) = first_part(words, " to ");
+    match (
+        front.strip_prefix("keys "),
+        numbers_in(alloc, front)?.as_slice(),
+    ) {
+        (Some(_), [first]) => push_range(alloc, rows, *first, rest),
+        _ => Ok(rows.push(attester(alloc, words)?)?),
+    }
+}
+
 /// Attesters.
 fn attesters(alloc: Global, text: &str) -> Result<Items<AttesterRow>, Stop> {
     let mut rows = Vec::new(alloc);
     for words in text.split(", ") {
-        rows.push(attester(alloc, words)?)?;
+        push_attesters(alloc, &mut rows, words)?;
     }
     Ok(Items::from_vec(rows))
 }
