@@ -2,6 +2,7 @@
 //! first call. They are trusted in what they read and write, and tell nothing of it.
 #![tactic(auto)]
 
+mod chunk_scan;
 mod json_scan;
 mod key_outcomes;
 mod leaving;

@@ -154,6 +154,12 @@ impl<'a, N: Net + Eprint + Clock + Drop> Lobby<'a, N> {
         }
     }
 
+    // Lets all connections leave after the last was served.
+    pub(crate) fn empty(&mut self) {
+        self.exit.resume(&self.handle);
+        self.send_out();
+    }
+
     // Lets all connections leave.
     fn send_out(&mut self) {
         let mut nap = 1;

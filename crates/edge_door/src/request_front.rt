@@ -1,22 +1,16 @@
 //! Whether a request that is coming in is to be served now.
+use crate::chunk_scan::ChunkScan;
+use httparse::Status;
+use httparse::spans::{EMPTY_HEADER_SPAN, parse_request};
 
-/// How many bytes the head of a request has at most (`http_wire`).
-const HEAD_LIMIT: usize = 65_536;
+/// How many bytes the head of a request has at most, and so the line of a chunk (`http_wire`).
+pub(crate) const HEAD_LIMIT: usize = 65_536;
 
 /// How many bytes the body of a request has at most (`http_wire`).
-const BODY_LIMIT: u64 = 16_777_216;
+pub(crate) const BODY_LIMIT: u64 = 16_777_216;
 
 /// How many bytes of a request are read before it is served at most: a body in chunks has more than its size.
 const ARRIVED_LIMIT: usize = 33_554_432;
-
-/// In how many bytes at the end of what has come in the last chunk is looked for: more than come in at a time.
-const TAIL_BYTES: usize = 32_768;
-
-/// The line of the last chunk of a body, with what ends the line before it (RFC 9112).
-const LAST_CHUNK: &[u8] = b"\r\n0\r\n";
-
-/// What ends the fields after the last chunk: the end of a line, and an empty line.
-const EMPTY_LINE: &[u8] = b"\r\n\r\n";
 
 /// What the requests that are not refused for their methods or their targets begin with (`keymanager_routes`).
 const KNOWN: [&[u8]; 3] = [
@@ -41,91 +35,100 @@ enum Framing {
 /// What the head of a request says of its sender and of its body.
 #[derive(Clone, Copy)]
 struct Front {
+    /// Where the body begins.
+    end: usize,
     /// It bears the token.
     is_let_in: bool,
     /// Its sender waits to be asked for the body (RFC 9110, `Expect`).
     waits: bool,
+    /// Its body is in a coding, and is not read (RFC 9110, `Content-Encoding`).
+    is_encoded: bool,
     framing: Framing,
 }
 
-/// Whether a request of which this has come in is to be served now: it is whole, or what is missing decides nothing, since
-/// its head is too long, does not bear this token, has a method or a target that is refused, or announces no body or too
-/// long a one, or since its sender waits to be asked for the body. Only how long others wait rests on the answer: who serves
-/// the request judges it by itself.
-pub(crate) fn is_ready(arrived: &[u8], token: &str) -> bool {
-    let Some(end) = end_of_head(arrived) else {
-        return arrived.len() >= HEAD_LIMIT;
-    };
-    if arrived.len() >= ARRIVED_LIMIT {
-        return true;
+/// What has come in of a request, as far as it was looked at.
+#[derive(Drop)]
+pub(crate) struct Coming {
+    /// What its head says, once that is there.
+    front: Option<Front>,
+    chunks: ChunkScan,
+}
+
+impl Coming {
+    /// Nothing has come in yet.
+    pub(crate) fn new() -> Self {
+        Coming {
+            front: None,
+            chunks: ChunkScan::new(),
+        }
     }
-    let Some((head, body)) = arrived.split_at_checked(end) else {
-        return true;
-    };
-    let front = front_of(head, token);
-    !front.is_let_in || front.waits || !is_known(head) || is_whole(front.framing, body)
+
+    /// Whether the request, of which this has come in, is to be served now: it is whole, or what is missing decides nothing,
+    /// since what has come in is no request, or its head does not bear this token, has a method or a target that is refused,
+    /// or announces no body that is read, or since its sender waits to be asked for the body. Only how long others wait rests
+    /// on the answer: who serves the request judges it by itself.
+    pub(crate) fn is_ready(&mut self, arrived: &[u8], token: &str) -> bool {
+        let front = match self.front {
+            Some(front) => front,
+            None => match read_front(arrived, token) {
+                Some(front) => front,
+                None => return is_no_head(arrived),
+            },
+        };
+        self.front = Some(front);
+        let Some((head, body)) = arrived.split_at_checked(front.end) else {
+            return true;
+        };
+        let is_refused = !front.is_let_in || front.is_encoded || !is_known(head);
+        is_refused || front.waits || arrived.len() >= ARRIVED_LIMIT || self.is_whole(front, body)
+    }
+
+    // Whether a body is there, or as much of it as is read at most.
+    fn is_whole(&mut self, front: Front, body: &[u8]) -> bool {
+        match front.framing {
+            Framing::Unsaid | Framing::Bad => true,
+            Framing::Sized(length) => {
+                let arrived = u64::try_from(body.len()).unwrap_or(u64::MAX);
+                arrived >= length || length > BODY_LIMIT
+            }
+            Framing::Chunked => self.chunks.is_over(body),
+        }
+    }
+}
+
+// What the head says of a request of which this has come in; None where it is not whole.
+fn read_front(arrived: &[u8], token: &str) -> Option<Front> {
+    let mut spans = [EMPTY_HEADER_SPAN; 64];
+    match parse_request(arrived, &mut spans) {
+        Ok(Status::Complete(head)) => {
+            let bytes = arrived.get(..head.len).unwrap_or(arrived);
+            Some(front_of(bytes, token))
+        }
+        _ => None,
+    }
+}
+
+// Whether what has come in, which has no whole head, never has one that is read.
+fn is_no_head(arrived: &[u8]) -> bool {
+    let mut spans = [EMPTY_HEADER_SPAN; 64];
+    arrived.len() >= HEAD_LIMIT || parse_request(arrived, &mut spans).is_err()
 }
 
 // Whether a head is not refused for its method or its target.
 fn is_known(head: &[u8]) -> bool {
     let head = head.trim_ascii_start();
-    KNOWN.iter().any(|known| head.starts_with(known))
-}
-
-// Whether a body is there, or as much of it as is read at most.
-fn is_whole(framing: Framing, body: &[u8]) -> bool {
-    match framing {
-        Framing::Unsaid | Framing::Bad => true,
-        Framing::Sized(length) => {
-            let arrived = u64::try_from(body.len()).unwrap_or(u64::MAX);
-            arrived >= length || length > BODY_LIMIT
-        }
-        Framing::Chunked => has_last_chunk(body),
-    }
-}
-
-// Whether the last chunk has come in, and the fields after it. In a chunk's data this may be found where it is not: then the
-// request is served too early, and waits by itself.
-fn has_last_chunk(body: &[u8]) -> bool {
-    if body.starts_with(b"0\r\n") {
-        return has(body, EMPTY_LINE);
-    }
-    let front = body.len().saturating_sub(TAIL_BYTES);
-    let tail = body.get(front..).unwrap_or(body);
-    match tail.windows(5).position(|found| found == LAST_CHUNK) {
-        Some(at) => has(tail.get(at.saturating_add(3)..).unwrap_or(&[]), EMPTY_LINE),
-        None => false,
-    }
-}
-
-// Whether bytes have these four somewhere.
-fn has(bytes: &[u8], part: &[u8]) -> bool {
-    bytes.windows(4).any(|found| found == part)
-}
-
-// The place after the empty line that ends a head. Empty lines before its first line are none of it.
-fn end_of_head(arrived: &[u8]) -> Option<usize> {
-    let mut is_begun = false;
-    let mut is_empty = true;
-    'bytes: for (at, byte) in arrived.iter().enumerate() {
-        match *byte {
-            b'\n' if is_begun && is_empty => return at.checked_add(1),
-            b'\n' => is_empty = true,
-            b'\r' => {}
-            _ => {
-                is_begun = true;
-                is_empty = false;
-            }
-        }
-    }
-    None
+    KNOWN.iter().any(|known| {
+        head.starts_with(known) && matches!(head.get(known.len()), Some(b' ' | b'?'))
+    })
 }
 
 // What a head says.
 fn front_of(head: &[u8], token: &str) -> Front {
     let mut front = Front {
+        end: head.len(),
         is_let_in: false,
         waits: false,
+        is_encoded: false,
         framing: Framing::Unsaid,
     };
     'lines: for line in head.split(|byte| *byte == b'\n') {
@@ -150,6 +153,8 @@ fn note(front: &mut Front, line: &[u8], token: &str) {
         front.framing = sized(number_of(value), front.framing);
     } else if name.eq_ignore_ascii_case(b"transfer-encoding") {
         front.framing = coded(value.eq_ignore_ascii_case(b"chunked"), front.framing);
+    } else if name.eq_ignore_ascii_case(b"content-encoding") {
+        front.is_encoded |= !value.eq_ignore_ascii_case(b"identity");
     } else if name.eq_ignore_ascii_case(b"expect") {
         front.waits = true;
     }

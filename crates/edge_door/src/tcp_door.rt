@@ -27,14 +27,17 @@ use std::rt::Clock;
 /// A connection that was taken back leaves beside the others: what is left of its reply is sent as its peer takes it, and
 /// then what the peer still sends is read and dropped, for 2 seconds at most and until it is silent for half a second, so
 /// that the system does not take the reply back. `finish` goes on with that until none leaves any more, or a request is there
-/// to be served. Up to eight leave at a time; where there are as many, `finish` waits until one has left. A reply that was
-/// begun is sent within its time whatever ends the door.
+/// to be served. Up to eight leave at a time; where there are as many, `finish` waits until one has left. Where a connection is
+/// known to be the last, its `finish` goes on until none leaves any more. A reply that was begun is sent within its time
+/// whatever ends the door.
 #[derive(Drop)]
 pub struct TcpDoor<'a, N: Net + Eprint + Clock + Drop> {
     alloc: Global,
     reports: Reports,
     listener: Option<N::Listener>,
     lobby: Lobby<'a, N>,
+    /// How many connections are still to come.
+    left: u64,
     faults: u64,
 }
 
@@ -55,6 +58,7 @@ impl<'a, N: Net + Eprint + Clock + Drop> TcpDoor<'a, N> {
             reports: Reports::All,
             listener: None,
             lobby: Lobby::new(alloc, handle, host, port, token, halt),
+            left: u64::MAX,
             faults: 0,
         }
     }
@@ -66,6 +70,14 @@ impl<'a, N: Net + Eprint + Clock + Drop> TcpDoor<'a, N> {
         ensures faults { self.new.faults ≡ self.old.faults }
     {
         self.reports = reports;
+    }
+
+    /// From now on the last of that many connections is known to be the last that is accepted.
+    pub fn set_count(&mut self, count: u64)
+        ensures left { self.new.left ≡ count }
+        ensures faults { self.new.faults ≡ self.old.faults }
+    {
+        self.left = count;
     }
 
     /// How many calls have failed.
@@ -151,6 +163,7 @@ impl<N: Net + Eprint + Clock + Copy + Drop> Door for TcpDoor<'_, N> {
         let Some(waiting) = self.counted(next)? else {
             return Ok(None);
         };
+        self.left = self.left.saturating_sub(1);
         Ok(Some(self.served(waiting)))
     }
 
@@ -158,8 +171,9 @@ impl<N: Net + Eprint + Clock + Copy + Drop> Door for TcpDoor<'_, N> {
         if let Some(leaving) = conn.into_leaving() {
             self.lobby.admit_leaving(leaving);
         }
-        if let Some(listener) = &self.listener {
-            self.lobby.go_on(listener);
+        match &self.listener {
+            Some(listener) if self.left > 0 => self.lobby.go_on(listener),
+            _ => self.lobby.empty(),
         }
     }
 }

@@ -1,5 +1,5 @@
 //! Connections that were accepted and whose requests are coming in.
-use crate::request_front::is_ready;
+use crate::request_front::Coming;
 use edge_sockets::{Span, is_later};
 use std::alloc::Global;
 use std::io;
@@ -22,8 +22,9 @@ pub(crate) struct Waiting<S> {
     /// From when on nothing has come in, and for how long that may be so.
     silence: Span,
     arrived: Vec<u8>,
-    /// Nothing further comes in here.
-    is_over: bool,
+    coming: Coming,
+    /// Its request is to be served now: it is there, or nothing further comes in.
+    is_due: bool,
 }
 
 /// What a look at the connections has found.
@@ -80,14 +81,15 @@ impl<S: Read + Write + OpenStream + Drop> Room<S> {
         }
     }
 
-    /// Reads what has come in, and finds the first connection whose request is to be served now.
+    /// Reads what has come in of the requests that are not there yet, and finds the first connection whose request is to be
+    /// served now.
     pub(crate) fn look<C: Clock>(&mut self, clock: &C, token: &str) -> Look {
         let mut ready = None;
         let mut has_come = false;
         'waiting: for (place, waiting) in self.waiting.iter_mut().enumerate() {
-            let came = waiting.read(clock);
+            let came = !waiting.is_due && waiting.read(clock, token);
             has_come |= came;
-            if ready.is_none() && (waiting.is_whole(token) || !came && waiting.is_late(clock)) {
+            if ready.is_none() && (waiting.is_due || !came && waiting.is_late(clock)) {
                 ready = Some(place);
             }
         }
@@ -124,7 +126,8 @@ impl<S: Read + Write + OpenStream + Drop> Waiting<S> {
             span,
             silence: span.with_limit(silent),
             arrived: Vec::new(alloc),
-            is_over: false,
+            coming: Coming::new(),
+            is_due: false,
         })
     }
 
@@ -135,27 +138,29 @@ impl<S: Read + Write + OpenStream + Drop> Waiting<S> {
             span,
             silence: _silence,
             arrived,
-            is_over: _is_over,
+            coming: _coming,
+            is_due: _is_due,
         } = self;
         (stream, span, arrived)
     }
 
     // Reads what has come in, and says whether anything has. Where memory is wanted for it, it is left to whoever serves the
     // request.
-    fn read<C: Clock>(&mut self, clock: &C) -> bool {
+    fn read<C: Clock>(&mut self, clock: &C, token: &str) -> bool {
         let mut piece = [0; PIECE_BYTES];
         if self.arrived.reserve(PIECE_BYTES).is_err() {
-            self.is_over = true;
+            self.is_due = true;
             return false;
         }
         match self.stream.read(&mut piece) {
             Err(error) if is_later(error.kind()) => false,
             Ok(0) | Err(_) => {
-                self.is_over = true;
+                self.is_due = true;
                 false
             }
             Ok(count) => {
                 self.keep(clock, piece.get(..count).unwrap_or(&[]));
+                self.is_due = self.coming.is_ready(self.arrived.as_slice(), token);
                 true
             }
         }
@@ -167,11 +172,6 @@ impl<S: Read + Write + OpenStream + Drop> Waiting<S> {
         if let Ok(silence) = self.silence.again(clock) {
             self.silence = silence;
         }
-    }
-
-    // Whether its request is to be served now: it is there, or nothing further comes in.
-    fn is_whole(&self, token: &str) -> bool {
-        self.is_over || is_ready(self.arrived.as_slice(), token)
     }
 
     // Whether its request comes in too slowly. Whoever serves it finds its time over.

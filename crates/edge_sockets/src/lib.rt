@@ -4,6 +4,7 @@
 
 mod address;
 mod heard;
+mod round;
 mod silence;
 mod span;
 mod tcp_link;

@@ -27,11 +27,12 @@ struct Place {
 }
 
 /// A link to a host, by its address or its name, with a count of its failures. It looks the name up and
-/// connects at `connect`, and reads ahead, so that reading byte by byte is cheap. An exchange begins at `connect`. To
-/// connect, and all that is sent and received over the connection, lasts no longer than one limit: the call that is
-/// over it fails, and so does each later one of the exchange. How long the system looks a name up is not limited, and
-/// does not count. What the system says of a failure is reported on standard error, with the call; and so is an answer whose
-/// status is not one of success, with the first 200 bytes of its body, and that the peer is set aside or taken back.
+/// connects at `connect`, or at the first `send` after it where the peer may be set aside, and reads ahead, so that reading
+/// byte by byte is cheap. An exchange begins there. To connect, and all that is sent and received over the connection, lasts
+/// no longer than one limit: the call that is over it fails, and so does each later one of the exchange. How long the system
+/// looks a name up is not limited, and does not count. What the system says of a failure is reported on standard error, with
+/// the call; and so is an answer whose status is not one of success, with the first 200 bytes of its body, and that the peer
+/// is set aside or taken back.
 #[derive(Drop)]
 pub struct TcpLink<N: Net + Eprint + Clock + Drop> {
     alloc: Global,
@@ -42,6 +43,8 @@ pub struct TcpLink<N: Net + Eprint + Clock + Drop> {
     long: Option<(LongRequests, Duration)>,
     silence: Option<Place>,
     reports: Reports,
+    /// It connects at the next `send`, since what that sends says how long the exchange may last.
+    is_due: bool,
     stream: Option<Timed<N::Stream>>,
     heard: Heard,
     faults: u64,
@@ -64,6 +67,7 @@ impl<N: Net + Eprint + Clock + Drop> TcpLink<N> {
             long: None,
             silence: None,
             reports: Reports::All,
+            is_due: false,
             stream: None,
             heard: Heard::new(alloc),
             faults: 0,
@@ -90,11 +94,14 @@ impl<N: Net + Eprint + Clock + Drop> TcpLink<N> {
     }
 
     /// From now on the peer, which is that of this place among the peers, is set aside after an exchange that passed its
-    /// limit: each `connect` of this link, of those that are made of it by `twin`, and of others of this place, fails at
-    /// once, for a second, then for twice as long each time in a row, for a minute at most; but where all peers are set
-    /// aside, each is asked. A peer that answers is taken back. One that refuses, or ends the connection, is not set
-    /// aside. A question whether the peer is syncing fails at once for a second and a half after an exchange passed its limit,
-    /// whatever other peers do.
+    /// limit: each exchange of this link, of those that are made of it by `twin`, and of others of this place, fails at its
+    /// first `send` without a call, until the peer answers; but where no other peer answered last, each is asked. A peer
+    /// that is set aside is asked whether it is syncing after a second, then after twice as long each time in a row, after a
+    /// minute at most, and taken back where it answers. One that refuses, or ends the connection, is not set aside.
+    ///
+    /// The questions whether peers are syncing that follow each other within 6 seconds last no longer than one limit together,
+    /// and 2 seconds at most, however many peers and links there are: each such exchange has an equal share of that. One for
+    /// which no share is left fails without a call.
     pub fn set_aside_among(&mut self, peers: Arc<Peers, Global>, index: usize)
         ensures faults { self.new.faults ≡ self.old.faults }
         ensures place { (self.new.handle ≡ self.old.handle) × (self.new.host ≡ self.old.host) × (self.new.port ≡ self.old.port) }
@@ -127,10 +134,10 @@ impl<N: Net + Eprint + Clock + Drop> TcpLink<N> {
     }
 
     // A connection to the first address of the host that takes one within its share of what is left of the exchange,
-    // which begins once the name is looked up.
-    fn open_timed(&self) -> io::Result<Timed<N::Stream>> {
+    // which begins once the name is looked up, and may last so long.
+    fn open_timed(&self, limit: Duration) -> io::Result<Timed<N::Stream>> {
         let addresses = (self.host.as_str(), self.port).to_socket_addrs(&self.handle)?;
-        let span = Span::begin(&self.handle, self.limit)?;
+        let span = Span::begin(&self.handle, limit)?;
         let count = addresses.size_hint().0;
         let mut last = io::Error::from(ErrorKind::NotFound);
         for (index, address) in addresses.enumerate() {
@@ -142,28 +149,49 @@ impl<N: Net + Eprint + Clock + Drop> TcpLink<N> {
         Err(last)
     }
 
-    // Whether the peer is set aside now.
-    fn is_set_aside(&self) -> bool {
-        match &self.silence {
-            Some(place) => place.peers.is_set_aside(&self.handle, place.index),
-            None => false,
+    // How long an exchange may last that begins with this piece; None where the peer is set aside for it.
+    fn limit_for(&self, piece: &[u8]) -> Option<Duration> {
+        let Some(place) = &self.silence else {
+            return Some(self.limit);
+        };
+        if asks_for_syncing(piece) {
+            return place
+                .peers
+                .syncing_limit(&self.handle, place.index, self.limit);
+        }
+        if place.peers.is_set_aside(place.index) {
+            return None;
+        }
+        Some(self.limit)
+    }
+
+    // Connects for an exchange that may last so long.
+    fn open(&mut self, limit: Duration) -> Result<(), Failed>
+        ensures cause { HasCause self.old.faults self.new.faults result }
+    {
+        let stream = self.open_timed(limit);
+        self.stream = Some(self.counted(stream)?);
+        Ok(())
+    }
+
+    // Connects for an exchange that begins with this piece, where that is due and the peer is not set aside.
+    fn open_for(&mut self, piece: &[u8]) -> Result<(), Failed>
+        ensures cause { HasCause self.old.faults self.new.faults result }
+    {
+        if !self.is_due {
+            return Ok(());
+        }
+        self.is_due = false;
+        match self.limit_for(piece) {
+            Some(limit) => self.open(limit),
+            None => Err(count_fault(&mut self.faults)),
         }
     }
 
-    // Whether this piece begins a question whether a node is syncing, and the node let an exchange pass its limit just before:
-    // each lane asks so, one after another, and one of them has waited for all.
-    fn is_needless(&self, piece: &[u8]) -> bool {
-        let (Some(place), Some(stream)) = (&self.silence, &self.stream) else {
-            return false;
-        };
-        stream.is_new()
-            && asks_for_syncing(piece)
-            && place.peers.is_silent(&self.handle, place.index)
-    }
-
-    // Sets a peer aside whose exchange passed its limit, where this is wanted.
-    fn note_silence(&self, error: &io::Error) {
+    // Notes that an exchange with a peer failed, where this is wanted; and sets the peer aside where it passed its limit.
+    fn note_failure(&self, error: &io::Error) {
         if let Some(place) = &self.silence {
+            place.peers.note_failure(place.index);
             if error.kind() == ErrorKind::TimedOut {
                 let pause = place.peers.set_aside(&self.handle, place.index);
                 self.tell_pause(pause);
@@ -186,10 +214,12 @@ impl<N: Net + Eprint + Clock + Drop> TcpLink<N> {
         }
     }
 
-    // Takes the peer back where it was heard to the end of the exchange.
+    // Takes the peer back where it was heard to the end of the exchange. Where it was not, it had no answer.
     fn note_answer(&self) {
         if let (Some(place), Some(stream)) = (&self.silence, &self.stream) {
-            if stream.is_heard() && place.peers.take_back(place.index) {
+            if !stream.is_heard() {
+                place.peers.note_failure(place.index);
+            } else if place.peers.take_back(place.index) {
                 self.tell_news("taken back");
             }
         }
@@ -234,7 +264,7 @@ impl<N: Net + Eprint + Clock + Drop> TcpLink<N> {
         ensures cause { HasCause self.old.faults self.new.faults result }
     {
         if let Err(error) = &done {
-            self.note_silence(error);
+            self.note_failure(error);
         }
         let address = Address {
             host: &self.host,
@@ -261,19 +291,15 @@ impl<N: Net + Eprint + Clock + Copy + Drop> Link for TcpLink<N> {
     fn connect(&mut self) -> Result<(), Failed> {
         self.stream = None;
         self.heard.begin();
-        if self.is_set_aside() {
-            return Err(count_fault(&mut self.faults));
+        self.is_due = self.silence.is_some();
+        if self.is_due {
+            return Ok(());
         }
-        let stream = self.open_timed();
-        self.stream = Some(self.counted(stream)?);
-        Ok(())
+        self.open(self.limit)
     }
 
     fn send(&mut self, piece: &[u8]) -> Result<usize, Failed> {
-        if self.is_needless(piece) {
-            self.stream = None;
-            return Err(count_fault(&mut self.faults));
-        }
+        self.open_for(piece)?;
         self.allow_for(piece);
         let sent = send_over(&mut self.stream, &self.handle, piece);
         if let Ok(count) = &sent {
@@ -293,6 +319,7 @@ impl<N: Net + Eprint + Clock + Copy + Drop> Link for TcpLink<N> {
     fn hang_up(&mut self) -> Result<(), Failed> {
         self.note_answer();
         self.note_refusal();
+        self.is_due = false;
         self.stream = None;
         Ok(())
     }
@@ -318,6 +345,7 @@ impl<N: Net + Eprint + Clock + Copy + Drop> Link for TcpLink<N> {
             long: self.long,
             silence: shared(&self.silence)?,
             reports: self.reports,
+            is_due: false,
             stream: None,
             heard: Heard::new(alloc),
             faults: 0,

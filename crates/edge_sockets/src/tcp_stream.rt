@@ -65,11 +65,6 @@ impl<S: Read + Write + OpenStream + Drop> Timed<S> {
         self.is_heard
     }
 
-    /// Whether nothing was sent over it yet.
-    pub fn is_new(&self) -> bool {
-        !self.is_begun
-    }
-
     /// Gives the connection this limit where the first piece that it sends, which is this one, is of such a request.
     pub fn allow_for(&mut self, piece: &[u8], requests: LongRequests, limit: Duration) {
         if !self.is_begun && is_of(piece, requests) {

@@ -1,5 +1,5 @@
--- The services that are asked for, where connections are taken and what token they must bear, whether faults alone are reported, and
--- whether a server watches its keys.
+-- The services that are asked for, where connections are taken, how many and what token they must bear, whether faults alone are
+-- reported, and whether a server watches its keys.
 use Rattle.std.specs.Prelude.{ℕ, Bool, false, List, [], Option, None, Some}
 use Rattle.service_url.specs.Services.{Service}
 use Rattle.command_line.specs.Plans.{Asked, session, serve}
@@ -25,6 +25,11 @@ timeout_of asked = None
 abbrev pub listen_of : Asked → Option ListenAddress
 listen_of (serve options) = Some options.listen
 listen_of asked = None
+
+-- how many connections are taken, if they say
+abbrev pub connections_of : Asked → Option ℕ
+connections_of (serve options) = Some options.connections
+connections_of asked = None
 
 -- the token that connections must bear, if any are taken
 abbrev pub token_of : Asked → Option (List ℕ)

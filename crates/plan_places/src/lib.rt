@@ -5,7 +5,7 @@
 ghost use Rattle.std.specs.Prelude.{◌≡◌, [], IfOk, None, Ok, Some, false, map, option_map, string_bytes, ◌++◌};
 ghost use Rattle.command_line.specs.Plans.{asked_of, taken_as};
 ghost use Rattle.plan_places.specs.Files.{files_at, files_of};
-ghost use Rattle.plan_places.specs.Services.{listen_of, nodes_of, quiet_of, signer_of, timeout_of, token_of, watch_of};
+ghost use Rattle.plan_places.specs.Services.{connections_of, listen_of, nodes_of, quiet_of, signer_of, timeout_of, token_of, watch_of};
 
 mod token_file;
 
@@ -34,6 +34,8 @@ pub struct Services {
     pub timeout: Option<NodeTimeout>,
     /// Where connections are taken, if anywhere.
     pub listen: Option<ListenAddress>,
+    /// How many connections are taken, if they say.
+    pub connections: Option<u64>,
     /// The token that connections must bear, if any are taken.
     pub token: Option<TokenText>,
     /// Whether standard error has lines of faults alone.
@@ -53,6 +55,7 @@ pub fn named(alloc: Global, words: &[String]) -> Result<Places, AllocError>
     ensures nodes { IfOk result (λ x. x.services.nodes.items ≡ nodes_of (asked_of (map string_bytes words.now))) }
     ensures timeout { IfOk result (λ x. x.services.timeout ≡ timeout_of (asked_of (map string_bytes words.now))) }
     ensures listen { IfOk result (λ x. x.services.listen ≡ listen_of (asked_of (map string_bytes words.now))) }
+    ensures connections { IfOk result (λ x. x.services.connections ≡ connections_of (asked_of (map string_bytes words.now))) }
     ensures token { IfOk result (λ x. x.services.token ≡ token_of (asked_of (map string_bytes words.now))) }
     ensures quiet { IfOk result (λ x. x.services.quiet ≡ quiet_of (asked_of (map string_bytes words.now))) }
     ensures watch { IfOk result (λ x. x.services.watch ≡ watch_of (asked_of (map string_bytes words.now))) }
@@ -73,6 +76,7 @@ fn named_by(alloc: Global, plan: Plan) -> Result<Places, AllocError>
     ensures nodes { IfOk result (λ x. x.services.nodes.items ≡ nodes_of (taken_as (Ok plan))) }
     ensures timeout { IfOk result (λ x. x.services.timeout ≡ timeout_of (taken_as (Ok plan))) }
     ensures listen { IfOk result (λ x. x.services.listen ≡ listen_of (taken_as (Ok plan))) }
+    ensures connections { IfOk result (λ x. x.services.connections ≡ connections_of (taken_as (Ok plan))) }
     ensures token { IfOk result (λ x. x.services.token ≡ token_of (taken_as (Ok plan))) }
     ensures quiet { IfOk result (λ x. x.services.quiet ≡ quiet_of (taken_as (Ok plan))) }
     ensures watch { IfOk result (λ x. x.services.watch ≡ watch_of (taken_as (Ok plan))) }
@@ -88,6 +92,7 @@ fn no_services(alloc: Global) -> Services
     ensures nodes { result.nodes.items ≡ [] }
     ensures timeout { result.timeout ≡ None }
     ensures listen { result.listen ≡ None }
+    ensures connections { result.connections ≡ None }
     ensures token { result.token ≡ None }
     ensures quiet { result.quiet ≡ false }
     ensures watch { result.watch ≡ false }
@@ -97,6 +102,7 @@ fn no_services(alloc: Global) -> Services
         nodes: Vec::new(alloc),
         timeout: None,
         listen: None,
+        connections: None,
         token: None,
         quiet: false,
         watch: false,
@@ -109,6 +115,7 @@ fn services_in(alloc: Global, plan: Plan) -> Services
     ensures nodes { result.nodes.items ≡ nodes_of (taken_as (Ok plan)) }
     ensures timeout { result.timeout ≡ timeout_of (taken_as (Ok plan)) }
     ensures listen { result.listen ≡ listen_of (taken_as (Ok plan)) }
+    ensures connections { result.connections ≡ connections_of (taken_as (Ok plan)) }
     ensures token { result.token ≡ token_of (taken_as (Ok plan)) }
     ensures quiet { result.quiet ≡ quiet_of (taken_as (Ok plan)) }
     ensures watch { result.watch ≡ watch_of (taken_as (Ok plan)) }
@@ -120,6 +127,7 @@ fn services_in(alloc: Global, plan: Plan) -> Services
             nodes: Vec::new(alloc),
             timeout: None,
             listen: None,
+            connections: None,
             token: None,
             quiet: false,
             watch: false,
@@ -134,6 +142,7 @@ fn services_of(options: ServeOptions) -> Services
     ensures nodes { result.nodes.items ≡ options.nodes }
     ensures timeout { result.timeout ≡ Some options.timeout }
     ensures listen { result.listen ≡ Some options.listen }
+    ensures connections { result.connections ≡ Some options.connections }
     ensures token { result.token ≡ Some options.token }
     ensures quiet { result.quiet ≡ options.quiet }
     ensures watch { result.watch ≡ options.watch }
@@ -146,7 +155,7 @@ fn services_of(options: ServeOptions) -> Services
         token,
         watch,
         slots: _slots,
-        connections: _connections,
+        connections,
         lanes: _lanes,
         keep_epochs: _keep_epochs,
         timeout,
@@ -158,6 +167,7 @@ fn services_of(options: ServeOptions) -> Services
         nodes: nodes.into_vec(),
         timeout: Some(timeout),
         listen: Some(listen),
+        connections: Some(connections),
         token: Some(token),
         quiet,
         watch,

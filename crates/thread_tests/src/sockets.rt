@@ -1,7 +1,8 @@
 //! A listener of the system as a door, and a connection of it as a link.
 use edge_clock::Halt;
+use edge_door::{TcpConn, TcpDoor};
 use edge_kit::{Door, Failed, Link};
-use edge_sockets::{Peers, TcpConn, TcpDoor, TcpLink};
+use edge_sockets::{Peers, TcpLink};
 use std::alloc::{AllocError, Global};
 use std::io::{Eprint, Read, Write};
 use std::net::{Net, OpenListener, OpenStream, TcpListener, TcpStream};
@@ -52,6 +53,9 @@ const UNHEARD: [Step; 5] = [
     Step::Recv(Err(Failed), 0),
     Step::HangUp,
 ];
+
+/// A peer is not reached.
+const UNSENT: [Step; 2] = [Step::Connect(Ok(())), Step::Send(Err(Failed))];
 
 /// Each call of a connection that is not there fails.
 const ABSENT: [Step; 3] = [
@@ -350,6 +354,11 @@ fn two_peers(alloc: Global) -> Result<Arc<Peers, Global>, AllocError> {
     Ok(Arc::new(alloc, Peers::new(alloc, 2)?)?)
 }
 
+/// Asks a peer whether it is syncing, and answers whether that is sent.
+fn asks_for_syncing<L: Link>(link: &mut L) -> bool {
+    link.connect().is_ok() && link.send(b"GET /eth/v1/node/syncing HTTP/1.1").is_ok()
+}
+
 #[test]
 fn a_silent_peer_is_set_aside_for_a_twin(rt: HostRuntime) -> Result<(), Fail> {
     let listener = TcpListener::bind(&rt, "127.0.0.1:0")?;
@@ -357,9 +366,26 @@ fn a_silent_peer_is_set_aside_for_a_twin(rt: HostRuntime) -> Result<(), Fail> {
     link.set_aside_among(two_peers(rt.alloc())?, 0);
     let mut twin = link.twin(rt.alloc())?;
     assert!(rt; play(&mut link, &UNHEARD));
-    assert!(rt; play(&mut twin, &[Step::Connect(Err(Failed))]));
+    assert!(rt; play(&mut twin, &UNSENT) && !asks_for_syncing(&mut twin));
     thread::sleep(&rt, Duration::from_millis(1_100));
-    assert!(rt; play(&mut twin, &[Step::Connect(Ok(()))]));
+    assert!(rt; play(&mut twin, &UNSENT) && asks_for_syncing(&mut twin));
+    Ok(())
+}
+
+#[test]
+fn questions_for_syncing_have_one_limit(rt: HostRuntime) -> Result<(), Fail> {
+    let listener = TcpListener::bind(&rt, "127.0.0.1:0")?;
+    let peers = two_peers(rt.alloc())?;
+    let mut first = link_to(&rt, rt.alloc(), &listener, 3_000)?;
+    let mut second = link_to(&rt, rt.alloc(), &listener, 3_000)?;
+    first.set_aside_among(Arc::try_clone(&peers)?, 0);
+    second.set_aside_among(peers, 1);
+    let begun = Instant::now(&rt)?;
+    assert!(rt; asks_for_syncing(&mut first) && first.recv(&mut [0]).is_err());
+    assert!(rt; !asks_for_syncing(&mut first));
+    assert!(rt; asks_for_syncing(&mut second) && second.recv(&mut [0]).is_err());
+    assert!(rt; begun.elapsed(&rt)? < Duration::from_millis(2_900));
+    assert!(rt; play(&mut first, &[Step::Connect(Ok(())), Step::Send(Ok(1))]));
     Ok(())
 }
 
@@ -370,8 +396,8 @@ fn a_peer_that_refuses_is_not_set_aside(rt: HostRuntime) -> Result<(), Fail> {
     let port = listener.local_addr()?.port();
     link.set_aside_among(two_peers(rt.alloc())?, 0);
     drop(listener);
-    assert!(rt; play(&mut link, &[Step::Connect(Err(Failed))]));
+    assert!(rt; play(&mut link, &UNSENT));
     let _listener = TcpListener::bind(&rt, ("127.0.0.1", port))?;
-    assert!(rt; play(&mut link, &[Step::Connect(Ok(()))]));
+    assert!(rt; play(&mut link, &[Step::Connect(Ok(())), Step::Send(Ok(1))]));
     Ok(())
 }

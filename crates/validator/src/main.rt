@@ -42,10 +42,11 @@ struct NodePlaces {
     timeout: NodeTimeout,
 }
 
-/// Where connections are taken, if anywhere, and the token that they must bear.
+/// Where connections are taken, if anywhere, how many, and the token that they must bear.
 #[derive(Drop)]
 struct DoorPlace {
     listen: Option<ListenAddress>,
+    connections: Option<u64>,
     token: Option<TokenText>,
 }
 
@@ -138,7 +139,11 @@ fn door_at<'a, R: Net + Eprint + Clock>(
     place: DoorPlace,
     shared: Shared<'a>,
 ) -> Result<TcpDoor<'a, &'a R>, AllocError> {
-    let DoorPlace { listen, token } = place;
+    let DoorPlace {
+        listen,
+        connections,
+        token,
+    } = place;
     let (host, port) = match listen {
         Some(address) => {
             let host = address.host;
@@ -150,6 +155,7 @@ fn door_at<'a, R: Net + Eprint + Clock>(
     let token = String::from_str(alloc, token)?;
     let mut door = TcpDoor::new(alloc, rt, host, port, token, shared.halt);
     door.set_reports(shared.reports);
+    door.set_count(connections.unwrap_or(u64::MAX));
     Ok(door)
 }
 
@@ -174,11 +180,16 @@ where
         nodes: services,
         timeout,
         listen,
+        connections,
         token,
         quiet: _quiet,
         watch: _watch,
     } = services;
-    let place = DoorPlace { listen, token };
+    let place = DoorPlace {
+        listen,
+        connections,
+        token,
+    };
     let nodes = NodePlaces {
         services,
         timeout: timeout.unwrap_or(NodeTimeout::two()),
