@@ -53,6 +53,10 @@ pub kept : {E P : Type 0} (r : Result (Unit {0}) E) → P → OnOk r P
 kept (Ok x) p = p
 kept (Err e) p = tt
 
+-- what stands is held by whatever name
+pub held_as : {held : Held} {a b : Standing} → a ≡ b → HoldsPlaced held a → HoldsPlaced held b
+held_as {held} e h = subst (λ (x : Standing). HoldsPlaced held x) e h
+
 -- what stands is held with another slot, or other active keys
 pub holds_at : (before now : Held) (s : Standing) (slot : ℕ) → HoldsPlaced before s → now.slot ≡ slot → now.fork ≡ before.fork → now.indices ≡ before.indices → now.schedule ≡ before.schedule → now.active ≡ before.active → now.renewed ≡ before.renewed
     → HoldsPlaced now (at_slot slot s)
