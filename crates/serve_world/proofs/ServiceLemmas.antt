@@ -32,6 +32,7 @@ use Rattle.check_sign.specs.Paths.{Path}
 use Rattle.check_sign.specs.Standing.{DeskStands}
 use Rattle.desk_seat.specs.Turns.{calls_of}
 use Rattle.world_law.specs.Worlds.{Event}
+use Rattle.world_law.specs.Worlds.Event.{Crash}
 use Rattle.world_law.specs.Clients.{RunsFrom, state_over, messages_in}
 use Rattle.session_world.specs.Running.{LeftBy}
 use Rattle.session_world.specs.Starting.{Show}
@@ -40,6 +41,7 @@ use Rattle.session_world.proofs.ListLemmas.{runs_both, over_both}
 use Rattle.session_world.proofs.RunLemmas.{further, idle}
 use Rattle.session_world.proofs.StartLemmas.{starts_again, starts_keep}
 use Rattle.session_world.proofs.StopLemmas.{NoStop, past_stays}
+use Rattle.session_world.proofs.WholeLemmas.{whole_over}
 use Rattle.program_end.specs.declared.closing.ClosingLine.{ClosingLine}
 use Rattle.program_end.specs.declared.closing.ClosingLine.TheVariants as closing
 use Rattle.program_end.specs.declared.status.Status.{Status}
@@ -128,24 +130,24 @@ all_started genesis old new result s = all_on old s.mid new (all_asked ask.Genes
 
 -- ---- an output that one line closed
 
-abbrev IsClosed : Output → Output → Status → Type 0
+abbrev pub IsClosed : Output → Output → Status → Type 0
 IsClosed before now ended = (line : Option ClosingLine) × ClosedBy line before now ended
 
-closed_same : (before now : Output) (ended : Status) → ended ≡ status.OutOfMemory → now ≡ before → IsClosed before now ended
+pub closed_same : (before now : Output) (ended : Status) → ended ≡ status.OutOfMemory → now ≡ before → IsClosed before now ended
 closed_same before now ended is same = (None, (is, ap (λ (o : Output). o.held) same, ap (λ (o : Output). o.failed) same))
 
-closed_refused : (genesis : Root) (why : NoStart) (before now : Output) (ended : Status) → ClosesUnstarted genesis why before now ended → IsClosed before now ended
+pub closed_refused : (genesis : Root) (why : NoStart) (before now : Output) (ended : Status) → ClosesUnstarted genesis why before now ended → IsClosed before now ended
 closed_refused genesis (unstarted.NoNode causes) before now ended closes = ⊎_elim (λ named. (Some (closing.NoNode named.0), named.2)) (λ bare. (None, bare)) closes
 closed_refused genesis (unstarted.GenesisDiffers given) before now ended closes = (Some (closing.GenesisDiffers genesis given), closes)
 closed_refused genesis unstarted.OutOfMemory before now ended closes = (None, closes)
 
-closed_from : (before mid now : Output) (ended : Status) → mid ≡ before → IsClosed mid now ended → IsClosed before now ended
+pub closed_from : (before mid now : Output) (ended : Status) → mid ≡ before → IsClosed mid now ended → IsClosed before now ended
 closed_from before mid now ended same closed = let P : Output → Type 0 = λ o. IsClosed o now ended in subst P same closed
 
 -- ---- parts of which only the nodes were touched
 
 module _ {C : Type 0} (options : ServeOptions) (before now : Parts C) where
-  begins_none : now ≡ before → OnlyBegins options before now
+  pub begins_none : now ≡ before → OnlyBegins options before now
   begins_none same = record {
     signer = ap (λ (p : Parts C). p.signer) same;
     door = ap (λ (p : Parts C). p.door) same;
@@ -154,7 +156,7 @@ module _ {C : Type 0} (options : ServeOptions) (before now : Parts C) where
     lanes = inl (ap (λ (p : Parts C). p.lanes) same);
   }
 
-  begins_refused : (why : NoStart) → StartsBy options.genesis before.nodes now.nodes (Err why) → now.signer ≡ before.signer → now.lanes ≡ before.lanes → now.door ≡ before.door → OnlyBegins options before now
+  pub begins_refused : (why : NoStart) → StartsBy options.genesis before.nodes now.nodes (Err why) → now.signer ≡ before.signer → now.lanes ≡ before.lanes → now.door ≡ before.door → OnlyBegins options before now
   begins_refused why starts signer lanes door = record {
     signer = signer;
     door = door;
@@ -167,7 +169,7 @@ module _ {C : Type 0} (options : ServeOptions) (before now : Parts C) where
     starts_now : now.nodes ≡ nodes → StartsBy options.genesis before.nodes now.nodes (Ok start)
     starts_now same = let P : List Asked → Type 0 = λ l. StartsBy options.genesis before.nodes l (Ok start) in subst P (sym same) starts
 
-    begins_bare : now ≡ with_nodes before nodes → OnlyBegins options before now
+    pub begins_bare : now ≡ with_nodes before nodes → OnlyBegins options before now
     begins_bare same =
         let started = starts_now (ap (λ (p : Parts C). p.nodes) same) in
         record {
@@ -178,7 +180,7 @@ module _ {C : Type 0} (options : ServeOptions) (before now : Parts C) where
           lanes = inl (ap (λ (p : Parts C). p.lanes) same);
         }
 
-    begins_equipped : (made : Parts C) → HasLanes (with_nodes before nodes) options.lanes made → OnlyWrites made now → OnlyBegins options before now
+    pub begins_equipped : (made : Parts C) → HasLanes (with_nodes before nodes) options.lanes made → OnlyWrites made now → OnlyBegins options before now
     begins_equipped made has writes =
         let here : now.nodes ≡ nodes = writes.nodes ∙ ap (λ (p : Parts C). p.nodes) has.is in
         let started = starts_now here in
@@ -196,7 +198,7 @@ module _ {D C : Type 0} (moment : D → ℕ) (leaves : D → ℕ → List ℕ �
 
   module _ (clock : Option ℕ) (options : ServeOptions) (start : Start) (opened ended : Seen D) (before now : Parts C) (result : Status)
       (s : ServesDesk moment leaves faults see clock options start opened ended before now result) (client : ℕ) where
-    acts_go : (acts : List (Act Event)) → AreActs client s acts → (state : State) → DeskStands opened.contents state → Goes moment leaves faults client opened ended state acts
+    pub acts_go : (acts : List (Act Event)) → AreActs client s acts → (state : State) → DeskStands opened.contents state → Goes moment leaves faults client opened ended state acts
     acts_go acts are state stands = goes moment leaves faults client opened ended s.shared.log acts are.turns s.shared.history (all_held moment leaves faults see clock options start opened ended before now result s client acts are) state stands
 
   pub serve_told : ServeTold moment leaves faults see
@@ -289,6 +291,8 @@ module _ {D C : Type 0} (moment : D → ℕ) (leaves : D → ℕ → List ℕ �
             opened = opened;
             closed = closed;
             begins = stands;
+            whole = whole_over genesis front runs;
+            up = ap (λ (s : State). s.torn) (over_both (no_state genesis) stop.front (Crash client stop.within stop.done epoch options.watch ∷ []));
             noted_is = had.desk.noted;
             last_is = had.desk.disks;
             came = had.ends;
@@ -321,7 +325,7 @@ module _ {D C : Type 0} (moment : D → ℕ) (leaves : D → ℕ → List ℕ �
       (client : ℕ) (past : List Event) (files : Files) (visible : Show shows disks_before files) (stop : StopsIn options.genesis client (no_state options.genesis) past files)
       (left : LeftBy leaves options.genesis client past disks_before (now_of moment disks_before)) where
     abbrev GoesOn : Type 0
-    GoesOn = Unstarted moment leaves options client past before now noted ended disks_before disks_now
+    GoesOn = Unstarted moment leaves options.genesis options client past before now noted ended disks_before disks_now
         ⊎ ((some : List Bool) × (x : Serviced moment leaves faults see clock options before (now some) noted ended client past files stop disks_before disks_now)
         × Opening shows moment leaves faults disks_before options.genesis options.watch x.epoch x.opened)
 

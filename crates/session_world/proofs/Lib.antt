@@ -4,3 +4,4 @@ pub mod EventLemmas
 pub mod StopLemmas
 pub mod StartLemmas
 pub mod RunLemmas
+pub mod OtherLemmas

@@ -1,3 +1,4 @@
+use Rattle.session_world.proofs.OtherLemmas.{other_idles}
 use Rattle.session_world.proofs.RunLemmas.{command_goes_on, run_goes_on}
 use Rattle.session_world.proofs.law.run_law.Goals as goal
 
@@ -6,3 +7,6 @@ returns-clause-session g c = run_goes_on g.D.Disk.shows g.D.Disk.moment g.D.Disk
 
 pub returns-clause-command : goal.returns-clause-command
 returns-clause-command g c = command_goes_on g.D.Disk.shows g.D.Disk.moment g.D.Disk.leaves g.D.Disk.faults
+
+pub returns-clause-other : goal.returns-clause-other
+returns-clause-other g c = other_idles g.D.Disk.shows g.D.Disk.moment g.D.Disk.leaves g.D.Disk.faults
