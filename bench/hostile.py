@@ -500,14 +500,14 @@ def answers(draw, count, tally):
             liars.serving = None
             nodes = liars.begin()
             serving = Living(['serve', '--genesis', GENESIS, '--journal', journal.path, '--signer', signer.url, '--listen', '127.0.0.1:%d' % free_port(), '--token', TOKEN, '--quiet',
-                              '--slots', '1', '--connections', '0', '--lanes', '1'] + ['--watch'] * draw.choice((0, 0, 1)) + nodes, stdout=subprocess.PIPE, stderr=subprocess.DEVNULL)
+                              '--slots', '1', '--connections', '0', '--lanes', '1', '--timeout', '60'] + ['--watch'] * draw.choice((0, 0, 1)) + nodes, stdout=subprocess.PIPE, stderr=subprocess.DEVNULL)
             liars.serving = serving
             try:
                 out = serving.process.communicate(timeout=600)[0]
             finally:
                 liars.serving = None
                 serving.stop()
-            wanted('a run of serve', b'', serving.process.returncode == 0 and not liars.differs, serving.process.returncode, out, *liars.differs[:1])
+            wanted('a run of serve', b'', liars.is_late or (serving.process.returncode == 0 and not liars.differs), serving.process.returncode, out, *liars.differs[:1])
     signer.stop(), liars.server.stop()
 
 def responses(draw, count, tally):
