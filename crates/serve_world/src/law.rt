@@ -47,8 +47,9 @@ pub fn repeat_law()
 {}
 
 /// A deletion that was carried out without error and comes again while a client serves changes nothing, and asks the
-/// signer nothing, where no key of it became active between, whatever others call between any two of its calls. So does an
-/// import that was carried out without error and comes again, where no deletion of a key of it was begun between.
+/// signer nothing, where no key of it became active between, whatever others call between any two of its calls. An import
+/// that was carried out without error and comes again leaves every record, state, watch and open grant, and asks the signer
+/// nothing, where no deletion of a key of it was begun between; its file may be written again.
 pub fn again_law<D: Disk, R: Door>()
     ensures deletions { (see : R.Conn → LinkSeen) → ServeDeletesAgain D.moment D.leaves D.faults see }
     ensures imports { (see : R.Conn → LinkSeen) → ServeImportsAgain D.moment D.leaves D.faults see }
