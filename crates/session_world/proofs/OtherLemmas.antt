@@ -1,5 +1,5 @@
 -- That a run which is asked for another chain than that of the journal leaves the journal as it was.
-use Rattle.std.proofs.Common.{◌≡◌, inl, inr, ⊎_elim, ℕ, Bool, false, List, [], Option, Some, None, refl, sym, ◌∙◌, ap, subst}
+use Rattle.std.proofs.Common.{◌≡◌, inl, inr, ⊎_elim, ℕ, Bool, false, List, Option, Some, None, refl, sym, ◌∙◌, ap, subst}
 use Rattle.edge_kit.specs.declared.bytes.Root.{Root}
 use Rattle.edge_kit.specs.declared.disk.Disks.{Disks}
 use Rattle.phase0_types.specs.declared.fork.Fork.{Fork}
@@ -8,7 +8,6 @@ use Rattle.record_journal.specs.declared.place.Place.{Place}
 use Rattle.record_journal.specs.declared.open.OpenFault.TheVariants as journal_fault
 use Rattle.record_journal.specs.Pairs.{NoneBegun, OneGenesis, Reads, pair_begun, pair_reading}
 use Rattle.record_journal.specs.Opened.{PairBeginning, PairUnwritten}
-use Rattle.desk_machine.specs.States.{no_state}
 use Rattle.desk_machine.specs.declared.event.DeskEvent.{DeskEvent}
 use Rattle.check_sign.specs.Contents.{Seen}
 use Rattle.check_sign.specs.Crashes.{Files, now_of}
@@ -17,12 +16,11 @@ use Rattle.check_sign.specs.declared.open.OpenFault.{OpenFault}
 use Rattle.check_sign.specs.declared.open.OpenFault.TheVariants as open_fault
 use Rattle.world_law.specs.Worlds.{Event}
 use Rattle.program_end.specs.declared.status.Status.{Status}
-use Rattle.command_line.specs.Plans.{Asked, session, serve, merge, show, rehearse, shown, nothing}
+use Rattle.command_line.specs.Plans.{session, serve, merge, show, rehearse, shown, nothing}
 use Rattle.validator_cli.specs.Endings.{IsUntouched, Outside, RunEnds}
-use Rattle.session_world.specs.Others.{AreOfAnother, IsForAnother, OtherIdles}
+use Rattle.session_world.specs.Others.{AreOfAnother, OtherIdles}
 use Rattle.session_world.specs.Running.{Idle, LeftBy, StaysSo}
 use Rattle.session_world.specs.Starting.{Show}
-use Rattle.session_world.specs.Stopping.{StopsIn}
 use Rattle.session_world.proofs.RunLemmas.{idle}
 
 none_read : {A : Type 0} (x : List (List ℕ)) → None ≡ Some x → A
