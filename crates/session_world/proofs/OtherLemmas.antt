@@ -1,5 +1,5 @@
 -- That a run which is asked for another chain than that of the journal leaves the journal as it was.
-use Rattle.std.proofs.Common.{◌≡◌, inl, inr, ⊎_elim, ℕ, Bool, false, List, Option, Some, None, refl, sym, ◌∙◌, ap, subst}
+use Rattle.std.proofs.Common.{◌≡◌, inl, inr, ⊎_elim, ℕ, Bool, false, List, [], Option, Some, None, refl, sym, ◌∙◌, ap, subst}
 use Rattle.edge_kit.specs.declared.bytes.Root.{Root}
 use Rattle.edge_kit.specs.declared.disk.Disks.{Disks}
 use Rattle.phase0_types.specs.declared.fork.Fork.{Fork}
