@@ -130,7 +130,7 @@ def tell(due, method, target, body):
     if path.startswith('/eth/v2/validator/blocks/'):
         return 200, {'version': 'phase0', 'data': block_at(due, int(path.split('/')[-1]), dict(asked)['randao_reveal'])}
     if path in (VOTES, BLOCKS):
-        return 200, None
+        return (503, {'code': 503, 'message': 'takes none'}) if due.get('takes_none') else (200, None)
     return 404, {'code': 404, 'message': 'not here'}
 
 signer, node = Server(sign), Server(tell)
@@ -154,10 +154,10 @@ def wanted(what, is_so):
     if not is_so:
         sys.exit('bench: ' + what)
 
-def serve(journal, slots, connections, lanes=4, nodes=None, before=()):
-    """Starts the program with these nodes, else the one here, after these words of another program."""
-    return subprocess.Popen([*before, program, 'serve', '--genesis', GENESIS_ROOT, '--journal', os.path.join(folder, journal), '--signer', signer.url, '--listen', '127.0.0.1:%d' % port, '--token', TOKEN,
-                             '--slots', str(slots), '--connections', str(connections), '--lanes', str(lanes)] + (nodes or [node.url]), stdout=subprocess.PIPE, stderr=subprocess.PIPE, text=True)
+def serve(journal, slots, connections, lanes=4, nodes=None, before=(), signing=None, options=()):
+    """Starts the program with these nodes and this signing service, else those here, after these words of another program."""
+    return subprocess.Popen([*before, program, 'serve', '--genesis', GENESIS_ROOT, '--journal', os.path.join(folder, journal), '--signer', signing or signer.url, '--listen', '127.0.0.1:%d' % port, '--token', TOKEN,
+                             '--slots', str(slots), '--connections', str(connections), '--lanes', str(lanes), *options] + (nodes or [node.url]), stdout=subprocess.PIPE, stderr=subprocess.PIPE, text=True)
 
 def ended(child, status=0):
     out, told = child.communicate()
