@@ -1,6 +1,7 @@
 //! Runs of the whole program, as lines of trials. A line `play` is a play of one act after another over the same disks,
 //! with ` | ` between them. An act sets something for the next run, or is a run; the acts are listed at `Scene`. Marks in a
-//! line stand for long digits, as `filled` of `test_texts` has them, and `\n` and `\r` for the ends of lines.
+//! line stand for long digits, as `filled` of `test_texts` has them, and `\n` and `\r` for the ends of lines. A line `walk
+//! FIRST LAST ACTS` is such a play at each number from the first to the last, a row each (`walk`).
 #![tactic(auto)]
 
 mod meetings;
@@ -9,6 +10,7 @@ mod plays;
 mod runs;
 mod said;
 mod scenes;
+mod walks;
 
 use std::io;
 use std::io::Print;
@@ -26,6 +28,7 @@ fn take_line<T: Threads + Wait + Clock + Print + AllocGlobal + Sync>(
     let is_read = match case_of(line) {
         None => true,
         Some(("play", acts)) => plays::play(rt, rt.alloc(), acts).is_ok(),
+        Some(("walk", words)) => walks::walk(rt, rt.alloc(), words).is_ok(),
         Some(_) => false,
     };
     if is_read {

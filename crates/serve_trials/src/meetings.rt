@@ -1,5 +1,5 @@
 //! Objects of a run that wait for each other: that threads run next to each other is seen only by that.
-use edge_kit::{Door, Failed, PubKey, Sig};
+use edge_kit::{Door, Failed, PubKey};
 use signer_link::{DeleteReply, ImportReply, PlainRequest, SignReply, SignRequest, Signer};
 use slash_defs::Granted;
 use std::alloc::{AllocError, Global};
@@ -13,9 +13,6 @@ const MOST_NAPS: u64 = 20_000;
 
 /// How long a nap is, in milliseconds.
 const NAP: u64 = 1;
-
-/// What everything is signed with, which is no BLS signature.
-const SIGNATURE: Sig = Sig([0x77; 96]);
 
 /// What a thread of a run comes to.
 #[derive(Clone, Copy, PartialEq, Eq)]
@@ -105,44 +102,44 @@ impl Flags {
     }
 }
 
-/// Holds every key, comes to a meeting before it signs a block or a vote, and counts these.
+/// Does what another signer does, comes to a meeting before it signs a block or a vote, and counts these.
 #[derive(Drop)]
-pub struct MeetingSigner<'a, T> {
+pub struct MeetingSigner<'a, T, S> {
+    pub signer: S,
     pub requests: u64,
     pub flags: &'a Flags,
     pub clock: &'a T,
 }
 
-impl<'a, T: Clock> Signer for MeetingSigner<'a, T> {
-    ghost use Rattle.std.specs.Prelude.{None};
+impl<'a, T: Clock, S: Signer> Signer for MeetingSigner<'a, T, S> {
+    ghost told = { λ s. S.told s.signer };
 
-    ghost told = { λ _. None };
+    ghost faults = { λ s. S.faults s.signer };
 
-    ghost faults = { λ _. 0 };
+    ghost denials = { λ s. S.denials s.signer };
 
-    ghost denials = { λ _. 0 };
-
-    fn sign<G: Granted>(&mut self, _request: &SignRequest, _grant: &G) -> SignReply {
+    fn sign<G: Granted>(&mut self, request: &SignRequest, grant: &G) -> SignReply {
         self.flags.meet(Step::Sign, self.clock);
         self.requests = self.requests.saturating_add(1);
-        SignReply::Signed(SIGNATURE)
+        self.signer.sign(request, grant)
     }
 
-    fn sign_plain<G: Granted>(&mut self, _request: &PlainRequest, _grant: &G) -> SignReply {
-        SignReply::Signed(SIGNATURE)
+    fn sign_plain<G: Granted>(&mut self, request: &PlainRequest, grant: &G) -> SignReply {
+        self.signer.sign_plain(request, grant)
     }
 
-    fn import(&mut self, _key: &PubKey, _keystore: &str, _password: &str) -> ImportReply {
-        ImportReply::Duplicate
+    fn import(&mut self, key: &PubKey, keystore: &str, password: &str) -> ImportReply {
+        self.signer.import(key, keystore, password)
     }
 
-    fn delete(&mut self, _key: &PubKey) -> DeleteReply {
-        DeleteReply::Deleted
+    fn delete(&mut self, key: &PubKey) -> DeleteReply {
+        self.signer.delete(key)
     }
 
     /// One that comes to the same meeting, and has no request yet.
-    fn twin(&self, _alloc: Global) -> Result<Self, AllocError> {
+    fn twin(&self, alloc: Global) -> Result<Self, AllocError> {
         Ok(MeetingSigner {
+            signer: self.signer.twin(alloc)?,
             requests: 0,
             flags: self.flags,
             clock: self.clock,

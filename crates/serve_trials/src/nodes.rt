@@ -11,12 +11,13 @@ use slash_defs::Granted;
 use std::alloc::{AllocError, Global};
 
 /// Answers each question by what it says of the chain, whatever it was asked before, and takes each post, so that it says
-/// the same in each lane. It notes that a vote was posted, and tells nothing.
+/// the same in each lane. It notes that a vote was posted, and tells nothing. A twin of it is one of a lane.
 #[derive(Drop)]
 pub struct ChainNode<'a> {
     pub alloc: Global,
     pub said: &'a Said,
     pub flags: &'a Flags,
+    pub is_of_lane: bool,
     pub calls: u64,
     pub faults: u64,
 }
@@ -29,7 +30,7 @@ impl<'a> ChainNode<'a> {
     {
         let call = self.calls;
         self.calls = call.saturating_add(1);
-        if self.said.failing.contains(&call) {
+        if self.said.fails(self.is_of_lane, call) {
             let _ = count_fault(&mut self.faults);
             return true;
         }
@@ -85,6 +86,7 @@ impl<'a> Node for ChainNode<'a> {
             alloc,
             said: self.said,
             flags: self.flags,
+            is_of_lane: true,
             calls: 0,
             faults: 0,
         })

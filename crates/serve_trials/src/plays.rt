@@ -28,14 +28,14 @@ pub fn play<T: Threads + Wait + Clock + Print + Sync>(
 }
 
 /// A line without its marks.
-fn unmarked(alloc: Global, line: &str) -> Result<String, AllocError> {
+pub fn unmarked(alloc: Global, line: &str) -> Result<String, AllocError> {
     let line = filled(alloc, line)?;
     let line = line.replace(alloc, "\\r", "\r")?;
     line.replace(alloc, "\\n", "\n")
 }
 
 /// A text on one line.
-fn on_one_line(alloc: Global, bytes: &[u8]) -> Result<String, AllocError> {
+pub fn on_one_line(alloc: Global, bytes: &[u8]) -> Result<String, AllocError> {
     let text = String::from_utf8_lossy(alloc, bytes)?;
     let text = text.replace(alloc, "\r", "\\r")?;
     text.replace(alloc, "\n", "\\n")
@@ -85,10 +85,10 @@ fn scene_after<T: Print>(
     show_waits(rt, scene, late_waits)?;
     show_lanes(rt, scene, ending.lanes)?;
     show_sent(rt, alloc, ending.door.door.into_finished())?;
-    Ok(scene.hold(alloc, &ending.disks)?)
+    scene.hold(alloc, &ending.disks)
 }
 
-fn words_of(alloc: Global, text: &str) -> Result<Vec<String>, AllocError> {
+pub fn words_of(alloc: Global, text: &str) -> Result<Vec<String>, AllocError> {
     let mut words = Vec::new(alloc);
     for word in text.split_whitespace() {
         words.push(String::from_str(alloc, word)?)?;

@@ -5,6 +5,7 @@ use crate::said::Said;
 use crate::scenes::{Scene, nodes_of};
 use edge_clock::MemClock;
 use edge_kit::{Disks, MemDisk, MemDoor, MemSink, MemSource};
+use signer_link::MemSigner;
 use std::alloc::Global;
 use std::io;
 use std::rt::Clock;
@@ -15,17 +16,20 @@ use validator_cli::{Ending, LaneEnd, run_validator};
 /// The door of a run.
 type PlayDoor<'a, T> = MeetingDoor<'a, T, MemDoor>;
 
+/// The signer of a run.
+type PlaySigner<'a, T> = MeetingSigner<'a, T, MemSigner>;
+
 /// What a run gives back.
-type PlayEnding<'a, T> = Ending<MemDisk, MeetingSigner<'a, T>, ChainNode<'a>, PlayDoor<'a, T>>;
+type PlayEnding<'a, T> = Ending<MemDisk, PlaySigner<'a, T>, ChainNode<'a>, PlayDoor<'a, T>>;
 
 /// What a lane gives back.
-pub type PlayLane<'a, T> = LaneEnd<MeetingSigner<'a, T>, ChainNode<'a>>;
+pub type PlayLane<'a, T> = LaneEnd<PlaySigner<'a, T>, ChainNode<'a>>;
 
 /// What stands for the outside of a run.
 #[derive(Drop)]
 pub struct Outside<'a, T> {
     disks: Disks<MemDisk>,
-    signer: MeetingSigner<'a, T>,
+    signer: PlaySigner<'a, T>,
     nodes: Vec<ChainNode<'a>>,
     door: PlayDoor<'a, T>,
     input: MemSource,
@@ -50,6 +54,7 @@ pub fn outside_of<'a, T>(
     Ok(Outside {
         disks: scene.disks(alloc)?,
         signer: MeetingSigner {
+            signer: scene.signer(alloc)?,
             requests: 0,
             flags,
             clock: rt,

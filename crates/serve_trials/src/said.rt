@@ -49,21 +49,24 @@ pub struct Due {
     given: Option<u64>,
 }
 
-/// Which calls of a node fail, and what it says of its chain: the root of its genesis validators, and the duties. Duties of
-/// one slot stand in the order in which they are done, and what is given for its votes is that of the first of them.
+/// Which calls of a node fail, and which of each lane's; and what it says of its chain: the root of its genesis validators,
+/// and the duties. Duties of one slot stand in the order in which they are done, and what is given for its votes is that of
+/// the first of them.
 #[derive(Drop)]
 pub struct Said {
-    pub failing: Vec<u64>,
+    failing: Vec<u64>,
+    lane_failing: Vec<u64>,
     root: Root,
     due: Vec<Due>,
 }
 
 impl Said {
-    /// What these items say, with `, ` between them: `fails CALL`; `other-chain` for the root G1 in place of G0; and of a
+    /// What these items say, with `, ` between them: `fails CALL` and `lane-fails CALL`; `other-chain` for the root G1 in place of G0; and of a
     /// duty `block SLOT KEY GIVEN` or `vote SLOT KEY GIVEN`, where KEY is K1 or K2 and GIVEN may be absent.
     pub fn read(alloc: Global, items: &str) -> io::Result<Said> {
         let mut said = Said {
             failing: Vec::new(alloc),
+            lane_failing: Vec::new(alloc),
             root: ZERO,
             due: Vec::new(alloc),
         };
@@ -79,11 +82,21 @@ impl Said {
             ("", _) => {}
             ("other-chain", _) => self.root = Root([0x11; 32]),
             ("fails", call) => self.failing.push(number_of(call)?)?,
+            ("lane-fails", call) => self.lane_failing.push(number_of(call)?)?,
             ("block", due) => self.due.push(due_of(Made::Block, due)?)?,
             ("vote", due) => self.due.push(due_of(Made::Vote, due)?)?,
             _ => return Err(bad()),
         }
         Ok(())
+    }
+
+    /// Whether a call of the node, or of one of a lane, fails.
+    pub fn fails(&self, is_of_lane: bool, call: u64) -> bool {
+        if is_of_lane {
+            self.lane_failing.contains(&call)
+        } else {
+            self.failing.contains(&call)
+        }
     }
 
     /// The slot of what is given for the first of a slot's duties.

@@ -2,7 +2,8 @@
 use crate::meetings::{Flags, Step};
 use crate::nodes::ChainNode;
 use crate::said::Said;
-use edge_kit::{Disks, Link, MemDisk, MemDoor, MemLink, MemSink, MemSource};
+use edge_kit::{Crash, Disks, Link, MemDisk, MemDoor, MemLink, MemSink, MemSource};
+use signer_link::MemSigner;
 use std::alloc::{AllocError, Global};
 use std::io;
 
@@ -12,13 +13,39 @@ const ROOM: u64 = 1 << 20;
 /// Room for each reply at the door.
 const REPLY_ROOM: usize = 4096;
 
+/// The acts that set something besides the disks.
+const ACTS: [&str; 16] = [
+    "input",
+    "caller",
+    "node",
+    "disk-fails",
+    "second-fails",
+    "read-fails",
+    "write-fails",
+    "sign-fails",
+    "door-fails",
+    "caller-fails",
+    "disk-stops",
+    "second-stops",
+    "crash",
+    "room",
+    "wait",
+    "lanes",
+];
+
 /// What was set for the next run: acts by name and text, in their order, and what the disks hold. The acts are:
 ///
 /// - `disk HEX`: what the first disk holds, in place of what an earlier run left.
 /// - `input TEXT`: the input.
 /// - `caller TEXT`: a connection, and what the client says over it.
 /// - `node ITEMS`: a beacon node, as `Said` reads it.
-/// - `disk-fails N..`, `read-fails N..`, `door-fails N..`: calls of the first disk, of the input and of the door, from 0.
+/// - `disk-fails N..`, `second-fails N..`, `read-fails N..`, `write-fails N..`, `sign-fails N..`, `door-fails N..`: calls
+///   of the first disk, the second one, the input, the output, the signer (each lane's has a count of its own) and the
+///   door, from 0.
+/// - `caller-fails N..`: calls of each connection.
+/// - `disk-stops N`, `second-stops N`: the call at which the first disk, or the second one, stops.
+/// - `crash written`, `crash before`, `crash half`: what the next run leaves of changes that are not synced: each as it
+///   was made, none, or the first half of each write. Without it each stands.
 /// - `room N`: the room of the output.
 /// - `wait STEP STEP`: the first step of the first kind waits until one of the second has come.
 /// - `lanes`: what each lane leaves is shown.
@@ -55,15 +82,7 @@ impl<'a> Scene<'a> {
     pub fn set(&mut self, alloc: Global, name: &'a str, text: &'a str) -> io::Result<()> {
         match name {
             "disk" => self.set_disk(alloc, text),
-            "input"
-            | "caller"
-            | "node"
-            | "disk-fails"
-            | "read-fails"
-            | "door-fails"
-            | "room"
-            | "wait"
-            | "lanes" => Ok(self.acts.push((name, text))?),
+            _ if ACTS.contains(&name) => Ok(self.acts.push((name, text))?),
             _ => Err(bad()),
         }
     }
@@ -76,12 +95,28 @@ impl<'a> Scene<'a> {
         Ok(())
     }
 
-    /// Nothing is set, and the disks hold what these do.
-    pub fn hold(&mut self, alloc: Global, disks: &Disks<MemDisk>) -> Result<(), AllocError> {
-        self.acts.clear();
-        self.first = disks.first.bytes().to_vec(alloc)?;
-        self.second = disks.second.bytes().to_vec(alloc)?;
+    /// The disks hold what the crash that is set leaves of these, and nothing is set.
+    pub fn hold(&mut self, alloc: Global, disks: &Disks<MemDisk>) -> io::Result<()> {
+        let crash = self.crash()?;
+        self.first = disks.first.image(alloc, crash)?;
+        self.second = disks.second.image(alloc, crash)?;
+        self.forget();
         Ok(())
+    }
+
+    /// Nothing is set.
+    pub fn forget(&mut self) {
+        self.acts.clear();
+    }
+
+    /// What a crash makes of the changes that are not synced.
+    fn crash(&self) -> io::Result<Crash> {
+        match self.text("crash") {
+            None | Some("written") => Ok(Crash::Written),
+            Some("before") => Ok(Crash::Before),
+            Some("half") => Ok(Crash::Torn),
+            Some(_) => Err(bad()),
+        }
     }
 
     /// The text of an act, where it was set.
@@ -122,19 +157,48 @@ impl<'a> Scene<'a> {
     }
 
     pub fn sink(&self, alloc: Global) -> io::Result<MemSink> {
+        let failing = self.numbers(alloc, "write-fails")?;
         let room = match self.text("room") {
             Some(word) => number_of(word)?,
             None => ROOM,
         };
-        Ok(MemSink::new(alloc, room as usize, Vec::new(alloc))?)
+        Ok(MemSink::new(alloc, room as usize, failing)?)
     }
 
     pub fn disks(&self, alloc: Global) -> io::Result<Disks<MemDisk>> {
-        let failing = self.numbers(alloc, "disk-fails")?;
         Ok(Disks {
-            first: disk_of(alloc, self.first.as_slice(), failing)?,
-            second: disk_of(alloc, self.second.as_slice(), Vec::new(alloc))?,
+            first: self.disk(alloc, self.first.as_slice(), "disk-fails", "disk-stops")?,
+            second: self.disk(
+                alloc,
+                self.second.as_slice(),
+                "second-fails",
+                "second-stops",
+            )?,
         })
+    }
+
+    /// A disk of these bytes, whose calls fail and which stops as the acts of these names say.
+    fn disk(&self, alloc: Global, bytes: &[u8], fails: &str, stops: &str) -> io::Result<MemDisk> {
+        let failing = self.numbers(alloc, fails)?;
+        let stop = match self.text(stops) {
+            Some(word) => Some(number_of(word)?),
+            None => None,
+        };
+        Ok(MemDisk::new(alloc, bytes.to_vec(alloc)?, failing, stop)?)
+    }
+
+    /// Disks that never fail, and hold what these do.
+    pub fn sound_disks(&self, alloc: Global) -> Result<Disks<MemDisk>, AllocError> {
+        Ok(Disks {
+            first: sound_disk(alloc, self.first.as_slice())?,
+            second: sound_disk(alloc, self.second.as_slice())?,
+        })
+    }
+
+    /// A signer that holds every key.
+    pub fn signer(&self, alloc: Global) -> io::Result<MemSigner> {
+        let failing = self.numbers(alloc, "sign-fails")?;
+        Ok(MemSigner::new(alloc, Vec::new(alloc), failing))
     }
 
     pub fn door(&self, alloc: Global) -> io::Result<MemDoor> {
@@ -142,7 +206,8 @@ impl<'a> Scene<'a> {
         let mut coming = Vec::new(alloc);
         for (set, text) in self.acts.as_slice() {
             if *set == "caller" {
-                coming.push(connected(alloc, text)?)?;
+                let failing = self.numbers(alloc, "caller-fails")?;
+                coming.push(connected(alloc, text, failing)?)?;
             }
         }
         Ok(MemDoor::new(alloc, coming, failing)?)
@@ -169,9 +234,9 @@ fn wait_of(words: &str) -> io::Result<(Step, Step)> {
     }
 }
 
-/// A disk of these bytes, whose calls of these numbers fail.
-fn disk_of(alloc: Global, bytes: &[u8], failing: Vec<u64>) -> Result<MemDisk, AllocError> {
-    MemDisk::new(alloc, bytes.to_vec(alloc)?, failing, None)
+/// A disk of these bytes that never fails.
+fn sound_disk(alloc: Global, bytes: &[u8]) -> Result<MemDisk, AllocError> {
+    MemDisk::new(alloc, bytes.to_vec(alloc)?, Vec::new(alloc), None)
 }
 
 /// The nodes that say this.
@@ -186,6 +251,7 @@ pub fn nodes_of<'a>(
             alloc,
             said,
             flags,
+            is_of_lane: false,
             calls: 0,
             faults: 0,
         })?;
@@ -193,11 +259,11 @@ pub fn nodes_of<'a>(
     Ok(nodes)
 }
 
-/// The connected link of a client that says this.
-fn connected(alloc: Global, said: &str) -> Result<MemLink, AllocError> {
+/// The connected link of a client that says this, whose calls of these numbers fail; that of the connecting has number 0.
+fn connected(alloc: Global, said: &str, failing: Vec<u64>) -> Result<MemLink, AllocError> {
     let said = Vec::from_slice(alloc, said.as_bytes())?;
     let conversations = vec![in alloc; said]?;
-    let mut link = MemLink::new(alloc, conversations, REPLY_ROOM, Vec::new(alloc))?;
+    let mut link = MemLink::new(alloc, conversations, REPLY_ROOM, failing)?;
     let _ = link.connect();
     Ok(link)
 }
