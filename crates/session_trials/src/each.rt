@@ -53,7 +53,7 @@ fn outcome_at<T: Threads + Wait + Sync>(
 ) -> Result<String, AllocError> {
     let number = format!(in alloc; "{number}")?;
     let line = line.replace(alloc, "%", number.as_str())?;
-    let (subject, words) = line.split_once(' ').unwrap_or((line.as_str(), ""));
+    let (subject, words) = line.as_str().split_once(' ').unwrap_or((line.as_str(), ""));
     match outcome_of_run(rt, alloc, trial, subject, words)? {
         Some(outcome) => Ok(outcome),
         None => String::from_str(alloc, "no subject reads this line\n"),

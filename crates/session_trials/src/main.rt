@@ -51,7 +51,7 @@ fn run_by<T: Threads + Wait + Sync>(
 }
 
 /// What comes of a line that runs a script; none where its words can't be read.
-fn outcome_of_run<T: Threads + Wait + Sync>(
+pub fn outcome_of_run<T: Threads + Wait + Sync>(
     rt: &T,
     alloc: Global,
     trial: &mut Trial,
