@@ -1,9 +1,11 @@
 //! Trials of whole sessions. Lines make a script, and other lines run it: `script` begins one, with what stands after the
 //! words of its sessions; `>` adds a request, `>>` a text without a newline, and `>*` a text that many times. `run` runs
 //! requests of the script over new disks, `again` over those that the last run left, and `service` over new disks with
-//! a service that signs; the words after it say which requests, and what fails.
+//! a service that signs; the words after it say which requests, and what fails. `each FIRST LAST` before such a line runs
+//! it at each number of a range, which stands in the place of each `%`.
 #![tactic(auto)]
 
+mod each;
 mod outside;
 mod runs;
 mod script;
@@ -49,7 +51,7 @@ fn run_by<T: Threads + Wait + Sync>(
 }
 
 /// What comes of a line that runs a script; none where its words can't be read.
-fn outcome_of_run<T: Threads + Wait + Sync>(
+pub fn outcome_of_run<T: Threads + Wait + Sync>(
     rt: &T,
     alloc: Global,
     trial: &mut Trial,
@@ -76,6 +78,7 @@ fn outcome_of<T: Threads + Wait + Sync>(
 ) -> Result<Option<String>, AllocError> {
     match subject {
         "run" | "again" | "service" => outcome_of_run(rt, alloc, trial, subject, arguments),
+        "each" => each::outcome(rt, alloc, trial, arguments),
         _ => {
             let is_read = trial.script.take(alloc, subject, arguments)?;
             Ok(is_read.then_some(String::new(alloc)))

@@ -63,11 +63,14 @@ fn address(alloc: Global) -> Result<ServiceUrl, AllocError> {
     }
 }
 
-/// The link to a service that says this.
+/// The link to a service that says this, over each connection what stands up to the next ` || `.
 fn link_of(alloc: Global, words: &str, said: &str) -> Result<MemLink, AllocError> {
-    let said = said_bytes(alloc, said)?;
+    let mut conversations = Vec::new(alloc);
+    for said in said.split(" || ") {
+        conversations.push(said_bytes(alloc, said)?)?;
+    }
     let failing = numbers_of(alloc, words, "failing", 0)?;
-    MemLink::new(alloc, vec![in alloc; said]?, 4096, failing)
+    MemLink::new(alloc, conversations, 4096, failing)
 }
 
 /// The bytes of a text with marks, in which `\r` and `\n` end lines.
