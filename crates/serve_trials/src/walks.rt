@@ -91,14 +91,12 @@ fn alike_at(number: u64, row: Row) -> Alike {
 
 /// Writes rows that are alike as one.
 fn print_alike<T: Print>(rt: &T, alloc: Global, alike: &Alike) -> io::Result<()> {
-    let Alike { first, last, text } = alike;
     let (first, last) = (alike.first, alike.last);
     let name = if first == last {
         format!(in alloc; "{first}")?
     } else {
         format!(in alloc; "{first} to {last}")?
     };
-    print_row(rt, alloc, name.as_str(), text.as_str())
     print_row(rt, alloc, name.as_str(), alike.text.as_str())
 }
 
