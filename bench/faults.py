@@ -88,7 +88,7 @@ def session_cut(name, number, place):
     wanted, opened, proposals = [USUAL], [STATES[7]], [IS_CLOSED]
     if place != 'after':
         wanted = [without(number, cause) for cause in causes(place)]
-        opened = [{0: ['closed 1 0'], 1: ['closed 0 2'], 4: STATES[7], 6: STATES[6]}.get(number, STATES[7])]
+        opened = [{0: ['closed 1 0'], 1: ['closed 0 2'], 4: ['closed 0 2', 'active 1 0'], 6: STATES[6]}.get(number, STATES[7])]
         proposals = [{0: IS_UNKNOWN, 6: SIGNS}.get(number, IS_CLOSED)]
     row.want('status', status, 0)
     row.want('answers', came, *wanted)
@@ -126,8 +126,6 @@ def serve_cut(name, who, number, place):
         row.want('status', status, 0)
         row.want('lines', lines, *due_with(asked, slot, place))
         opened = served_states(lines)
-        if 'RANDAO_REVEAL' in asked and place != 'after':
-            opened = served_states([line for line in lines if 'block' not in line])
     row.ended(status, lines)
     posts_fit(row, lines)
     row.opens(name, *opened)
@@ -135,7 +133,8 @@ def serve_cut(name, who, number, place):
     return row
 
 def due_with(asked, slot, place):
-    """The lines that are right where the connection of this request was cut in this slot. What was granted and not sent is tried once more."""
+    """The lines that are right where the connection of this request was cut in this slot. What the service failed to sign, a reveal
+    among it, and what no node took is tried once more."""
     nobody, usual = ['%d nodes none' % slot], due_lines()
     if place == 'after':
         return [usual]
@@ -149,8 +148,6 @@ def due_with(asked, slot, place):
         return [due_lines(other={(slot, 'vote'): 'nodata none'})]
     if '/eth/v2/validator/blocks' in asked:
         return [due_lines(other={(1, 'block'): 'nodata none'})]
-    if 'RANDAO_REVEAL' in asked:
-        return [due_lines(other={(1, 'block'): 'unsigned ' + cause}) for cause in causes(place)]
     return [usual]
 
 def begin_deletion(name):
