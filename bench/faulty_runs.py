@@ -1,4 +1,4 @@
-"""What `faults.py` and `no_memory.py` share: the runs of the program in which something goes wrong, what is looked at afterwards, and the workers that
+"""What `faults.py` uses: the runs of the program in which something goes wrong, what is looked at afterwards, and the workers that
 the rows are dealt to, each a process with a beacon node, a signing service and journals of its own."""
 import shutil, threading
 from stand_ins import *
