@@ -241,7 +241,7 @@ def ends_at_once(name):
         'bytes after the end': (b'DELETE ' + chunked + b'e\r\n' + body + b'\r\n0\r\n\r\nGET / HTTP/1.1\r\n', b'200'),
         'many chunks': (b'DELETE ' + chunked + b''.join(b'1;x=y\r\n%c\r\n' % byte for byte in body) + b'00\r\n\r\n', b'200'),
         'a size that is none': (b'DELETE ' + chunked + b'e\r\n' + body + b'\r\nz\r\n', b'400'),
-        'a chunk without its end': (b'DELETE ' + chunked + b'1\r\n{}', b'400'),
+        'a chunk without its end': (b'DELETE ' + chunked + b'1\r\n{}}', b'400'),
         'a length that is none': (b'DELETE ' + bearing + b'Content-Length: ten\r\n\r\n', b'400'),
         'two lengths': (b'DELETE ' + bearing + b'Content-Length: 1\r\nContent-Length: 2\r\n\r\n', b'400'),
         'a coding': (b'DELETE ' + bearing + b'Content-Encoding: gzip\r\nContent-Length: 10\r\n\r\n', b'400'),

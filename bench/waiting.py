@@ -17,10 +17,11 @@ sessions('journal', [{'op': 'activate', 'pubkey': key(n)} for n in range(votes)]
 genesis = int(time.time()) - 6
 node.set(genesis_time=genesis, blocks={}, votes={n: 1 for n in range(votes)})
 node.take(), signer.take()
-child = serve('journal', 2, 0, lanes, before=['env', 'LD_PRELOAD=' + shim])
+counted = os.path.join(folder, 'syncs')
+child = serve('journal', 2, 0, lanes, before=['env', 'LD_PRELOAD=' + shim, 'SYNCS=' + counted])
 third = genesis + SLOT + THIRD
 time.sleep(max(0, third - time.time()))
-begun = used(child)
+begun, synced = used(child), os.path.getsize(counted)
 last, spent = begun, begun
 while child.poll() is None:
     spent, last = last, used(child)
@@ -30,6 +31,8 @@ wanted('status %d: %s %s' % (child.returncode, out[-300:], told[-300:]), child.r
 posts = [r for r, _ in posted(node.take())]
 wanted('%d votes in place of %d' % (len(posts), votes), len(posts) == votes)
 took = max(r.ended for r in posts) - third
-print('%d votes in %d lanes, each sync of the disk 10 ms: %.2f s, %.1f ms a grant, %.2f times its two syncs; %.2f processors in use' % (
-    votes, lanes, took, took / votes * 1000, took / votes / (2 * SYNC), (spent - begun) / took))
+syncs = (os.path.getsize(counted) - synced) / votes
+wanted('%.2f syncs a grant in place of two' % syncs, syncs == 2)
+print('%d votes in %d lanes, each sync of the disk 10 ms: %.2f s, %.1f ms a grant, %.2f times its two syncs; %.2f syncs a grant; %.2f processors in use' % (
+    votes, lanes, took, took / votes * 1000, took / votes / (2 * SYNC), syncs, (spent - begun) / took))
 shutil.rmtree(folder)
