@@ -66,6 +66,7 @@ class Living:
     def __init__(self, words, **streams):
         self.process = subprocess.Popen([PROGRAM] + words, **streams)
         self.clock = (~self.process.pid << 3) | 2
+        self.begun = None
 
     def memory(self):
         """The greatest memory that was resident since it was last asked from when on, what of it is of files now, and what is not."""
@@ -445,7 +446,7 @@ class Liars:
             self.differs.append('node %d is asked for %s after node %d, whose answer can%s be read\ninput: %r' % (number, question, at, '' if was_read else 'not', data[:2000]))
 
     def note(self):
-        if self.serving and self.before:
+        if self.serving and self.serving.begun and self.before:
             kind, name, size = self.before
             self.serving.end(self.tally, kind, name, size)
             self.is_late = self.is_late or self.serving.took > 1.5
