@@ -9,7 +9,7 @@ use Rattle.desk_machine.specs.declared.call.DeskReply.{DeskReply}
 use Rattle.desk_machine.specs.declared.call.DeskReply.TheVariants as reply
 use Rattle.world_law.specs.Worlds.{Event}
 use Rattle.world_law.specs.Worlds.Event.{Call}
-use Rattle.session_world.specs.Events.{calls_of}
+use Rattle.serve_world.specs.Events.{calls_of}
 use Rattle.call_plans.specs.Plans.{Follows, Done}
 use Rattle.call_plans.proofs.PlanLemmas.{follows_split}
 use Rattle.client_calls.specs.Steps.{ClientPlan, ClientStep, Fits, desk_calls}

@@ -1,7 +1,7 @@
 -- That a client's runs go on.
 use Rattle.std.proofs.Common.{inl, inr, ⊎_elim, ℕ, suc, List, refl}
 use Rattle.keymanager_api.specs.Serving.{LinkSeen}
-use Rattle.session_world.proofs.RunLemmas.{command_goes_on, run_goes_on}
+use Rattle.serve_world.proofs.SessionRunLemmas.{command_goes_on, run_goes_on}
 use Rattle.serve_world.specs.Lives.{CommandLivesOn, ServiceLivesOn, SessionLivesOn}
 use Rattle.serve_world.proofs.ServiceLemmas.{service_goes_on}
 

@@ -5,17 +5,17 @@ use Rattle.edge_kit.specs.declared.disk.Disks.{Disks}
 use Rattle.desk_machine.specs.declared.event.DeskEvent.{DeskEvent}
 use Rattle.check_sign.specs.Crashes.{Files, now_of}
 use Rattle.world_law.specs.Worlds.{Event}
-use Rattle.session_world.specs.Others.{AreOfAnother}
-use Rattle.session_world.specs.Running.{LeftBy}
-use Rattle.session_world.specs.Starting.{Show}
-use Rattle.session_world.proofs.OtherLemmas.{Untouched, refused, unopened, untouched}
+use Rattle.serve_world.specs.Others.{AreOfAnother}
+use Rattle.serve_world.specs.SessionRunning.{LeftBy}
+use Rattle.serve_world.specs.Starting.{Show}
+use Rattle.serve_world.proofs.OtherSession.{Untouched, refused, unopened, untouched}
 use Rattle.program_end.specs.declared.status.Status.{Status}
 use Rattle.journal_commands.specs.Openings.{open_line}
 use Rattle.keymanager_api.specs.Serving.{LinkSeen}
 use Rattle.command_line.specs.declared.serve_options.ServeOptions.{ServeOptions}
 use Rattle.duty_turns.specs.Times.{epoch_of, slot_of}
-use Rattle.serve_loops.specs.Clients.{Parts}
-use Rattle.serve_loops.specs.Ends.{ServeEnds}
+use Rattle.serve_run.specs.Clients.{Parts}
+use Rattle.serve_run.specs.Ends.{ServeEnds}
 use Rattle.serve_world.specs.Running.{OnlyBegins, OtherServiceIdles, Unstarted}
 use Rattle.serve_world.proofs.ServiceLemmas.{IsClosed, begins_bare, begins_equipped, begins_none, begins_refused, closed_from, closed_refused, closed_same}
 

@@ -34,14 +34,14 @@ use Rattle.desk_seat.specs.Turns.{calls_of}
 use Rattle.world_law.specs.Worlds.{Event}
 use Rattle.world_law.specs.Worlds.Event.{Crash}
 use Rattle.world_law.specs.Clients.{RunsFrom, state_over, messages_in}
-use Rattle.session_world.specs.Running.{LeftBy}
-use Rattle.session_world.specs.Starting.{Show}
-use Rattle.session_world.specs.Stopping.{StopsIn, StopsBehind}
-use Rattle.session_world.proofs.ListLemmas.{runs_both, over_both}
-use Rattle.session_world.proofs.RunLemmas.{further, idle}
-use Rattle.session_world.proofs.StartLemmas.{starts_again, starts_keep}
-use Rattle.session_world.proofs.StopLemmas.{NoStop, past_stays}
-use Rattle.session_world.proofs.WholeLemmas.{whole_over}
+use Rattle.serve_world.specs.SessionRunning.{LeftBy}
+use Rattle.serve_world.specs.Starting.{Show}
+use Rattle.serve_world.specs.Stopping.{StopsIn, StopsBehind}
+use Rattle.serve_world.proofs.ListLemmas.{runs_both, over_both}
+use Rattle.serve_world.proofs.SessionRunLemmas.{further, idle}
+use Rattle.serve_world.proofs.SessionStarts.{starts_again, starts_keep}
+use Rattle.serve_world.proofs.SessionStops.{NoStop, past_stays}
+use Rattle.serve_world.proofs.WholeLemmas.{whole_over}
 use Rattle.program_end.specs.declared.closing.ClosingLine.{ClosingLine}
 use Rattle.program_end.specs.declared.closing.ClosingLine.TheVariants as closing
 use Rattle.program_end.specs.declared.status.Status.{Status}
@@ -51,12 +51,12 @@ use Rattle.journal_commands.specs.Views.{ClosedBy, Output}
 use Rattle.keymanager_api.specs.Serving.{LinkSeen}
 use Rattle.command_line.specs.declared.serve_options.ServeOptions.{ServeOptions}
 use Rattle.duty_turns.specs.Times.{epoch_of, slot_of}
-use Rattle.serve_loops.specs.Clients.{Parts}
-use Rattle.serve_loops.specs.Ends.{HasLanes, OnlyWrites, OverJournal, ServeEnds, ServesDesk, with_nodes}
-use Rattle.serve_start.specs.Starting.{ByGenesis, ClosesUnstarted, StartsBy}
-use Rattle.serve_start.specs.declared.start.Start.{Start}
-use Rattle.serve_start.specs.declared.start.Unstarted.{Unstarted as NoStart}
-use Rattle.serve_start.specs.declared.start.Unstarted.TheVariants as unstarted
+use Rattle.serve_run.specs.Clients.{Parts}
+use Rattle.serve_run.specs.Ends.{HasLanes, OnlyWrites, OverJournal, ServeEnds, ServesDesk, with_nodes}
+use Rattle.serve_run.specs.Starting.{ByGenesis, ClosesUnstarted, StartsBy}
+use Rattle.serve_run.specs.declared.start.Start.{Start}
+use Rattle.serve_run.specs.declared.start.Unstarted.{Unstarted as NoStart}
+use Rattle.serve_run.specs.declared.start.Unstarted.TheVariants as unstarted
 use Rattle.serve_world.specs.Acts.{AreActs}
 use Rattle.serve_world.specs.Running.{CameOf, OnlyAsked, OnlyBegins, ServiceGoesOn, Serviced, TellsOf, Unstarted, posted_of, question, restarted}
 use Rattle.serve_world.specs.Serving.{ServeRuns, ServeStops, ServeTold}

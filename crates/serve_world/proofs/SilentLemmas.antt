@@ -6,7 +6,7 @@ use Rattle.desk_machine.specs.Machine.{after}
 use Rattle.world_law.specs.Worlds.{Event, MayHappenAt, state_after}
 use Rattle.world_law.specs.Worlds.Event.{Call, Send, Crash}
 use Rattle.world_law.specs.Clients.{RunsFrom, state_over}
-use Rattle.session_world.proofs.StopLemmas.{NoStop}
+use Rattle.serve_world.proofs.SessionStops.{NoStop}
 use Rattle.session_run.specs.Silent.{IsActivation, IsAmong, IsClose}
 use Rattle.serve_world.specs.Acts.{call_in}
 use Rattle.serve_world.specs.Weaving.{calls_among}

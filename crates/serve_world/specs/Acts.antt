@@ -5,7 +5,7 @@ use Rattle.desk_machine.specs.declared.call.DeskReply.{DeskReply}
 use Rattle.check_sign.specs.Contents.{Seen}
 use Rattle.world_law.specs.Worlds.{Event}
 use Rattle.world_law.specs.Worlds.Event.{Call, Send, Crash}
-use Rattle.session_world.specs.Events.{calls_of, send_of}
+use Rattle.serve_world.specs.Events.{calls_of, send_of}
 use Rattle.duty_plans.specs.Steps.{DutyStep, Calls, Posts, Replies}
 use Rattle.duty_turns.specs.TurnSteps.{TurnStep}
 use Rattle.duty_loop.specs.Guarding.{lane_steps, loop_steps}
@@ -13,10 +13,10 @@ use Rattle.keymanager_api.specs.Serving.{LinkSeen}
 use Rattle.keymanager_api.specs.Visits.{Visit, calls_in}
 use Rattle.command_line.specs.declared.serve_options.ServeOptions.{ServeOptions}
 use Rattle.program_end.specs.declared.status.Status.{Status}
-use Rattle.serve_loops.specs.Clients.{Parts}
-use Rattle.serve_loops.specs.Ends.{ServesDesk}
-use Rattle.serve_loops.specs.Serving.{steps_in}
-use Rattle.serve_start.specs.declared.start.Start.{Start}
+use Rattle.serve_run.specs.Clients.{Parts}
+use Rattle.serve_run.specs.Ends.{ServesDesk}
+use Rattle.serve_run.specs.Serving.{steps_in}
+use Rattle.serve_run.specs.declared.start.Start.{Start}
 use Rattle.serve_world.specs.Weaving.{Act, IsWoven}
 
 -- a call with its reply, where an event is one

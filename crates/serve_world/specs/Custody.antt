@@ -20,7 +20,7 @@ use Rattle.key_custody.specs.Statuses.{handed_keys}
 use Rattle.check_sign.specs.Contents.{Seen}
 use Rattle.world_law.specs.Worlds.{Event}
 use Rattle.world_law.specs.Worlds.Event.{Call}
-use Rattle.session_world.specs.Events.{calls_of}
+use Rattle.serve_world.specs.Events.{calls_of}
 use Rattle.keymanager_routes.specs.declared.reply.Reply.{Reply}
 use Rattle.keymanager_bodies.specs.Bodies.{deletion_reply}
 use Rattle.keymanager_api.specs.Doors.{Hall}
@@ -30,10 +30,10 @@ use Rattle.keymanager_api.specs.Visits.{Visit, Visits, asks_failed, calls_in}
 use Rattle.duty_turns.specs.Times.{epoch_of, slot_of}
 use Rattle.command_line.specs.declared.serve_options.ServeOptions.{ServeOptions}
 use Rattle.program_end.specs.declared.status.Status.{Status}
-use Rattle.serve_loops.specs.Clients.{Parts}
-use Rattle.serve_loops.specs.Ends.{ServesDesk}
-use Rattle.serve_loops.specs.Views.{Calls, Grew}
-use Rattle.serve_start.specs.declared.start.Start.{Start}
+use Rattle.serve_run.specs.Clients.{Parts}
+use Rattle.serve_run.specs.Ends.{ServesDesk}
+use Rattle.serve_run.specs.Views.{Calls, Grew}
+use Rattle.serve_run.specs.declared.start.Start.{Start}
 use Rattle.serve_world.specs.Acts.{AreActs}
 use Rattle.serve_world.specs.Weaving.{Act, act, of_thread}
 

@@ -20,10 +20,10 @@ use Rattle.world_law.specs.Worlds.Event.{Call}
 use Rattle.world_law.specs.Clients.{own, messages_in}
 use Rattle.world_law.specs.Law.{NoneWhileClosed}
 use Rattle.world_law.specs.Lawful.{IsLawful}
-use Rattle.session_world.specs.Events.{calls_of}
-use Rattle.session_world.specs.Running.{Called, Idle, IsOfChain, LeftBy, Served, started}
-use Rattle.session_world.specs.Starting.{Show}
-use Rattle.session_world.specs.Stopping.{StopsIn}
+use Rattle.serve_world.specs.Events.{calls_of}
+use Rattle.serve_world.specs.SessionRunning.{Called, Idle, IsOfChain, LeftBy, Served, started}
+use Rattle.serve_world.specs.Starting.{Show}
+use Rattle.serve_world.specs.Stopping.{StopsIn}
 use Rattle.service_url.specs.Services.{Service}
 use Rattle.validator_cli.specs.Clients.{ClientRuns}
 use Rattle.validator_cli.specs.Endings.{Outside, RunEnds}
@@ -31,7 +31,7 @@ use Rattle.command_line.specs.Plans.{Asked, session}
 use Rattle.keymanager_api.specs.Serving.{LinkSeen}
 use Rattle.command_line.specs.declared.serve_options.ServeOptions.{ServeOptions}
 use Rattle.program_end.specs.declared.status.Status.{Status}
-use Rattle.serve_loops.specs.Clients.{Parts}
+use Rattle.serve_run.specs.Clients.{Parts}
 use Rattle.serve_world.specs.Running.{Serviced, TellsOf, Unstarted, restarted}
 use Rattle.serve_world.specs.Weaving.{Act, done_in}
 

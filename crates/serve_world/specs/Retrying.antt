@@ -25,9 +25,9 @@ use Rattle.session_run.specs.Silent.{IsActivation, IsAmong}
 use Rattle.keymanager_api.specs.Serving.{LinkSeen}
 use Rattle.command_line.specs.declared.serve_options.ServeOptions.{ServeOptions}
 use Rattle.program_end.specs.declared.status.Status.{Status}
-use Rattle.serve_loops.specs.Clients.{Parts}
-use Rattle.serve_loops.specs.Ends.{ServesDesk}
-use Rattle.serve_start.specs.declared.start.Start.{Start}
+use Rattle.serve_run.specs.Clients.{Parts}
+use Rattle.serve_run.specs.Ends.{ServesDesk}
+use Rattle.serve_run.specs.declared.start.Start.{Start}
 
 -- none of these calls makes one of the keys active
 abbrev pub NoneMadeActive : List PubKey → List (DeskCall × DeskReply) → Type 0

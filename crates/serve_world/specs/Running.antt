@@ -27,22 +27,22 @@ use Rattle.key_custody.specs.Once.{IsWhole}
 use Rattle.world_law.specs.Worlds.{Event}
 use Rattle.world_law.specs.Worlds.Event.{Crash}
 use Rattle.world_law.specs.Clients.{RunsFrom, state_over, own, messages_in}
-use Rattle.session_world.specs.Others.{AreOfAnother}
-use Rattle.session_world.specs.Running.{LeftBy, StaysSo}
-use Rattle.session_world.specs.Starting.{Show}
-use Rattle.session_world.specs.Stopping.{StopsIn, StopsBehind}
+use Rattle.serve_world.specs.Others.{AreOfAnother}
+use Rattle.serve_world.specs.SessionRunning.{LeftBy, StaysSo}
+use Rattle.serve_world.specs.Starting.{Show}
+use Rattle.serve_world.specs.Stopping.{StopsIn, StopsBehind}
 use Rattle.duty_turns.specs.Times.{epoch_of, slot_of}
 use Rattle.keymanager_api.specs.Serving.{LinkSeen}
 use Rattle.command_line.specs.declared.serve_options.ServeOptions.{ServeOptions}
 use Rattle.program_end.specs.declared.closing.ClosingLine.{ClosingLine}
 use Rattle.program_end.specs.declared.status.Status.{Status}
 use Rattle.journal_commands.specs.Views.{ClosedBy}
-use Rattle.serve_loops.specs.Clients.{Parts}
-use Rattle.serve_loops.specs.Ends.{HasLanes, OnlyWrites, ServesDesk, Unserved, posted_in_lanes, with_nodes}
-use Rattle.serve_loops.specs.Serving.{steps_in}
-use Rattle.serve_start.specs.Starting.{StartsBy}
-use Rattle.serve_start.specs.declared.start.Start.{Start}
-use Rattle.serve_start.specs.declared.start.Unstarted.{Unstarted as NoStart}
+use Rattle.serve_run.specs.Clients.{Parts}
+use Rattle.serve_run.specs.Ends.{HasLanes, OnlyWrites, ServesDesk, Unserved, posted_in_lanes, with_nodes}
+use Rattle.serve_run.specs.Serving.{steps_in}
+use Rattle.serve_run.specs.Starting.{StartsBy}
+use Rattle.serve_run.specs.declared.start.Start.{Start}
+use Rattle.serve_run.specs.declared.start.Unstarted.{Unstarted as NoStart}
 use Rattle.validator_cli.specs.Clients.{ClientRuns}
 use Rattle.serve_world.specs.Acts.{AreActs, call_in}
 use Rattle.serve_world.specs.Weaving.{Act, done_in, turns_in}

@@ -11,17 +11,17 @@ use Rattle.check_sign.specs.Standing.{DeskStands}
 use Rattle.desk_seat.specs.Turns.{calls_of}
 use Rattle.world_law.specs.Worlds.{Event}
 use Rattle.world_law.specs.Clients.{RunsFrom, state_over, own, messages_in}
-use Rattle.session_world.specs.Stopping.{StopsBehind}
+use Rattle.serve_world.specs.Stopping.{StopsBehind}
 use Rattle.duty_plans.specs.Guards.{posted_in}
 use Rattle.duty_turns.specs.TurnSteps.{TurnStep}
 use Rattle.duty_loop.specs.Guarding.{lane_steps}
 use Rattle.keymanager_api.specs.Serving.{LinkSeen}
 use Rattle.command_line.specs.declared.serve_options.ServeOptions.{ServeOptions}
 use Rattle.program_end.specs.declared.status.Status.{Status}
-use Rattle.serve_loops.specs.Clients.{Parts}
-use Rattle.serve_loops.specs.Ends.{ServesDesk, lane_number, posted_in_lanes}
-use Rattle.serve_loops.specs.Serving.{steps_in}
-use Rattle.serve_start.specs.declared.start.Start.{Start}
+use Rattle.serve_run.specs.Clients.{Parts}
+use Rattle.serve_run.specs.Ends.{ServesDesk, lane_number, posted_in_lanes}
+use Rattle.serve_run.specs.Serving.{steps_in}
+use Rattle.serve_run.specs.declared.start.Start.{Start}
 use Rattle.serve_world.specs.Acts.{AreActs, call_in}
 use Rattle.serve_world.specs.Weaving.{Act, act, done_in, of_thread, turns_in}
 

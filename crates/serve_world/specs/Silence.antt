@@ -16,9 +16,9 @@ use Rattle.world_law.specs.Worlds.Event.{Call, Send, Crash}
 use Rattle.keymanager_api.specs.Serving.{LinkSeen}
 use Rattle.command_line.specs.declared.serve_options.ServeOptions.{ServeOptions}
 use Rattle.program_end.specs.declared.status.Status.{Status}
-use Rattle.serve_loops.specs.Clients.{Parts}
-use Rattle.serve_loops.specs.Ends.{ServesDesk}
-use Rattle.serve_start.specs.declared.start.Start.{Start}
+use Rattle.serve_run.specs.Clients.{Parts}
+use Rattle.serve_run.specs.Ends.{ServesDesk}
+use Rattle.serve_run.specs.declared.start.Start.{Start}
 use Rattle.serve_world.specs.Acts.{AreActs, call_in}
 use Rattle.serve_world.specs.Weaving.{Act, calls_among, done_in}
 

@@ -20,8 +20,8 @@ use Rattle.program_end.specs.declared.limit.Limit.TheVariants as limit
 use Rattle.program_end.specs.declared.status.Status.{Status}
 use Rattle.program_end.specs.declared.status.Status.TheVariants as status
 use Rattle.program_end.proofs.ClosingLemmas.{closed_by}
-use Rattle.input_lines.specs.Lines.{IsShortLine, BeginsTooLong}
-use Rattle.input_lines.specs.Reading.{Pending, ReadsMore, GivesLine, piece_size}
+use Rattle.session_run.specs.Lines.{IsShortLine, BeginsTooLong}
+use Rattle.session_run.specs.Reading.{Pending, ReadsMore, GivesLine, piece_size}
 use Rattle.session_run.specs.Inputs.{HasRead, ReadsWhole, ReadsFirst, IsNext, StopsReading, StoppedShort, PassesLimit, WithinLimits}
 use Rattle.session_run.specs.Acts.{AtBench, DeskFares, Unanswered}
 use Rattle.std.specs.Map.{keys_of}
@@ -30,9 +30,9 @@ use Rattle.session_run.specs.Turns.{Turn, made, moment_after, written, text_of}
 use Rattle.session_run.specs.Runs.{Run}
 use Rattle.session_run.specs.Ends.{Wires, Because, Closed, EndsBy, Ends, IsFront, IsWhole}
 use Rattle.session_run.specs.Exits.{IsTurn, ServesLine, UnservedCloses, UnreadCloses}
-use Rattle.input_lines.specs.declared.next.LineFault.{LineFault}
-use Rattle.input_lines.specs.declared.next.LineFault.TheVariants as fault
-use Rattle.input_lines.specs.declared.next.Next.TheVariants as next
+use Rattle.session_run.specs.declared.next.LineFault.{LineFault}
+use Rattle.session_run.specs.declared.next.LineFault.TheVariants as fault
+use Rattle.session_run.specs.declared.next.Next.TheVariants as next
 use Rattle.session_run.specs.declared.session.Unserved.{Unserved}
 use Rattle.session_run.specs.declared.session.Unserved.TheVariants as unserved
 use Rattle.session_run.proofs.ReadLemmas.{read_none, read_on, read_line, read_last, left_few, first_of, first_whole, line_fits, no_line_fits, one_line, no_line}

@@ -1,3 +1,5 @@
+pub mod LineLemmas
+pub mod ReadingLemmas
 pub mod FareLemmas
 pub mod OnceLemmas
 pub mod KeptLemmas

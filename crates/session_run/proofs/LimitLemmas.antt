@@ -5,7 +5,7 @@ use Rattle.std.proofs.lemmas.Grind.{common_steps}
 use Rattle.program_end.specs.Limits.{line_limit, input_limit}
 use Rattle.program_end.specs.declared.limit.Limit.{Limit}
 use Rattle.program_end.specs.declared.limit.Limit.TheVariants as limit
-use Rattle.input_lines.specs.Lines.{lines_of, lines_after, IsOneLine, BeginsTooLong}
+use Rattle.session_run.specs.Lines.{lines_of, lines_after, IsOneLine, BeginsTooLong}
 use Rattle.session_run.specs.Turns.{Turn, line_of}
 use Rattle.session_run.specs.Inputs.{HasRead, AreShort, PassesLimit, StopsReading, WithinLimits}
 

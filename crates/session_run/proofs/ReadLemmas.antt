@@ -6,8 +6,8 @@ use Rattle.std.proofs.lemmas.List.{append-nil, map-append, get_or_append_left}
 use Rattle.std.proofs.lemmas.Grind.{common_steps, flat_map-append}
 use Rattle.edge_kit.proofs.TellingLemmas.{Consumes-nil, Consumes-trans}
 use Rattle.program_end.specs.Limits.{line_limit, input_limit}
-use Rattle.input_lines.specs.Lines.{lines_of, lines_after, IsOneLine, IsShortLine}
-use Rattle.input_lines.specs.Reading.{Pending, ReadsAhead, ReadsMore, piece_size}
+use Rattle.session_run.specs.Lines.{lines_of, lines_after, IsOneLine, IsShortLine}
+use Rattle.session_run.specs.Reading.{Pending, ReadsAhead, ReadsMore, piece_size}
 use Rattle.session_run.specs.Turns.{Turn, line_of}
 use Rattle.session_run.specs.Inputs.{HasRead, ReadsWhole, ReadsFirst, AreShort, ended_line, ended_lines, last_lines}
 

@@ -8,8 +8,8 @@ use Rattle.program_end.specs.Endings.{Closes, WritesFront, IsUnwritten}
 use Rattle.program_end.specs.declared.closing.ClosingLine.TheVariants as closing
 use Rattle.program_end.specs.declared.status.Status.{Status}
 use Rattle.program_end.specs.declared.status.Status.TheVariants as status
-use Rattle.input_lines.specs.declared.next.LineFault.{LineFault}
-use Rattle.input_lines.specs.declared.next.LineFault.TheVariants as fault
+use Rattle.session_run.specs.declared.next.LineFault.{LineFault}
+use Rattle.session_run.specs.declared.next.LineFault.TheVariants as fault
 use Rattle.session_run.specs.declared.session.Unserved.{Unserved}
 use Rattle.session_run.specs.declared.session.Unserved.TheVariants as unserved
 use Rattle.session_run.specs.Acts.{AtBench, Turned, Unanswered}

@@ -4,8 +4,8 @@ use Rattle.std.specs.Io.KnownBytes.{Consumes, IsAtEnd}
 use Rattle.program_end.specs.Limits.{line_limit, input_limit}
 use Rattle.program_end.specs.declared.limit.Limit.{Limit}
 use Rattle.program_end.specs.declared.limit.Limit.TheVariants as limit
-use Rattle.input_lines.specs.Lines.{lines_of, IsShortLine, BeginsTooLong}
-use Rattle.input_lines.specs.Reading.{piece_size}
+use Rattle.session_run.specs.Lines.{lines_of, IsShortLine, BeginsTooLong}
+use Rattle.session_run.specs.Reading.{piece_size}
 use Rattle.session_run.specs.Turns.{Turn, line_of}
 
 -- The turns are the lines that ended in what was read; what is pending goes on.

@@ -1,3 +1,5 @@
+pub mod Lines
+pub mod Reading
 pub mod Plans
 pub mod Turns
 pub mod Acts

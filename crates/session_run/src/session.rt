@@ -7,8 +7,9 @@ ghost use Rattle.session_run.specs.Exits.{ServesLine, UnreadCloses, UnservedClos
 ghost use Rattle.session_run.specs.Inputs.{WithinLimits};
 
 use crate::bench::Bench;
+use crate::lines::Lines;
+use crate::next::{LineFault, Next};
 use edge_kit::{Disk, Failed, Sink, Source};
-use input_lines::{LineFault, Lines, Next};
 use program_end::{ClosingLine, Limit, Status, close, write_all};
 use session_format::read_request;
 use sign_roots::Domains;

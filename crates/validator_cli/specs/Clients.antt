@@ -12,9 +12,9 @@ use Rattle.keymanager_api.specs.Serving.{LinkSeen}
 use Rattle.keymanager_api.specs.Doors.{door_seen}
 use Rattle.command_line.specs.declared.serve_options.ServeOptions.{ServeOptions}
 use Rattle.journal_commands.specs.Views.{output_of}
-use Rattle.serve_loops.specs.Clients.{Parts, lane_ends_seen}
-use Rattle.serve_loops.specs.declared.lanes.LaneEnd.{LaneEnd}
-use Rattle.serve_loops.specs.Ends.{ServeEnds}
+use Rattle.serve_run.specs.Clients.{Parts, lane_ends_seen}
+use Rattle.serve_run.specs.declared.lanes.LaneEnd.{LaneEnd}
+use Rattle.serve_run.specs.Ends.{ServeEnds}
 
 -- what the parts of a client tell that are handed in and out; none of its nodes counts as syncing but by these flags
 abbrev pub parts_of : {S N R C O : Type 0} → (S → Option (List Told)) → (S → ℕ) → (S → ℕ) → (N → Option (List NodeCall)) → (N → ℕ) → (R → Option (List C)) → (R → Option (List C)) → (R → ℕ) → (O → Option (List ℕ)) → (O → ℕ)

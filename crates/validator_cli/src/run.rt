@@ -6,7 +6,7 @@ ghost use Rattle.keymanager_api.specs.Doors.{link_seen};
 ghost use Rattle.command_line.specs.Plans.{asked_of, nothing, serve};
 ghost use Rattle.command_line.specs.declared.serve_options.ServeOptions.{ServeOptions};
 ghost use Rattle.journal_commands.specs.Views.{Unwritten, output_of};
-ghost use Rattle.serve_loops.specs.Ends.{Because};
+ghost use Rattle.serve_run.specs.Ends.{Because};
 ghost use Rattle.validator_cli.specs.Clients.{ClientRuns, parts_of};
 ghost use Rattle.validator_cli.specs.Endings.{Causes, IsComplete, IsOther, IsWithin, NoCommand, RunEnds, outside_of};
 

@@ -5,7 +5,7 @@ ghost use Rattle.record_journal.specs.TwoDisks.{EitherRose};
 ghost use Rattle.keymanager_api.specs.Doors.{link_seen};
 ghost use Rattle.command_line.specs.Plans.{asked_of, serve};
 ghost use Rattle.command_line.specs.declared.serve_options.ServeOptions.{ServeOptions};
-ghost use Rattle.serve_loops.specs.Ends.{Because, IsServe};
+ghost use Rattle.serve_run.specs.Ends.{Because, IsServe};
 ghost use Rattle.validator_cli.specs.Clients.{ClientEnds, parts_of};
 ghost use Rattle.validator_cli.specs.Endings.{IsOther};
 

@@ -2,9 +2,9 @@ use Rattle.std.specs.Prelude.{vec_len}
 use Rattle.std.proofs.lemmas.Grind.{common_steps}
 use Rattle.std.proofs.Common.{◌≡◌, ◌∙◌, List, [], inr, arith, length, refl}
 use Rattle.std.proofs.lemmas.List.{length-map}
-use Rattle.serve_loops.specs.Clients.{Parts, lane_end_seen, lane_ends_seen, parts_seen}
-use Rattle.serve_loops.specs.declared.lanes.LaneEnd.{LaneEnd}
-use Rattle.serve_loops.proofs.EquipLemmas.{lanes_of}
+use Rattle.serve_run.specs.Clients.{Parts, lane_end_seen, lane_ends_seen, parts_seen}
+use Rattle.serve_run.specs.declared.lanes.LaneEnd.{LaneEnd}
+use Rattle.serve_run.proofs.EquipLemmas.{lanes_of}
 use Rattle.serve_run.proofs.run.serve_from.Goals as goal
 
 pub returns-in-Ok-clause-serves : goal.returns-in-Ok-clause-serves

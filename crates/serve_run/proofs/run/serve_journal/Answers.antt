@@ -6,9 +6,9 @@ use Rattle.keymanager_api.specs.Doors.{link_seen}
 use Rattle.duty_turns.specs.Times.{epoch_of}
 use Rattle.journal_commands.specs.Openings.{HadDeskAt}
 use Rattle.journal_commands.proofs.OpeningLemmas.{Handed}
-use Rattle.serve_loops.specs.Clients.{Parts, parts_seen}
-use Rattle.serve_loops.specs.Ends.{ServesDesk, Unserved}
-use Rattle.serve_loops.proofs.DeskLemmas.{had_client, had_unserved, journal_because, unserved_because}
+use Rattle.serve_run.specs.Clients.{Parts, parts_seen}
+use Rattle.serve_run.specs.Ends.{ServesDesk, Unserved}
+use Rattle.serve_run.proofs.DeskLemmas.{had_client, had_unserved, journal_because, unserved_because}
 use Rattle.serve_run.proofs.run.serve_journal.Goals as goal
 
 pub returns-clause-serves : goal.returns-clause-serves

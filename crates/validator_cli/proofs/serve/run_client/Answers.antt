@@ -1,6 +1,6 @@
 use Rattle.std.proofs.Common.{◌≡◌, List, [], Bool, rules, subst}
 use Rattle.keymanager_api.specs.Doors.{link_seen}
-use Rattle.serve_loops.specs.Ends.{ServeEnds}
+use Rattle.serve_run.specs.Ends.{ServeEnds}
 use Rattle.validator_cli.specs.Clients.{parts_of}
 use Rattle.validator_cli.proofs.serve.run_client.Goals as goal
 

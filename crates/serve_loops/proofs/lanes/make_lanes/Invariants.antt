@@ -1,9 +1,0 @@
-use Rattle.std.proofs.Common.{◌≡◌, All, length}
-use Rattle.serve_loops.specs.Equipping.{IsMadeOf}
-use Rattle.serve_loops.proofs.lanes.make_lanes.Given as goal
-
-abbrev pub invariant-lanes : goal.invariant-lanes
-invariant-lanes g l = record {
-  count : length l.lanes.items ≡ l._lane;
-  each : All (IsMadeOf g.S.Signer.told g.S.Signer.faults g.S.Signer.denials g.N.Node.told g.N.Node.faults l.fn.signer l.fn.nodes) l.lanes.items;
-}

@@ -1,0 +1,7 @@
+pub mod Clients
+pub mod Equipping
+pub mod Serving
+pub mod Seating
+pub mod Ends
+pub mod Views
+pub mod Starting
