@@ -1,5 +1,6 @@
 //! Whether a request that is coming in is to be served now.
 use crate::chunk_scan::ChunkScan;
+use edge_kit::read_quoted;
 use httparse::Status;
 use httparse::spans::{EMPTY_HEADER_SPAN, parse_request};
 
@@ -37,13 +38,31 @@ enum Framing {
 struct Front {
     /// Where the body begins.
     end: usize,
-    /// It bears the token.
-    is_let_in: bool,
-    /// Its sender waits to be asked for the body (RFC 9110, `Expect`).
+    /// It is not refused for its method or its target.
+    is_known: bool,
+    /// Whether the token that it bears is the one that is wanted, if it bears any.
+    fits: Option<bool>,
+    /// It says that its sender waits to be asked for the body (RFC 9110, `Expect`).
     waits: bool,
     /// Its body is in a coding, and is not read (RFC 9110, `Content-Encoding`).
     is_encoded: bool,
     framing: Framing,
+}
+
+impl Front {
+    // Whether it is refused for what it says, whatever its body.
+    fn is_refused(&self) -> bool {
+        !self.is_known || self.fits != Some(true) || self.is_encoded
+    }
+
+    // Whether a body follows that is read, if the head is not refused.
+    fn has_body(&self) -> bool {
+        match self.framing {
+            Framing::Sized(length) => 0 < length && length <= BODY_LIMIT,
+            Framing::Chunked => true,
+            Framing::Unsaid | Framing::Bad => false,
+        }
+    }
 }
 
 /// What has come in of a request, as far as it was looked at.
@@ -65,8 +84,8 @@ impl Coming {
 
     /// Whether the request, of which this has come in, is to be served now: it is whole, or what is missing decides nothing,
     /// since what has come in is no request, or its head does not bear this token, has a method or a target that is refused,
-    /// or announces no body that is read, or since its sender waits to be asked for the body. Only how long others wait rests
-    /// on the answer: who serves the request judges it by itself.
+    /// or announces no body that is read. Only how long others wait rests on the answer: who serves the request judges it by
+    /// itself.
     pub(crate) fn is_ready(&mut self, arrived: &[u8], token: &str) -> bool {
         let front = match self.front {
             Some(front) => front,
@@ -76,11 +95,19 @@ impl Coming {
             },
         };
         self.front = Some(front);
-        let Some((head, body)) = arrived.split_at_checked(front.end) else {
+        let Some(body) = arrived.get(front.end..) else {
             return true;
         };
-        let is_refused = !front.is_let_in || front.is_encoded || !is_known(head);
-        is_refused || front.waits || arrived.len() >= ARRIVED_LIMIT || self.is_whole(front, body)
+        front.is_refused() || arrived.len() >= ARRIVED_LIMIT || self.is_whole(front, body)
+    }
+
+    /// Whether the head has come in, is not refused, and says that its sender waits to be asked for the body, of which one is
+    /// read: as `http_wire::expects_continue` has it.
+    pub(crate) fn waits_to_be_asked(&self) -> bool {
+        match &self.front {
+            Some(front) => front.waits && !front.is_refused() && front.has_body(),
+            None => false,
+        }
     }
 
     // Whether a body is there, or as much of it as is read at most.
@@ -126,7 +153,8 @@ fn is_known(head: &[u8]) -> bool {
 fn front_of(head: &[u8], token: &str) -> Front {
     let mut front = Front {
         end: head.len(),
-        is_let_in: false,
+        is_known: is_known(head),
+        fits: None,
         waits: false,
         is_encoded: false,
         framing: Framing::Unsaid,
@@ -148,7 +176,7 @@ fn note(front: &mut Front, line: &[u8], token: &str) {
         .unwrap_or(&[])
         .trim_ascii();
     if name.eq_ignore_ascii_case(b"authorization") {
-        front.is_let_in = bears(value, token);
+        front.fits = front.fits.or(bears(value, token));
     } else if name.eq_ignore_ascii_case(b"content-length") {
         front.framing = sized(number_of(value), front.framing);
     } else if name.eq_ignore_ascii_case(b"transfer-encoding") {
@@ -156,7 +184,7 @@ fn note(front: &mut Front, line: &[u8], token: &str) {
     } else if name.eq_ignore_ascii_case(b"content-encoding") {
         front.is_encoded |= !value.eq_ignore_ascii_case(b"identity");
     } else if name.eq_ignore_ascii_case(b"expect") {
-        front.waits = true;
+        front.waits |= value.eq_ignore_ascii_case(b"100-continue");
     }
 }
 
@@ -177,24 +205,17 @@ fn coded(is_chunked: bool, framing: Framing) -> Framing {
     }
 }
 
-// Whether a field is `Bearer TOKEN`, in letters of any case.
-fn bears(value: &[u8], token: &str) -> bool {
-    let Some((scheme, rest)) = value.split_at_checked(6) else {
-        return false;
-    };
-    scheme.eq_ignore_ascii_case(b"bearer") && rest.trim_ascii() == token.as_bytes()
+// Whether what follows `Bearer `, in letters of any case, is this token; None where a field is not of that form.
+fn bears(value: &[u8], token: &str) -> Option<bool> {
+    let (scheme, given) = value.split_at_checked(7)?;
+    if scheme.eq_ignore_ascii_case(b"bearer ") {
+        Some(given == token.as_bytes())
+    } else {
+        None
+    }
 }
 
-// The number that these digits write, at most 2^64 - 1; none where they are no digits.
+// The number that these 1 to 20 digits write; none where they write none.
 fn number_of(digits: &[u8]) -> Option<u64> {
-    let mut number: u64 = 0;
-    'digits: for digit in digits {
-        if !digit.is_ascii_digit() {
-            return None;
-        }
-        number = number
-            .saturating_mul(10)
-            .saturating_add(u64::from(digit.saturating_sub(b'0')));
-    }
-    Some(number)
+    read_quoted(str::from_utf8(digits).ok()?)
 }

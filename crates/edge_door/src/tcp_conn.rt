@@ -7,15 +7,16 @@ ghost use Rattle.edge_kit.specs.Causes.{HasCause};
 use crate::key_outcomes::KeyOutcomes;
 use crate::leaving::Leaving;
 use crate::rest::Rest;
+use crate::waiting::CONTINUE;
 use edge_kit::{Failed, Link, count_fault};
 use edge_sockets::{Call, Heard, Span, Timed, recv_over, send_over};
 use edge_system::Reports;
 use std::alloc::{AllocError, Global};
-use std::io;
 use std::io::{Eprint, ErrorKind, Read, Write};
 use std::net::OpenStream;
 use std::rt::Clock;
 use std::time::Duration;
+use std::{io, mem};
 
 /// How many seconds the request of an accepted connection may last, from the start to its last byte, and its reply, from
 /// the first byte to the last.
@@ -26,11 +27,12 @@ pub(crate) const READ_SECONDS: u64 = 10;
 
 /// A connection that was accepted, with a count of its failures. A single read has a limit of time (10 seconds), and so
 /// have the whole request and the whole reply (30 seconds), the reply's from its first byte on; what is read after a
-/// response of status 100 has as long from that one on. It was begun by its peer, so `connect` begins no other, and fails.
+/// response of status 100 that it sends has as long from that one on. It was begun by its peer, so `connect` begins no other, and fails.
 ///
 /// A reply does not wait for its peer: `send` takes the whole piece, and what the system does not take at once is kept in
 /// memory. `hang_up` ends the calls at once; what is left of the reply is sent once the door has the connection back. A
-/// response of status 100 has left before the request is read on.
+/// response of status 100 has left before the request is read on. Where the door has sent that response already, the first
+/// `send`, if it is of just that, takes it as sent.
 ///
 /// It reports on standard error a request that changes something and one that is refused: the method, the target, the status
 /// and the first 200 bytes of the reply's body; and before that what became of each key that was to be taken in or given up.
@@ -44,6 +46,8 @@ pub struct TcpConn<S: Read + Write + OpenStream + Drop, C: Eprint + Clock + Drop
     arrived: Vec<u8>,
     /// How much of that was received.
     taken: usize,
+    /// Its peer was asked for the body before, or is not to be any more, and nothing was sent since.
+    is_asked: bool,
     /// The span of the reply, where one was begun.
     reply: Option<Span>,
     /// What is still to be sent of it.
@@ -67,13 +71,15 @@ fn timed<S: Read + Write + OpenStream + Drop>(
 }
 
 impl<S: Read + Write + OpenStream + Drop, C: Eprint + Clock + Drop> TcpConn<S, C> {
-    // A connection whose request is to be read within this span, where these bytes of it were read before, and that makes
-    // these reports. One of which the system does not let it read fails at each call.
+    // A connection whose request is to be read within this span, where these bytes of it were read before and its peer may
+    // have been asked for the body, and that makes these reports. One of which the system does not let it read fails at each
+    // call.
     pub(crate) fn new(
         alloc: Global,
         stream: S,
         span: Span,
         arrived: Vec<u8>,
+        is_asked: bool,
         clock: C,
         reports: Reports,
     ) -> Self
@@ -86,6 +92,7 @@ impl<S: Read + Write + OpenStream + Drop, C: Eprint + Clock + Drop> TcpConn<S, C
             ended: None,
             arrived,
             taken,
+            is_asked,
             reply: None,
             rest: Rest::new(alloc),
             clock,
@@ -103,6 +110,7 @@ impl<S: Read + Write + OpenStream + Drop, C: Eprint + Clock + Drop> TcpConn<S, C
             ended,
             arrived: _arrived,
             taken: _taken,
+            is_asked: _is_asked,
             reply,
             rest,
             clock: _clock,
@@ -119,6 +127,19 @@ impl<S: Read + Write + OpenStream + Drop, C: Eprint + Clock + Drop> TcpConn<S, C
         ensures { result ≡ self.now.faults }
     {
         self.faults
+    }
+
+    // Takes a piece that is to be sent. The response that asks for the body is not sent again.
+    fn take(&mut self, piece: &[u8]) -> io::Result<usize>
+        ensures bound { WritesAtMost result piece.now }
+        ensures some { IfOk result (λ n. 0 < length piece.now → 0 < n) }
+        ensures faults { self.new.faults ≡ self.old.faults }
+    {
+        let is_asked = mem::replace(&mut self.is_asked, false);
+        if is_asked && self.stream.is_some() && piece == CONTINUE {
+            return Ok(piece.len());
+        }
+        self.reply(piece)
     }
 
     // Begins a reply with its first piece. It has a limit of its own, and does not wait for the peer.
@@ -262,7 +283,7 @@ impl<S: Read + Write + OpenStream + Drop, C: Eprint + Clock + Copy + Drop> Link 
     }
 
     fn send(&mut self, piece: &[u8]) -> Result<usize, Failed> {
-        let sent = self.reply(piece);
+        let sent = self.take(piece);
         if let Ok(count) = &sent {
             self.note_reply(piece.get(..*count).unwrap_or(piece));
         }
@@ -298,6 +319,7 @@ impl<S: Read + Write + OpenStream + Drop, C: Eprint + Clock + Copy + Drop> Link 
             ended: None,
             arrived: Vec::new(alloc),
             taken: 0,
+            is_asked: false,
             reply: None,
             rest: Rest::new(alloc),
             clock: self.clock,

@@ -22,7 +22,9 @@ use std::rt::Clock;
 /// connection: no further one comes.
 ///
 /// Some connections wait beside each other until their requests have come in, so that a slow peer bars no other: the first
-/// whose request is there is given first. One whose head does not bear the token is given once that head is there.
+/// whose request is there is given first. One whose head does not bear the token is given once that head is there. A peer
+/// that bears it and sends its body only once it is asked to (RFC 9110, `Expect`) is asked as soon as its head is there, and
+/// waits like others.
 ///
 /// A connection that was taken back leaves beside the others: what is left of its reply is sent as its peer takes it, and
 /// then what the peer still sends is read and dropped, for 2 seconds at most and until it is silent for half a second, so
@@ -141,9 +143,17 @@ impl<N: Net + Eprint + Clock + Copy + Drop> TcpDoor<'_, N> {
     fn served(&self, waiting: Waiting<N::Stream>) -> TcpConn<N::Stream, N>
         ensures { result.faults ≡ 0 }
     {
-        let (stream, span, arrived) = waiting.into_parts();
+        let (stream, span, arrived, is_asked) = waiting.into_parts();
         let handle = *self.lobby.handle();
-        TcpConn::new(self.alloc, stream, span, arrived, handle, self.reports)
+        TcpConn::new(
+            self.alloc,
+            stream,
+            span,
+            arrived,
+            is_asked,
+            handle,
+            self.reports,
+        )
     }
 }
 

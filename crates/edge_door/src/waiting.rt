@@ -1,6 +1,6 @@
 //! Connections that were accepted and whose requests are coming in.
 use crate::request_front::Coming;
-use edge_sockets::{Span, is_later};
+use edge_sockets::{Span, is_later, write_now};
 use std::alloc::Global;
 use std::io;
 use std::io::{Read, Write};
@@ -14,6 +14,9 @@ const PLACES: usize = 8;
 /// How many bytes are read of a connection at a time.
 const PIECE_BYTES: usize = 16_384;
 
+/// The response that asks for the body of a request (RFC 9110, section 10.1.1).
+pub(crate) const CONTINUE: &[u8] = b"HTTP/1.1 100 Continue\r\n\r\n";
+
 /// A connection whose request is coming in.
 #[derive(Drop)]
 pub(crate) struct Waiting<S> {
@@ -23,6 +26,8 @@ pub(crate) struct Waiting<S> {
     silence: Span,
     arrived: Vec<u8>,
     coming: Coming,
+    /// Its peer was asked for the body, or is not to be asked any more.
+    is_asked: bool,
     /// Its request is to be served now: it is there, or nothing further comes in.
     is_due: bool,
 }
@@ -81,13 +86,13 @@ impl<S: Read + Write + OpenStream + Drop> Room<S> {
         }
     }
 
-    /// Reads what has come in of the requests that are not there yet, and finds the first connection whose request is to be
-    /// served now.
+    /// Reads what has come in of the requests that are not there yet, asks for the bodies whose senders wait for that, and
+    /// finds the first connection whose request is to be served now.
     pub(crate) fn look<C: Clock>(&mut self, clock: &C, token: &str) -> Look {
         let mut ready = None;
         let mut has_come = false;
         'waiting: for (place, waiting) in self.waiting.iter_mut().enumerate() {
-            let came = !waiting.is_due && waiting.read(clock, token);
+            let came = !waiting.is_due && waiting.work(clock, token);
             has_come |= came;
             if ready.is_none() && (waiting.is_due || !came && waiting.is_late(clock)) {
                 ready = Some(place);
@@ -127,21 +132,49 @@ impl<S: Read + Write + OpenStream + Drop> Waiting<S> {
             silence: span.with_limit(silent),
             arrived: Vec::new(alloc),
             coming: Coming::new(),
+            is_asked: false,
             is_due: false,
         })
     }
 
-    // The connection, its span, and what of its request has come in.
-    pub(crate) fn into_parts(self) -> (S, Span, Vec<u8>) {
+    // The connection, its span, what of its request has come in, and whether its peer was asked for the body, or is not to be
+    // any more.
+    pub(crate) fn into_parts(self) -> (S, Span, Vec<u8>, bool) {
         let Waiting {
             stream,
             span,
             silence: _silence,
             arrived,
             coming: _coming,
+            is_asked,
             is_due: _is_due,
         } = self;
-        (stream, span, arrived)
+        (stream, span, arrived, is_asked)
+    }
+
+    // Reads what has come in, and says whether anything has. Where its peer waits to be asked for the body, it is.
+    fn work<C: Clock>(&mut self, clock: &C, token: &str) -> bool {
+        let has_come = self.read(clock, token);
+        if !self.is_due && !self.is_asked && self.coming.waits_to_be_asked() {
+            self.ask();
+        }
+        has_come
+    }
+
+    // Asks its peer for the body. Where the system takes nothing now, that is left to the next look.
+    fn ask(&mut self) {
+        match write_now(&mut self.stream, CONTINUE) {
+            Ok(0) => {}
+            Ok(count) if count == CONTINUE.len() => self.is_asked = true,
+            _ => self.give_up(),
+        }
+    }
+
+    // Its request is to be served now, and whoever serves it finds its time over.
+    fn give_up(&mut self) {
+        self.span = self.span.with_limit(Duration::ZERO);
+        self.is_asked = true;
+        self.is_due = true;
     }
 
     // Reads what has come in, and says whether anything has. Where memory is wanted for it, it is left to whoever serves the
@@ -174,11 +207,11 @@ impl<S: Read + Write + OpenStream + Drop> Waiting<S> {
         }
     }
 
-    // Whether its request comes in too slowly. Whoever serves it finds its time over.
+    // Whether its request comes in too slowly, for which it is given up.
     fn is_late<C: Clock>(&mut self, clock: &C) -> bool {
         let is_late = self.span.left(clock).is_err() || self.silence.left(clock).is_err();
         if is_late {
-            self.span = self.span.with_limit(Duration::ZERO);
+            self.give_up();
         }
         is_late
     }

@@ -258,14 +258,16 @@ impl<N: Net + Eprint + Clock + Drop> TcpLink<N> {
     }
 
     // What the system answered, whose failure is counted and reported. A peer whose exchange passed its limit is set
-    // aside.
+    // aside. What was said is looked at only for the report.
     fn counted<T>(&mut self, done: io::Result<T>) -> Result<T, Failed>
         ensures same { result_ok result ≡ result_ok done }
         ensures cause { HasCause self.old.faults self.new.faults result }
     {
-        if let Err(error) = &done {
-            self.note_failure(error);
-        }
+        let error = match done {
+            Ok(value) => return Ok(value),
+            Err(error) => error,
+        };
+        self.note_failure(&error);
         let address = Address {
             host: &self.host,
             port: self.port,
@@ -273,9 +275,9 @@ impl<N: Net + Eprint + Clock + Drop> TcpLink<N> {
         if self.heard.is_begun() {
             let call = self.heard.call();
             let what = format_args!("{address}: {call}");
-            return counted(done, &self.handle, what, &mut self.faults);
+            return counted(Err(error), &self.handle, what, &mut self.faults);
         }
-        counted(done, &self.handle, address, &mut self.faults)
+        counted(Err(error), &self.handle, address, &mut self.faults)
     }
 }
 
