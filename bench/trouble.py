@@ -232,6 +232,33 @@ def asks_before_its_body(name):
     _, faults = told_of(child)
     return faults + ([] if came.startswith(b'HTTP/1.1 100 Continue\r\n\r\nHTTP/1.1 200') else [repr(came[:80])])
 
+def asked_and_slow(name):
+    """A peer that is asked for its body and sends it slowly bars no other, and is answered once all of it is there."""
+    child, _, genesis = begin(name, connections=3)
+    once_begun(genesis)
+    bearing, body = b'/eth/v1/keystores HTTP/1.1\r\nHost: a\r\nAuthorization: Bearer %s\r\n' % TOKEN.encode(), b'{"pubkeys":[]}'
+    others = [b'GET ' + bearing + b'\r\n', b'DELETE ' + bearing + b'Content-Length: 14\r\n\r\n' + body]
+    def run(link):
+        try:
+            for byte in body[:4]:
+                link.sendall(bytes([byte]))
+                time.sleep(2)
+            link.sendall(body[4:])
+        except OSError:
+            pass
+    with socket.create_connection(('127.0.0.1', port), timeout=60) as slow:
+        slow.sendall(b'DELETE ' + bearing + b'Expect: 100-Continue\r\nContent-Length: 14\r\n\r\n')
+        came, wrong = slow.recv(65536), []
+        threading.Thread(target=run, args=(slow,), daemon=True).start()
+        time.sleep(1)
+        for request in others:
+            told, took = answered([request])
+            wrong += [] if told.startswith(b'HTTP/1.1 200') and took < 2 else ['%r after %.1f s' % (told[:40], took)]
+        while piece := slow.recv(65536):
+            came += piece
+    _, faults = told_of(child)
+    return faults + wrong + ([] if came.startswith(b'HTTP/1.1 100 Continue\r\n\r\nHTTP/1.1 200') else [repr(came[:80])])
+
 def ends_at_once(name):
     """Each request is answered as soon as its end is there, or what it is no request by: none waits for more of it."""
     bearing = b'/eth/v1/keystores HTTP/1.1\r\nHost: a\r\nAuthorization: Bearer %s\r\n' % TOKEN.encode()
@@ -442,6 +469,7 @@ SCENES = {
     'few_files': few_files,
     'api_refuses_early': refused_early,
     'api_expects_continue': asks_before_its_body,
+    'api_asked_and_slow': asked_and_slow,
     'api_serves_at_the_end': ends_at_once,
     'api_reader_is_slow': slow_reader,
     'api_last_reader_is_slow': last_is_slow,
