@@ -88,25 +88,13 @@ def session_cut(name, number, place):
     wanted, opened, proposals = [USUAL], [STATES[7]], [IS_CLOSED]
     if place != 'after':
         wanted = [without(number, cause) for cause in causes(place)]
-        opened = [{0: ['closed 1 0'], 1: ['closed 0 2'], 4: ['closed 0 2', 'active 1 0'], 6: STATES[6]}.get(number, STATES[7])]
-        proposals = [{0: IS_UNKNOWN, 6: SIGNS}.get(number, IS_CLOSED)]
+        opened, proposals = [states_without(number)], [again_without(number)]
     row.want('status', status, 0)
     row.want('answers', came, *wanted)
     row.ended(status, came)
     row.opens(name, *opened)
     row.proposed_again(name, LAST, *proposals)
     return row
-
-def without(number, cause):
-    """What the session is answered where this call of the service fails so: it takes two keys in, signs twice, gives a key up, signs, and gives one up."""
-    failed = 'error signer: ' + cause.replace('_', ' ')
-    answers = list(USUAL)
-    if number == 0:
-        return ['imported %s imported' % failed, 'refused unknown', 'signed', 'deleted deleted', 'refused unknown', 'deleted not_found']
-    if number == 1:
-        return ['imported imported ' + failed, 'signed', 'refused unknown', 'deleted not_found', 'signed', 'deleted deleted']
-    answers[number - 1] = 'deleted ' + failed if number in (4, 6) else 'unsigned ' + cause
-    return answers
 
 def serve_cut(name, who, number, place):
     row = Row('serve, call %d of the %s, %s' % (number, who, place))
@@ -132,36 +120,12 @@ def serve_cut(name, who, number, place):
     row.proposed_again(name, VOTED, SIGNS)
     return row
 
-def due_with(asked, slot, place):
-    """The lines that are right where the connection of this request was cut in this slot. What the service failed to sign, a reveal
-    among it, and what no node took is tried once more."""
-    nobody, usual = ['%d nodes none' % slot], due_lines()
-    if place == 'after':
-        return [usual]
-    if slot == 1 and ('/head/' in asked or '/duties/' in asked):
-        return [usual[:1] + nobody + usual[1:]]
-    if '/head/validators' in asked or '/duties/attester' in asked:
-        return [nobody + due_lines(less=[(0, 'vote')])]
-    if '/head/fork' in asked or '/duties/proposer' in asked:
-        return [nobody + usual]
-    if DATA in asked:
-        return [due_lines(other={(slot, 'vote'): 'nodata none'})]
-    if '/eth/v2/validator/blocks' in asked:
-        return [due_lines(other={(1, 'block'): 'nodata none'})]
-    return [usual]
-
-def begin_deletion(name):
-    begin_serving(name)
-    run(words(name, 'session', signer.url, *FORKED), lines_of(VOTED[:1]))
-
-VOTE_KEPT, VOTE_CLOSED = ['active 0 0', 'active 0 1'], ['active 0 0', 'closed 0 1']
-
 def delete_cut(name, who, number, place):
     row = Row('DELETE, call %d of the %s, %s' % (number, who, place))
     begin_deletion(name)
     to_signer.begin(*((number, place) if who == 'service' else ()))
     to_node.begin(*((number, place) if who == 'node' else ()))
-    status, lines, reply = answer_once(name, to_signer.url, to_node.url, delete_request())
+    status, lines, reply, _ = answer_once(name, to_signer.url, to_node.url, delete_request())
     row.name += ' (%s)' % (to_node if who == 'node' else to_signer).asked[number]
     row.ended(status, lines)
     cut = place != 'after' and (who, number) != ('node', 0)

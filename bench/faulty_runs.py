@@ -1,4 +1,4 @@
-"""What `faults.py` uses: the runs of the program in which something goes wrong, what is looked at afterwards, and the workers that
+"""What `faults.py` and `no_memory.py` use: the runs of the program in which something goes wrong, what is looked at afterwards, and the workers that
 the rows are dealt to, each a process with a beacon node, a signing service and journals of its own."""
 import shutil, threading
 from stand_ins import *
@@ -34,6 +34,25 @@ LAST = vote(0, 40, ZERO), vote(0, 40, OTHER)
 SIGNS, IS_CLOSED, IS_UNKNOWN = ['signed', 'refused double_vote'], ['refused not_active'] * 2, ['refused unknown'] * 2
 AGAIN = [IS_UNKNOWN, SIGNS, SIGNS, SIGNS, SIGNS, SIGNS, SIGNS, IS_CLOSED]
 
+def without(number, cause):
+    """What the session is answered where this call of the service fails so: it takes two keys in, signs twice, gives a key up, signs, and gives one up."""
+    failed = 'error signer: ' + cause.replace('_', ' ')
+    answers = list(USUAL)
+    if number == 0:
+        return ['imported %s imported' % failed, 'refused unknown', 'signed', 'deleted deleted', 'refused unknown', 'deleted not_found']
+    if number == 1:
+        return ['imported imported ' + failed, 'signed', 'refused unknown', 'deleted not_found', 'signed', 'deleted deleted']
+    answers[number - 1] = 'deleted ' + failed if number in (4, 6) else 'unsigned ' + cause
+    return answers
+
+def states_without(number):
+    """How the keys stand after the session in which this call of the service failed."""
+    return {0: ['closed 1 0'], 1: ['closed 0 2'], 4: ['closed 0 2', 'active 1 0'], 6: STATES[6]}.get(number, STATES[7])
+
+def again_without(number):
+    """What its last proposal is answered then, with the same root and with another one."""
+    return {0: IS_UNKNOWN, 6: SIGNS}.get(number, IS_CLOSED)
+
 # What `serve` does in two slots.
 SERVED = [(0, 'vote', 0), (1, 'block', 0), (1, 'vote', 1)]
 VOTED = {'op': 'vote', 'pubkey': key(1), 'attestation': data_at(1)}, vote(1, 1, OTHER)
@@ -42,6 +61,24 @@ def due_lines(less=(), other=()):
     """The lines of the duties, but for some, and some with another result."""
     told = dict(other)
     return ['%d %s %s %s' % (slot, kind, key(n), told.get((slot, kind), 'sent')) for slot, kind, n in SERVED if (slot, kind) not in less]
+
+def due_with(asked, slot, place):
+    """The lines that are right where the connection of this request was cut in this slot. What the service failed to sign, a reveal
+    among it, and what no node took is tried once more."""
+    nobody, usual = ['%d nodes none' % slot], due_lines()
+    if place == 'after':
+        return [usual]
+    if slot == 1 and ('/head/' in asked or '/duties/' in asked):
+        return [usual[:1] + nobody + usual[1:]]
+    if '/head/validators' in asked or '/duties/attester' in asked:
+        return [nobody + due_lines(less=[(0, 'vote')])]
+    if '/head/fork' in asked or '/duties/proposer' in asked:
+        return [nobody + usual]
+    if DATA in asked:
+        return [due_lines(other={(slot, 'vote'): 'nodata none'})]
+    if '/eth/v2/validator/blocks' in asked:
+        return [due_lines(other={(1, 'block'): 'nodata none'})]
+    return [usual]
 
 # ---- runs
 
@@ -73,37 +110,51 @@ def begin_serving(name):
     node.set(genesis_time=int(time.time()) + 3, blocks={1: 0}, votes={0: 0, 1: 1})
     node.take(), signer.take()
 
+def begin_deletion(name):
+    begin_serving(name)
+    run(words(name, 'session', signer.url, *FORKED), lines_of(VOTED[:1]))
+
+VOTE_KEPT, VOTE_CLOSED = ['active 0 0', 'active 0 1'], ['active 0 0', 'closed 0 1']
+
 def delete_request():
     body = json.dumps({'pubkeys': [key(1)]}).encode()
     return b'DELETE /eth/v1/keystores HTTP/1.1\r\nHost: a\r\nAuthorization: Bearer %s\r\nContent-Length: %d\r\n\r\n%s' % (TOKEN.encode(), len(body), body)
 
-def replied(asked, child):
-    """Sends a request to the Keymanager API once it listens, and gives the reply, as far as one comes."""
-    came = b''
-    while child.poll() is None:
+def replied(asked, child, tries=1):
+    """Sends a request to the Keymanager API once it listens, and gives the reply, as far as one comes; once more where none comes and the program goes
+    on for two seconds, if there are as many tries."""
+    came, until = b'', time.time() + LIMIT
+    while child.poll() is None and time.time() < until:
         try:
             with socket.create_connection(('127.0.0.1', port), timeout=LIMIT) as link:
                 link.sendall(asked)
                 while piece := link.recv(65536):
                     came += piece
-            return came
         except ConnectionRefusedError:
             time.sleep(0.02)
+            continue
         except OSError:
+            pass
+        tries -= 1
+        if came or not tries:
             return came
+        try:
+            child.wait(2)
+        except subprocess.TimeoutExpired:
+            pass
     return came
 
-def answer_once(name, signer_url, node_url, asked, **more):
-    """Runs `serve` for one connection, over which this is asked; gives status, lines and reply."""
-    child = subprocess.Popen(serve_words(name, signer_url, node_url, 0, 1), stdout=subprocess.PIPE, stderr=subprocess.DEVNULL, text=True, **more)
-    reply = replied(asked, child)
+def answer_once(name, signer_url, node_url, asked, tries=1, **more):
+    """Runs `serve` for one connection, over which this is asked; gives status, lines, reply and what standard error has."""
+    child = subprocess.Popen(serve_words(name, signer_url, node_url, 0, 1), stdout=subprocess.PIPE, stderr=subprocess.PIPE, text=True, **more)
+    reply = replied(asked, child, tries)
     try:
-        out, _ = child.communicate(timeout=LIMIT)
+        out, told = child.communicate(timeout=LIMIT)
     except subprocess.TimeoutExpired:
         child.kill()
-        out, _ = child.communicate()
-        return 'none', out.splitlines(), reply
-    return child.returncode, out.splitlines(), reply
+        out, told = child.communicate()
+        return 'none', out.splitlines(), reply, told
+    return child.returncode, out.splitlines(), reply, told
 
 # ---- what is looked at afterwards
 
@@ -170,20 +221,21 @@ class Row:
         self.want('opens to', came, *wanted)
         return came
 
-    def proposed_again(self, name, proposals, *wanted):
+    def proposed_again(self, name, proposals, *wanted, asked=()):
+        """The last proposal comes again; `asked` is what was taken of the service's requests before."""
         came = again(name, *proposals)
         self.tell('the same ' + came[0], 'another one ' + came[-1])
         self.want('again', came, *wanted)
-        self.want('slashable at the service', slashable(signer.take()), [])
+        self.want('slashable at the service', slashable([*asked, *signer.take()]), [])
 
     def line(self):
         if self.wrong:
             return 'FAIL %s: %s (%s)' % (self.name, '; '.join(self.wrong), '; '.join(self.told))
         return 'pass %s: %s' % (self.name, '; '.join(self.told))
 
-def posts_fit(row, lines, may_be_unsaid=False):
+def posts_fit(row, lines, may_be_unsaid=False, asked=None):
     """Each duty that a line says is sent was posted; what was posted and has no such line is so where the run ended before its lines."""
-    posts = posted(node.take())
+    posts = posted(node.take() if asked is None else asked)
     for slot, kind, n in SERVED:
         is_said = '%d %s %s sent' % (slot, kind, key(n)) in lines
         there = any(r.target == (VOTES if kind == 'vote' else BLOCKS) and int(body['data' if kind == 'vote' else 'message']['slot']) == slot for r, body in posts)

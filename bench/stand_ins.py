@@ -89,6 +89,8 @@ class Server:
 # ---- the signing service: it holds every key
 
 def sign(state, method, target, body):
+    if target == '/eth/v1/keystores' and state.get('takes_no_key'):
+        return 400, {'message': 'not taken: ' + json.dumps(body)}
     if target == '/eth/v1/keystores':
         listed = body.get('keystores') or body.get('pubkeys')
         return 200, {'data': [{'status': 'imported' if method == 'POST' else 'deleted', 'message': ''} for _ in listed], 'slashing_protection': ''}
