@@ -9,19 +9,52 @@ const FRONT_BYTES: usize = 512;
 /// How many bytes of a body a report has at most.
 const BODY_BYTES: usize = 200;
 
+/// The front of what went one way, without a gap.
+#[derive(Drop)]
+struct Front {
+    bytes: Vec<u8>,
+    /// Memory was wanted for a piece: what came after it is not held.
+    is_cut: bool,
+}
+
+impl Front {
+    // Nothing went that way yet. Takes no memory.
+    fn new(alloc: Global) -> Self {
+        Front {
+            bytes: Vec::new(alloc),
+            is_cut: false,
+        }
+    }
+
+    // Nothing is held any more.
+    fn clear(&mut self) {
+        self.bytes.clear();
+        self.is_cut = false;
+    }
+
+    // Adds the front of a piece to what is held, as far as there is room for it.
+    fn hold(&mut self, piece: &[u8]) {
+        let room = FRONT_BYTES.saturating_sub(self.bytes.len());
+        let front = piece.get(..room).unwrap_or(piece);
+        if !self.is_cut {
+            self.is_cut = self.bytes.extend_from_slice(front).is_err();
+        }
+    }
+}
+
 /// The front of a request, and of its answer, by bytes as they went over a connection.
 #[derive(Drop)]
 pub struct Heard {
-    asked: Vec<u8>,
-    answered: Vec<u8>,
+    asked: Front,
+    answered: Front,
 }
 
 impl Heard {
     /// That of an exchange in which nothing was said yet. Takes no memory.
     pub fn new(alloc: Global) -> Self {
         Heard {
-            asked: Vec::new(alloc),
-            answered: Vec::new(alloc),
+            asked: Front::new(alloc),
+            answered: Front::new(alloc),
         }
     }
 
@@ -31,21 +64,21 @@ impl Heard {
         self.answered.clear();
     }
 
-    /// Holds the front of the request, of which this is one piece more. Where memory is wanted it holds less. What was
-    /// answered before was no answer to all of it, and is forgotten.
+    /// Holds the front of the request, of which this is one piece more. Where memory is wanted for a piece, neither it nor what
+    /// comes after it is held. What was answered before was no answer to all of it, and is forgotten.
     pub fn ask(&mut self, piece: &[u8]) {
         self.answered.clear();
-        hold(&mut self.asked, piece);
+        self.asked.hold(piece);
     }
 
-    /// Holds the front of the answer, of which this is one piece more.
+    /// Holds the front of the answer, of which this is one piece more, in the same way.
     pub fn answer(&mut self, piece: &[u8]) {
-        hold(&mut self.answered, piece);
+        self.answered.hold(piece);
     }
 
     // The front of the request, without what stands before its first line.
     fn request(&self) -> &[u8] {
-        self.asked.trim_ascii_start()
+        self.asked.bytes.trim_ascii_start()
     }
 
     /// The method and the target of the request.
@@ -56,17 +89,17 @@ impl Heard {
 
     /// Whether a request was begun.
     pub fn is_begun(&self) -> bool {
-        !self.asked.is_empty()
+        !self.asked.bytes.is_empty()
     }
 
     /// The three digits of the answer's status, if there are any.
     pub fn status(&self) -> Option<&[u8]> {
-        self.answered.get(9..12)
+        self.answered.bytes.get(9..12)
     }
 
     /// The front of the answer's body.
     pub fn body(&self) -> Visible<'_> {
-        let body = after(self.answered.as_slice(), b"\r\n\r\n");
+        let body = after(self.answered.bytes.as_slice(), b"\r\n\r\n");
         Visible::front(body)
     }
 
@@ -75,10 +108,11 @@ impl Heard {
         matches!(self.status(), Some(status) if !status.starts_with(b"2"))
     }
 
-    /// Whether keystores were sent. What answers that may have a part of them, and is not reported.
+    /// Whether keystores were sent, or may have been, where memory was wanted for the request. What answers that may have a part
+    /// of them, and is not reported.
     pub fn is_import(&self) -> bool {
         let line = before(self.request(), b"\r\n");
-        line.starts_with(b"POST ") && !after(line, b"/keystores").is_empty()
+        self.asked.is_cut || line.starts_with(b"POST ") && !after(line, b"/keystores").is_empty()
     }
 
     /// Whether what was asked changes something.
@@ -128,13 +162,6 @@ impl Display for Visible<'_> {
         }
         Ok(())
     }
-}
-
-// Adds the front of a piece to what is held, as far as there is room for it.
-fn hold(held: &mut Vec<u8>, piece: &[u8]) {
-    let room = FRONT_BYTES.saturating_sub(held.len());
-    let front = piece.get(..room).unwrap_or(piece);
-    let _ = held.extend_from_slice(front);
 }
 
 // The bytes before the first place at which this part is; all where it is at none.
