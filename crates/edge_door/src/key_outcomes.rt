@@ -2,7 +2,7 @@
 use crate::json_scan::{JsonScan, Met};
 use edge_sockets::Visible;
 use edge_system::Reports;
-use std::alloc::Global;
+use std::alloc::{AllocError, Global};
 use std::fmt;
 use std::fmt::{Display, Formatter};
 use std::io::Eprint;
@@ -115,6 +115,8 @@ pub(crate) struct KeyOutcomes {
     answered: JsonScan,
     search: KeySearch,
     keys: Vec<KeyDigits>,
+    /// Memory was wanted for a key: no later one is held.
+    is_cut: bool,
     outcome: Outcome,
     /// How many keys the reply has named so far.
     told: usize,
@@ -132,6 +134,7 @@ impl KeyOutcomes {
                 digits: Vec::new(alloc),
             },
             keys: Vec::new(alloc),
+            is_cut: false,
             outcome: Outcome {
                 status: Vec::new(alloc),
                 message: Vec::new(alloc),
@@ -166,13 +169,17 @@ impl KeyOutcomes {
         matches!(self.asked.member(), "pubkeys" | "keystores")
     }
 
-    // Keeps the key of a text that is over. Where memory is wanted it is not kept.
+    // Keeps the key of a text that is over. Where memory is wanted for one, neither it nor a later one is kept: so each that is
+    // kept stands at its place.
     fn keep_key(&mut self) {
-        if self.keys.len() < MOST_KEYS {
-            if let Ok(digits) = self.search.digits.as_slice().to_vec(self.alloc) {
-                let _ = self.keys.push(KeyDigits(digits));
-            }
+        if !self.is_cut && self.keys.len() < MOST_KEYS {
+            self.is_cut = self.push_key().is_err();
         }
+    }
+
+    fn push_key(&mut self) -> Result<(), AllocError> {
+        let digits = self.search.digits.as_slice().to_vec(self.alloc)?;
+        Ok(self.keys.push(KeyDigits(digits))?)
     }
 
     // Takes one piece more of the reply, and reports each key of which it says what became of it.
