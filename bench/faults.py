@@ -1,5 +1,6 @@
 """The rows of `faults.sh`: the built program, of whose outside calls one goes wrong. A row says what came: the status, the last line, how the keys stand
-when the journal is opened, and what the run's last proposal is answered when it comes again, first with the same root and then with another one."""
+when the journal is opened, and what the run's last proposal is answered when it comes again, with the same root, and over a copy of the journal with
+another one."""
 import resource, signal
 from faulty_runs import *
 
@@ -83,7 +84,7 @@ def session_cut(name, number, place):
     row = Row('session, call %d of the service, %s' % (number, place))
     to_signer.begin(number, place)
     status, lines, _ = run(words(name, 'session', to_signer.url, *FORKED), lines_of(REQUESTS))
-    came = [short(line) for line in lines]
+    came, of_service = [short(line) for line in lines], signer.take()
     row.name += ' (%s)' % to_signer.asked[number]
     wanted, opened, proposals = [USUAL], [STATES[7]], [IS_CLOSED]
     if place != 'after':
@@ -91,9 +92,10 @@ def session_cut(name, number, place):
         opened, proposals = [states_without(number)], [again_without(number)]
     row.want('status', status, 0)
     row.want('answers', came, *wanted)
+    row.answers_fit(REQUESTS, lines, of_service)
     row.ended(status, came)
     row.opens(name, *opened)
-    row.proposed_again(name, LAST, *proposals)
+    row.proposed_again(name, LAST, *proposals, asked=of_service)
     return row
 
 def serve_cut(name, who, number, place):
@@ -115,9 +117,10 @@ def serve_cut(name, who, number, place):
         row.want('lines', lines, *due_with(asked, slot, place))
         opened = served_states(lines)
     row.ended(status, lines)
-    posts_fit(row, lines)
+    of_service = signer.take()
+    posts_fit(row, lines, node.take(), of_service)
     row.opens(name, *opened)
-    row.proposed_again(name, VOTED, SIGNS)
+    row.voted_again(name, of_service)
     return row
 
 def delete_cut(name, who, number, place):
@@ -136,8 +139,9 @@ def delete_cut(name, who, number, place):
         row.want('status', status, 0)
         row.want('reply', entries(reply), *([['error signer: ' + cause.replace('_', ' ')] for cause in causes(place)] if cut else [['deleted']]))
         row.tell('reply ' + ' '.join(entries(reply)))
+    row.reply_fits(reply)
     row.opens(name, VOTE_KEPT if cut else VOTE_CLOSED)
-    row.proposed_again(name, VOTED, SIGNS if cut else IS_CLOSED)
+    row.voted_again(name)
     return row
 
 def caller_leaves(name, place):
@@ -165,7 +169,7 @@ def caller_leaves(name, place):
         row.tell('status none, it waits for another connection')
         row.want('waits', place, 'before', 'head', 'body')
     row.opens(name, VOTE_CLOSED if place == 'after' else VOTE_KEPT)
-    row.proposed_again(name, VOTED, IS_CLOSED if place == 'after' else SIGNS)
+    row.voted_again(name)
     return row
 
 # ---- a full disk
@@ -180,7 +184,7 @@ def limited(limit, is_killed):
 def session_full(name, limit, is_killed):
     row = Row('session, %s at byte %d' % ('killed' if is_killed else 'full disk', limit))
     status, lines, _ = run(words(name, 'session', signer.url, *FORKED), lines_of(REQUESTS), **limited(limit, is_killed))
-    came = [short(line) for line in lines if line.startswith('{')]
+    came, of_service = [short(line) for line in lines if line.startswith('{')], signer.take()
     done = len(came) if status == 0 or is_killed else max(0, len(came) - 1)
     row.want('status', status, *([0] if done == 6 else [-signal.SIGXFSZ] if is_killed else [5]))
     row.want('answers', came[:done], USUAL[:done])
@@ -188,10 +192,11 @@ def session_full(name, limit, is_killed):
         row.want('last line', lines[-1], 'validator: disk fault')
         row.want('last answer', 'disk' in came[-1] if came else True, True)
         row.tell('answered ' + (came[-1] if came else 'nothing'))
+    row.answers_fit(REQUESTS, lines, of_service)
     row.ended(status, lines)
     first, last = STEPS[done], STEPS[min(done + (status != 0), 6)]
     opened = row.opens(name, *STATES[first:last + 1])
-    row.proposed_again(name, LAST, *([AGAIN[STATES.index(opened)]] if opened in STATES else []))
+    row.proposed_again(name, LAST, *([AGAIN[STATES.index(opened)]] if opened in STATES else []), asked=of_service)
     return row
 
 FRAMES = [103, 103 + 95, 103 + 95 + 103]
@@ -208,9 +213,10 @@ def serve_full(name, limit):
     row.want('status', status, 5 if fits < 3 else 0)
     row.want('lines', lines, (wanted[:1] if fits == 0 else wanted) + ['validator: disk fault'] * (fits < 3))
     row.ended(status, lines)
-    posts_fit(row, lines)
+    of_service = signer.take()
+    posts_fit(row, lines, node.take(), of_service)
     row.opens(name, served_states(lines)[0])
-    row.proposed_again(name, VOTED, SIGNS)
+    row.voted_again(name, of_service)
     return row
 
 # ---- standard streams
@@ -219,7 +225,7 @@ def stream_closed(name, command, stream):
     row = Row('%s, %s closed' % (command, 'output' if stream else 'input'))
     node.set(genesis_time=int(time.time()), blocks={}, votes={})
     line = {'session': words(name, 'session', signer.url, *FORKED), 'merge': words(name, 'merge', None), 'show': words(name, 'show', None), 'serve': serve_words(name, signer.url, node.url, 0, 0)}[command]
-    file = {'data': [{'pubkey': key(0), 'signed_attestations': [], 'signed_blocks': [{'slot': '7'}]}], 'metadata': {'genesis_validators_root': GENESIS_ROOT, 'interchange_format_version': '5'}}
+    file = {'data': [{'pubkey': key(0), 'signed_attestations': [], 'signed_blocks': [{'slot': '7'}]}], 'metadata': METADATA}
     text = {'session': lines_of(REQUESTS), 'merge': json.dumps(file)}.get(command, '')
     status, lines, _ = run(['bash', '-c', 'exec "$@" %s' % ('>&-' if stream else '<&-'), 'bash'] + line, text)
     row.want('status', status, 4 if stream else 12 if command == 'merge' else 0)
@@ -234,10 +240,11 @@ def reader_leaves(name, count):
     """Whoever reads the answers leaves after this many of them, before the next request is sent, which is done and not told."""
     row = Row('session, its reader leaves after %d answers' % count)
     child = subprocess.Popen(words(name, 'session', signer.url, *FORKED), stdin=subprocess.PIPE, stdout=subprocess.PIPE, stderr=subprocess.DEVNULL)
+    lines = []
     for request in REQUESTS[:count]:
         child.stdin.write(lines_of([request]).encode())
         child.stdin.flush()
-        child.stdout.readline()
+        lines.append(child.stdout.readline().decode())
     child.stdout.close()
     try:
         child.stdin.write(lines_of(REQUESTS[count:]).encode())
@@ -247,9 +254,10 @@ def reader_leaves(name, count):
     child.wait(timeout=LIMIT)
     row.want('status', child.returncode, 4 if count < 6 else 0)
     row.tell('status %d' % child.returncode)
-    opened = STEPS[min(count + 1, 6)]
+    of_service, opened = signer.take(), STEPS[min(count + 1, 6)]
+    row.answers_fit(REQUESTS, lines, of_service)
     row.opens(name, STATES[opened])
-    row.proposed_again(name, LAST, AGAIN[opened])
+    row.proposed_again(name, LAST, AGAIN[opened], asked=of_service)
     return row
 
 # ---- all rows

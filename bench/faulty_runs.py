@@ -7,6 +7,7 @@ LIMIT = 60
 WORKERS = int(os.environ.get('WORKERS', os.cpu_count()))
 OTHER = '0x' + 'bb' * 32
 FORKED = ['--fork', '0x00000001:0x00000001:0']
+METADATA = {'genesis_validators_root': GENESIS_ROOT, 'interchange_format_version': '5'}
 
 # ---- requests
 
@@ -22,17 +23,75 @@ def block(number, slot, root):
 def lines_of(asked):
     return ''.join(json.dumps(request) + '\n' for request in asked)
 
+# ---- what a journal keeps of a message: an entry, which has its slot or epochs and its signing root
+
+def joined(*pair):
+    return hashlib.sha256(b''.join(pair)).digest()
+
+def tree(leaves):
+    """The root over those of a container's members, filled up with zeros to a power of two."""
+    while len(leaves) & len(leaves) - 1:
+        leaves = leaves + [bytes(32)]
+    half = len(leaves) // 2
+    return joined(tree(leaves[:half]), tree(leaves[half:])) if half else leaves[0]
+
+def leaf(text):
+    """That of a number, or of a root."""
+    return bytes.fromhex(text[2:]) if text.startswith('0x') else int(text).to_bytes(32, 'little')
+
+def leaves_of(container, *names):
+    return [leaf(container[name]) for name in names]
+
+def signing_root(root, kind):
+    fork = joined(bytes.fromhex('00000001').ljust(32, b'\0'), leaf(GENESIS_ROOT))
+    return '0x' + joined(root, bytes([kind]).ljust(4, b'\0') + fork[:28]).hex()
+
+def vote_entry(data):
+    ends = [tree(leaves_of(data[name], 'epoch', 'root')) for name in ('source', 'target')]
+    root = signing_root(tree(leaves_of(data, 'slot', 'index', 'beacon_block_root') + ends), 1)
+    return 'vote %s-%s %s' % (data['source']['epoch'], data['target']['epoch'], root)
+
+def block_entry(header):
+    return 'block %s %s' % (header['slot'], signing_root(tree(leaves_of(header, 'slot', 'proposer_index', 'parent_root', 'state_root', 'body_root')), 0))
+
+def entry_of(asked):
+    return vote_entry(asked['attestation']) if asked['op'] == 'vote' else block_entry(asked['header'])
+
+def empty_list(depth):
+    root = bytes(32)
+    for _ in range(depth):
+        root = joined(root, root)
+    return joined(root, bytes(32))
+
+def node_block(number, slot):
+    """The entry of the block that the node makes for a key in epoch 0, all of whose lists are empty."""
+    reveal = leaf(signature_of(key(number), signing_root(bytes(32), 2)))
+    body = tree([tree([reveal[:32], reveal[32:64], reveal[64:]]), tree([bytes(32)] * 3), bytes(32)] + [empty_list(depth) for depth in (4, 1, 7, 4, 4)])
+    return block_entry({**block_at({'blocks': {slot: number}}, slot, ''), 'body_root': '0x' + body.hex()})
+
+def stands(number, state, *entries):
+    """How a key stands that keeps these entries, as `states` has it."""
+    return ', '.join(['%d %s %d %d' % (number, state, *(sum(entry.startswith(kind) for entry in entries) for kind in ('block', 'vote'))), *sorted(entries)])
+
+# ---- what is asked for, and what comes of it
+
 # A session that imports, signs and deletes, what each line is answered, and how the keys stand after each step of it; `STEPS` has how many of these
 # steps the first few lines have taken.
 REQUESTS = [{'op': 'import', 'keystores': [json.dumps({'pubkey': key(n)}) for n in (0, 1)], 'passwords': ['x', 'x']}, vote(0, 1, ZERO), block(1, 7, ZERO),
             {'op': 'delete', 'pubkeys': [key(1)]}, vote(0, 40, ZERO), {'op': 'delete', 'pubkeys': [key(0)]}]
 USUAL = ['imported imported imported', 'signed', 'signed', 'deleted deleted', 'signed', 'deleted deleted']
-STATES = [[], ['active 0 0'], ['active 0 0', 'active 0 0'], ['active 0 1', 'active 0 0'], ['active 0 1', 'active 1 0'], ['active 0 1', 'closed 1 0'], ['active 0 2', 'closed 1 0'],
-          ['closed 0 2', 'closed 1 0']]
-STEPS = [0, 2, 3, 4, 5, 6, 7]
 LAST = vote(0, 40, ZERO), vote(0, 40, OTHER)
-SIGNS, IS_CLOSED, IS_UNKNOWN = ['signed', 'refused double_vote'], ['refused not_active'] * 2, ['refused unknown'] * 2
-AGAIN = [IS_UNKNOWN, SIGNS, SIGNS, SIGNS, SIGNS, SIGNS, SIGNS, IS_CLOSED]
+FIRST, MADE, LATER = (entry_of(asked) for asked in (REQUESTS[1], REQUESTS[2], LAST[0]))
+STATES = [[], [stands(0, 'active')], [stands(0, 'active'), stands(1, 'active')], [stands(0, 'active', FIRST), stands(1, 'active')],
+          [stands(0, 'active', FIRST), stands(1, 'active', MADE)], [stands(0, 'active', FIRST), stands(1, 'closed', MADE)],
+          [stands(0, 'active', FIRST, LATER), stands(1, 'closed', MADE)], [stands(0, 'closed', FIRST, LATER), stands(1, 'closed', MADE)]]
+STEPS = [0, 2, 3, 4, 5, 6, 7]
+
+# What the last proposal is answered when it comes again, and what it is answered in its place with another root, by how its key stands: an active key
+# signs for a target of which nothing is kept, and of one that is kept the same vote alone.
+NEW, REPEATS = ['signed', 'signed'], ['signed', 'refused double_vote']
+IS_CLOSED, IS_UNKNOWN = ['refused not_active'] * 2, ['refused unknown'] * 2
+AGAIN = [IS_UNKNOWN, NEW, NEW, NEW, NEW, NEW, REPEATS, IS_CLOSED]
 
 def without(number, cause):
     """What the session is answered where this call of the service fails so: it takes two keys in, signs twice, gives a key up, signs, and gives one up."""
@@ -47,15 +106,18 @@ def without(number, cause):
 
 def states_without(number):
     """How the keys stand after the session in which this call of the service failed."""
-    return {0: ['closed 1 0'], 1: ['closed 0 2'], 4: ['closed 0 2', 'active 1 0'], 6: STATES[6]}.get(number, STATES[7])
+    return {0: STATES[7][1:], 1: STATES[7][:1], 4: [STATES[7][0], STATES[4][1]], 6: STATES[6]}.get(number, STATES[7])
 
 def again_without(number):
     """What its last proposal is answered then, with the same root and with another one."""
-    return {0: IS_UNKNOWN, 6: SIGNS}.get(number, IS_CLOSED)
+    return {0: IS_UNKNOWN, 6: REPEATS}.get(number, IS_CLOSED)
 
 # What `serve` does in two slots.
 SERVED = [(0, 'vote', 0), (1, 'block', 0), (1, 'vote', 1)]
+SERVED_ENTRIES = {(0, 'vote'): vote_entry(data_at(0)), (1, 'block'): node_block(0, 1), (1, 'vote'): vote_entry(data_at(1))}
 VOTED = {'op': 'vote', 'pubkey': key(1), 'attestation': data_at(1)}, vote(1, 1, OTHER)
+SEEN = entry_of(VOTED[0])
+VOTED_AGAIN = {stands(1, 'active'): [NEW], stands(1, 'active', SEEN): [REPEATS], stands(1, 'closed', SEEN): [IS_CLOSED]}
 
 def due_lines(less=(), other=()):
     """The lines of the duties, but for some, and some with another result."""
@@ -114,7 +176,7 @@ def begin_deletion(name):
     begin_serving(name)
     run(words(name, 'session', signer.url, *FORKED), lines_of(VOTED[:1]))
 
-VOTE_KEPT, VOTE_CLOSED = ['active 0 0', 'active 0 1'], ['active 0 0', 'closed 0 1']
+VOTE_KEPT, VOTE_CLOSED = [stands(0, 'active'), stands(1, 'active', SEEN)], [stands(0, 'active'), stands(1, 'closed', SEEN)]
 
 def delete_request():
     body = json.dumps({'pubkeys': [key(1)]}).encode()
@@ -169,34 +231,74 @@ def entries(reply):
     told = json.loads(reply.partition(b'\r\n\r\n')[2] or b'{}')
     return [(e['status'] + ' ' + e['message']).strip() for e in told.get('data', [])]
 
-def states(name):
-    """How each key stands when the journal is opened: its state, and how many blocks and votes are kept."""
-    status, lines, told = run(words(name, 'show', None))
-    return [' '.join(line.split(' ')[n] for n in (1, 3, 5)) for line in lines] if status == 0 else ['status %d %s' % (status, told)]
+def kept_in(text):
+    """What an interchange file has of each key that it names, by the key's number; whatever stands there where it is none of this chain."""
+    file = json.loads(text or 'null')
+    if not file or file.get('metadata') != METADATA:
+        return file
+    return {int(of['pubkey'], 16) - 1: sorted(
+        ['block %s %s' % (entry['slot'], entry.get('signing_root', '-')) for entry in of['signed_blocks']] +
+        ['vote %s-%s %s' % (entry['source_epoch'], entry['target_epoch'], entry.get('signing_root', '-')) for entry in of['signed_attestations']]) for of in file['data']}
 
-def again(name, same, other):
-    """What a proposal is answered that comes again, with the same root and then with another one."""
-    status, lines, told = run(words(name, 'session', signer.url, *FORKED), lines_of([same, other]))
-    return [short(line) for line in lines] if status == 0 else ['status %d %s' % (status, told)]
+def file_of(reply):
+    """What the file of a deletion's reply has; none where no file is there."""
+    told = json.loads(reply.partition(b'\r\n\r\n')[2] or b'{}')
+    return kept_in(told['slashing_protection']) if 'slashing_protection' in told else None
+
+def states(name):
+    """How each key stands when the journal is opened: its number, its state, how many blocks and votes `show` counts, each of these as an export has it,
+    and the floors that are set."""
+    status, lines, told = run(words(name, 'show', None))
+    if status != 0:
+        return ['status %d %s' % (status, told)]
+    kept, found = kept_in(json.loads(run(words(name, 'session', None), lines_of([{'op': 'export'}]))[1][0])['file']), []
+    for line in lines:
+        pubkey, state, _, blocks, _, votes, *floors = line.split(' ')
+        number = int(pubkey, 16) - 1
+        found.append(', '.join(['%d %s %s %s' % (number, state, blocks, votes), *kept.pop(number, ['not exported']),
+                                *('%s %s' % floor for floor in zip(floors[::2], floors[1::2]) if floor[1] != '-')]))
+    return found + ['%d is exported alone' % number for number in kept]
+
+def again(name, proposal):
+    """What a session over a journal answers to a proposal, and what it asks of the service."""
+    status, lines, told = run(words(name, 'session', signer.url, *FORKED), lines_of([proposal]))
+    return lines if status == 0 else [json.dumps({'answer': 'status %d %s' % (status, told)})], signer.take()
+
+# A message that the service signed: of which key, of which slot, its entry as the request has it, the signature, and what is posted of it, and where.
+Given = collections.namedtuple('Given', 'number slot entry signature post')
+
+def given(requests):
+    """The messages that the service signed, but for reveals."""
+    found = []
+    for r in requests:
+        if not r.target.startswith(SIGN) or r.body['type'] not in ('BLOCK_V2', 'ATTESTATION'):
+            continue
+        pubkey, root = r.target[len(SIGN):], r.body['signingRoot']
+        number, signature = int(pubkey, 16) - 1, signature_of(pubkey, root)
+        if r.body['type'] == 'BLOCK_V2':
+            told = r.body['beacon_block'].get('block_header') or r.body['beacon_block']['block']
+            entry, post = 'block %s %s' % (told['slot'], root), (BLOCKS, {'message': told, 'signature': signature})
+        else:
+            told, bits = r.body['attestation'], (1 << 2048 | 1 << number).to_bytes(257, 'little')
+            entry = 'vote %s-%s %s' % (told['source']['epoch'], told['target']['epoch'], root)
+            post = VOTES, {'aggregation_bits': '0x' + bits.hex(), 'data': told, 'signature': signature}
+        found.append(Given(number, int(told['slot']), entry, signature, post))
+    return found
 
 def slashable(requests):
     """The pairs of different messages that the service signed of one key, of which one slashes the other."""
     blocks, votes, pairs = {}, {}, []
-    for r in requests:
-        if not r.target.startswith(SIGN) or r.body['type'] not in ('BLOCK_V2', 'ATTESTATION'):
-            continue
-        signed_by, root = r.target[len(SIGN):], r.body['signingRoot']
-        if r.body['type'] == 'BLOCK_V2':
-            told = r.body['beacon_block']
-            slot = int((told.get('block_header') or told.get('block'))['slot'])
-            if blocks.setdefault((signed_by, slot), root) != root:
-                pairs.append('two blocks of slot %d' % slot)
+    for g in given(requests):
+        kind, epochs, root = g.entry.split(' ')
+        if kind == 'block':
+            if blocks.setdefault((g.number, g.slot), root) != root:
+                pairs.append('two blocks of slot %d' % g.slot)
         else:
-            source, target = (int(r.body['attestation'][name]['epoch']) for name in ('source', 'target'))
-            for of, at, other in votes.setdefault(signed_by, []):
+            source, target = map(int, epochs.split('-'))
+            for of, at, other in votes.setdefault(g.number, []):
                 if other != root and (at == target or (of < source and target < at) or (source < of and at < target)):
                     pairs.append('votes (%d,%d) and (%d,%d)' % (of, at, source, target))
-            votes[signed_by].append((source, target, root))
+            votes[g.number].append((source, target, root))
     return pairs
 
 class Row:
@@ -216,43 +318,85 @@ class Row:
         self.tell('status %s' % status, 'last line %s' % (lines[-1][:72] if lines else 'none'))
 
     def opens(self, name, *wanted):
-        came = states(name)
-        self.tell('opens to ' + (', '.join(came) or 'no key'))
-        self.want('opens to', came, *wanted)
-        return came
+        self.opened = states(name)
+        self.tell('opens to ' + ('; '.join(self.opened) or 'no key'))
+        self.want('opens to', self.opened, *wanted)
+        return self.opened
+
+    def answers_fit(self, requests, lines, asked):
+        """Each signature that was answered is the one that the service gave for that message, and the file of each deletion has what was granted
+        and signed for the keys that are closed, and no other key."""
+        signed, granted = given(asked), {}
+        for request, line in zip(requests, lines):
+            told = json.loads(line) if line.startswith('{') else {'answer': line}
+            if request['op'] in ('vote', 'block') and told['answer'] in ('signed', 'unsigned'):
+                number, entry = int(request['pubkey'], 16) - 1, entry_of(request)
+                granted.setdefault(number, set()).add(entry)
+                if told['answer'] == 'signed':
+                    gave = [(entry.split(' ')[2], g.signature) for g in signed if (g.number, g.entry) == (number, entry)]
+                    self.want('signed', (told['signing_root'], told['signature']), *gave)
+            if told['answer'] == 'deleted':
+                closed = [int(pubkey, 16) - 1 for pubkey, entry in zip(request['pubkeys'], told['data']) if entry['status'] in ('deleted', 'not_active')]
+                self.want('file of the deletion', kept_in(told['slashing_protection']),
+                          {number: sorted(granted.get(number, set()) | {g.entry for g in signed if g.number == number}) for number in closed})
+
+    def reply_fits(self, reply):
+        """The file of the reply to a deletion of a key that voted once has that vote where the key is closed, and no key where it is not."""
+        said = entries(reply)
+        self.want('file of the deletion', file_of(reply), {1: [SEEN]} if said in (['deleted'], ['not_active']) else {} if said else None)
+
+    def voted_again(self, name, asked=()):
+        self.proposed_again(name, VOTED, *VOTED_AGAIN.get(self.opened[-1] if self.opened else '', []), asked=asked)
 
     def proposed_again(self, name, proposals, *wanted, asked=()):
-        """The last proposal comes again; `asked` is what was taken of the service's requests before."""
-        came = again(name, *proposals)
-        self.tell('the same ' + came[0], 'another one ' + came[-1])
-        self.want('again', came, *wanted)
-        self.want('slashable at the service', slashable([*asked, *signer.take()]), [])
+        """What the service signed is kept, whatever ended the run, since a grant is on the disk before its signature is asked for. Then the last proposal
+        comes again, and, over a copy of the journal from before that, one with another root. `asked` is what was taken of the service's requests
+        before."""
+        asked, copy = [*asked, *signer.take()], name + 'other'
+        kept = [(int(line.split(' ')[0]), entry) for line in self.opened if line[0].isdigit() for entry in line.split(', ')[1:]]
+        self.want('signed and not kept', [(g.number, g.entry) for g in given(asked) if (g.number, g.entry) not in kept], [])
+        for end in ('.a', '.b'):
+            shutil.copyfile(os.path.join(folder, name + end), os.path.join(folder, copy + end))
+        told = []
+        for journal, proposal in ((copy, proposals[1]), (name, proposals[0])):
+            lines, requests = again(journal, proposal)
+            told.insert(0, short(lines[0]))
+            self.answers_fit([proposal], lines, requests)
+            self.want('slashable at the service', slashable([*asked, *requests]), [])
+        for end in ('.a', '.b'):
+            os.remove(os.path.join(folder, copy + end))
+        self.tell('the same ' + told[0], 'another one ' + told[1])
+        self.want('again', told, *wanted)
 
     def line(self):
-        if self.wrong:
-            return 'FAIL %s: %s (%s)' % (self.name, '; '.join(self.wrong), '; '.join(self.told))
-        return 'pass %s: %s' % (self.name, '; '.join(self.told))
+        told = '; '.join(self.told)
+        line = 'FAIL %s: %s (%s)' % (self.name, '; '.join(self.wrong), told) if self.wrong else 'pass %s: %s' % (self.name, told)
+        return re.sub(r'\b(0x[0-9a-f]{8})[0-9a-f]{56}\b', r'\1', line)
 
-def posts_fit(row, lines, may_be_unsaid=False, asked=None):
-    """Each duty that a line says is sent was posted; what was posted and has no such line is so where the run ended before its lines."""
-    posts = posted(node.take() if asked is None else asked)
+def posts_fit(row, lines, of_node, of_service, may_be_unsaid=False):
+    """What was posted is what the service signed, with its signature. Each duty that a line says is sent was posted; what was posted and has no such line
+    is so where the run ended before its lines."""
+    posts, signed = [(r.target, body) for r, body in posted(of_node)], given(of_service)
+    unsigned = [(target, body.get('data') or body.get('message')) for target, body in posts if (target, body) not in [g.post for g in signed]]
+    row.want('posted and not signed', ['%s, slot %s' % (target, told['slot']) for target, told in unsigned], [])
     for slot, kind, n in SERVED:
         is_said = '%d %s %s sent' % (slot, kind, key(n)) in lines
-        there = any(r.target == (VOTES if kind == 'vote' else BLOCKS) and int(body['data' if kind == 'vote' else 'message']['slot']) == slot for r, body in posts)
+        there = any((g.number, g.slot) == (n, slot) and g.entry.startswith(kind) and g.post in posts for g in signed)
         if is_said or not may_be_unsaid:
             row.want('%s of slot %d posted' % (kind, slot), there, is_said)
 
 def served_states(lines, may_be_more=False):
-    """How the keys stand by these lines of duties; and by each further duty of the next slot, where it may have been done and not told."""
+    """How the keys stand by these lines of duties; and by each further duty that may have been done and not told, of slot 1 only after the line of slot 0."""
     def kept(done):
-        return ['active %d %d' % (((1, 'block') in done), ((0, 'vote') in done)), 'active 0 %d' % ((1, 'vote') in done)]
-    done = {(slot, kind) for slot, kind, n in SERVED for result in ('sent', 'unsigned', 'unposted') if any(line.startswith('%d %s %s %s' % (slot, kind, key(n), result)) for line in lines)}
+        of = {number: [SERVED_ENTRIES[slot, kind] for slot, kind, n in SERVED if n == number and (slot, kind) in done] for number in (0, 1)}
+        return [stands(number, 'active', *of[number]) for number in (0, 1)]
+    told = {(slot, kind): line.split(' ')[3] for slot, kind, n in SERVED for line in lines if line.startswith('%d %s %s ' % (slot, kind, key(n)))}
+    done = [duty for duty in told if told[duty] in ('sent', 'unsigned', 'unposted')]
     found = [kept(done)]
-    if may_be_more:
-        for slot, kind, _ in SERVED:
-            if (slot, kind) not in done:
-                done = done | {(slot, kind)}
-                found.append(kept(done))
+    for slot, kind, _ in SERVED:
+        if may_be_more and (slot, kind) not in told and (slot == 0 or (0, 'vote') in told):
+            done = done + [(slot, kind)]
+            found.append(kept(done))
     return found
 
 # ---- the rows are dealt

@@ -4,8 +4,9 @@
 # two slots of `serve`, and in a DELETE to its Keymanager API. A run has to end in one of three ways. With status 8, and a front of the usual answers. With
 # all of these, where what was refused was not wanted. Or with the answers that a call of the signing service or of the node brings when it fails, and then
 # standard error has to say that there was no memory to connect. It may have no other line, but that of the import. The journal has to open to what was
-# answered; the last proposal comes again, with the same root and with another one; merges and deletions come again. Prints the rows that are wrong, and for
-# each script how many ended with which status; ends with 1 where one is wrong.
+# answered, and to keep what the service signed; signatures, posts and files of deletions have to be of that; the last proposal comes again, with the same
+# root, and over a copy of the journal with another one; merges and deletions come again. Prints the rows that are wrong, and for each script how many
+# ended with which status; ends with 1 where one is wrong.
 # A program that `rt try` built is no use here: it has an allocator of its own.
 # Usage: bench/no_memory.sh     (PROGRAM=PATH for another program, WORKERS=N at once, STEP=N allocations from row to row, STEP_ON=N likewise where
 # all after it are refused, SCRIPTS='session serve ..' for some of session, refusal, compaction, merge, show, serve, DELETE)

@@ -198,13 +198,15 @@ def few_files(name):
     _, faults = told_of(child)
     return faults + ([] if status == 200 else ['status %d after %.1f s' % (status, took)])
 
-def answered(request, wait=0):
-    """Sends the pieces of a request, and gives what comes back up to the end, and for how long it took."""
+def answered(request, wait=0, ends=False):
+    """Sends the pieces of a request, and the end where that is said, and gives what comes back up to the end, and for how long it took."""
     begun = time.time()
     with socket.create_connection(('127.0.0.1', port), timeout=60) as link:
         for piece in request:
             link.sendall(piece)
             time.sleep(wait)
+        if ends:
+            link.shutdown(socket.SHUT_WR)
         came = b''
         while piece := link.recv(65536):
             came += piece
@@ -284,6 +286,27 @@ def ends_at_once(name):
         if took >= 2 or not came.startswith(b'HTTP/1.1 ' + status):
             wrong.append('%s: %r after %.1f s' % (what, came[:40], took))
     _, faults = told_of(child)
+    return faults + wrong
+
+def no_line_feed(name):
+    """Peers that send what is no request, or no chunk, without the end of its line, and hold the connection, bar no other, with the token or without.
+    One that ends its side there has its answer."""
+    bearing = b'/eth/v1/keystores HTTP/1.1\r\nHost: a\r\nAuthorization: Bearer %s\r\n' % TOKEN.encode()
+    chunked, body = b'DELETE ' + bearing + b'Transfer-Encoding: chunked\r\n\r\n', b'{"pubkeys":[]}'
+    held = [b'\0', b'x(', b'GET /\x7f', chunked + b'z', chunked + b'1\r\n{}', chunked + b'0\r\na b']
+    child, _, genesis = begin(name, connections=len(held) + 4)
+    once_begun(genesis)
+    links = [socket.create_connection(('127.0.0.1', port)) for _ in held]
+    for link, piece in zip(links, held):
+        link.sendall(piece)
+    time.sleep(1)
+    wrong = []
+    for request, status in ((b'DELETE ' + bearing + b'Content-Length: 14\r\n\r\n' + body, b'200'), (b'GET ' + bearing + b'\r\n', b'200'), (b'x(', b'400'), (chunked + b'z', b'400')):
+        came, took = answered([request], ends=status == b'400')
+        wrong += [] if came.startswith(b'HTTP/1.1 ' + status) and took < 2 else ['%r: %r after %.1f s' % (request[:6], came[:40], took)]
+    _, faults = told_of(child)
+    for link in links:
+        link.close()
     return faults + wrong
 
 def with_long_history(name):
@@ -471,6 +494,7 @@ SCENES = {
     'api_expects_continue': asks_before_its_body,
     'api_asked_and_slow': asked_and_slow,
     'api_serves_at_the_end': ends_at_once,
+    'api_no_line_feed': no_line_feed,
     'api_reader_is_slow': slow_reader,
     'api_last_reader_is_slow': last_is_slow,
     'output_reader_leaves': reader_leaves,

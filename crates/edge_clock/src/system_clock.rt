@@ -25,7 +25,7 @@ const HALTED_SECONDS: u64 = 12;
 pub struct SystemClock<'a, T: rt::Clock + Drop> {
     handle: T,
     halt: &'a Halt,
-    /// The latest second that it showed, since it was set back the last time.
+    /// The latest second that it showed to anyone, since it was set back the last time.
     latest: AtomicU64,
 }
 
@@ -38,20 +38,28 @@ impl<'a, T: rt::Clock + Drop> SystemClock<'a, T> {
         }
     }
 
-    // Whether a second that the clock shows now says that it was set back by more than is waited for. Then that is not said
-    // again of the same setting.
-    fn is_set_back(&self, shown: u64) -> bool {
-        let latest = self.latest.load(Ordering::SeqCst);
-        let is_back = shown.saturating_add(LEEWAY_SECONDS) < latest;
-        if is_back || latest < shown {
+    // Notes a second that the clock shows, where it is the latest.
+    fn note(&self, shown: u64) {
+        if self.latest.load(Ordering::SeqCst) < shown {
             self.latest.store(shown, Ordering::SeqCst);
+        }
+    }
+
+    // Whether a second that the clock shows says that it was set back by more than is waited for, since it had shown the latest
+    // one that was noted before it was read. Then that is not said again of the same setting.
+    fn is_set_back(&self, before: u64, shown: u64) -> bool {
+        let is_back = shown.saturating_add(LEEWAY_SECONDS) < before;
+        if is_back {
+            self.latest.store(shown, Ordering::SeqCst);
+        } else {
+            self.note(shown);
         }
         is_back
     }
 
     // Whether a wait ends at this second: the moment is reached, the clock was set back, or it is halted long before.
-    fn is_over(&self, shown: u64, moment: u64) -> bool {
-        self.is_set_back(shown)
+    fn is_over(&self, before: u64, shown: u64, moment: u64) -> bool {
+        self.is_set_back(before, shown)
             || shown >= moment
             || (self.halt.is_raised() && shown.saturating_add(HALTED_SECONDS) < moment)
     }
@@ -61,19 +69,21 @@ impl<T: rt::Clock + Sync + Drop> Clock for SystemClock<'_, T> {
     ghost start = { λ clock. None };
 
     fn now(&self) -> u64 {
-        match shown_by(&self.handle) {
-            Some(shown) => shown.as_secs(),
-            None => 0,
-        }
+        let Some(shown) = shown_by(&self.handle) else {
+            return 0;
+        };
+        self.note(shown.as_secs());
+        shown.as_secs()
     }
 
     /// Sleeps until the clock shows the moment or a later one, is set back, or is halted more than a slot before it.
     fn wait_until<R: Wait>(&self, rt: &R, moment: u64) -> u64 {
         for _ in rt.forever() {
+            let before = self.latest.load(Ordering::SeqCst);
             let Some(shown) = shown_by(&self.handle) else {
                 return moment;
             };
-            if self.is_over(shown.as_secs(), moment) {
+            if self.is_over(before, shown.as_secs(), moment) {
                 return shown.as_secs();
             }
             let left = Duration::from_secs(moment).saturating_sub(shown);

@@ -1,5 +1,5 @@
 //! Whether a body in chunks has come in whole.
-use crate::request_front::{BODY_LIMIT, HEAD_LIMIT};
+use crate::request_front::{BODY_LIMIT, HEAD_LIMIT, front_of, whole_lines};
 use httparse::spans::{EMPTY_HEADER_SPAN, parse_headers};
 use httparse::{Status, parse_chunk_size};
 
@@ -32,7 +32,8 @@ impl ChunkScan {
         ChunkScan { at: 0, size: 0 }
     }
 
-    // Whether a body of which this has come in is whole, or what has come in is no body that is read (`http_wire`). Each
+    // Whether a body of which this has come in is whole, or what has come in is no body that is read, which is judged where who
+    // serves the request judges it (`http_wire`): at the end of a line, behind two bytes after a chunk, and at a limit. Each
     // chunk is looked at until it is there, and not again.
     pub(crate) fn is_over(&mut self, body: &[u8]) -> bool {
         'chunks: for _ in 0..u64::MAX {
@@ -52,7 +53,7 @@ impl ChunkScan {
 
 // The next chunk, where the body may have so many bytes more.
 fn next_chunk(rest: &[u8], room: u64) -> Found {
-    match parse_chunk_size(rest) {
+    match parse_chunk_size(first_line(front_of(rest))) {
         Ok(Status::Complete((line, 0))) => last_chunk(rest.get(line..).unwrap_or(&[])),
         Ok(Status::Complete((line, size))) if size <= room => sized_chunk(rest, line, size),
         Ok(Status::Partial) if rest.len() < HEAD_LIMIT => Found::Part,
@@ -71,7 +72,7 @@ fn sized_chunk(rest: &[u8], line: usize, size: u64) -> Found {
         let bytes = before.saturating_add(CHUNK_END.len());
         return Found::Chunk { bytes, size };
     }
-    if CHUNK_END.starts_with(end) {
+    if end.len() < CHUNK_END.len() && !end.starts_with(b"\n") {
         Found::Part
     } else {
         Found::End
@@ -81,8 +82,16 @@ fn sized_chunk(rest: &[u8], line: usize, size: u64) -> Found {
 // What follows the line of the last chunk: fields, and an empty line.
 fn last_chunk(rest: &[u8]) -> Found {
     let mut spans = [EMPTY_HEADER_SPAN; 64];
-    match parse_headers(rest, &mut spans) {
+    match parse_headers(whole_lines(front_of(rest)), &mut spans) {
         Ok(Status::Partial) if rest.len() < HEAD_LIMIT => Found::Part,
         _ => Found::End,
+    }
+}
+
+// The first line with its end; nothing where that is not there.
+fn first_line(bytes: &[u8]) -> &[u8] {
+    match bytes.iter().position(|byte| *byte == b'\n') {
+        Some(end) => bytes.get(..end.saturating_add(1)).unwrap_or(bytes),
+        None => &[],
     }
 }

@@ -38,6 +38,8 @@ pub(crate) struct JsonScan {
     member: Vec<u8>,
     inner: Vec<u8>,
     text: Vec<u8>,
+    /// Memory was wanted for a byte of the text: no later one is held.
+    is_cut: bool,
 }
 
 impl JsonScan {
@@ -52,6 +54,7 @@ impl JsonScan {
             member: Vec::new(alloc),
             inner: Vec::new(alloc),
             text: Vec::new(alloc),
+            is_cut: false,
         }
     }
 
@@ -122,6 +125,7 @@ impl JsonScan {
 
     fn begin_text(&mut self) -> Met {
         self.is_text = true;
+        self.is_cut = false;
         self.text.clear();
         if self.is_name() {
             Met::Nothing
@@ -154,8 +158,8 @@ impl JsonScan {
     // Holds a byte of a text, where it is one that is held.
     fn hold(&mut self, byte: u8) -> Met {
         let is_held = self.is_name() || self.depth == 3;
-        if is_held && self.text.len() < TEXT_BYTES {
-            let _ = self.text.push(byte);
+        if is_held && !self.is_cut && self.text.len() < TEXT_BYTES {
+            self.is_cut = self.text.push(byte).is_err();
         }
         if self.depth == 2 {
             Met::Byte(byte)

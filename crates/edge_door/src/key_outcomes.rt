@@ -1,6 +1,6 @@
 //! What became of the keys of a request of the Keymanager API, key by key.
 use crate::json_scan::{JsonScan, Met};
-use edge_sockets::Visible;
+use edge_sockets::{Heard, Visible};
 use edge_system::Reports;
 use std::alloc::{AllocError, Global};
 use std::fmt;
@@ -15,6 +15,44 @@ const MOST_KEYS: usize = 4096;
 
 /// What stands before the key in the text of a keystore (EIP-2335), but for blanks.
 const KEY_MARK: &[u8] = b"\"pubkey\":\"";
+
+/// What the message of a key begins with where it has the words of the signing service.
+const SERVICE_WORDS: &[u8] = b"signer: ";
+
+/// What is reported of the messages of a reply.
+#[derive(Clone, Copy)]
+pub(crate) enum Messages {
+    /// All that they say.
+    Whole,
+    /// What this program says in them, and nothing that the signing service said: that may have a part of a keystore.
+    Own,
+}
+
+impl Messages {
+    // Those of a reply to a request.
+    pub(crate) fn of(heard: &Heard) -> Self {
+        if heard.is_import() {
+            Messages::Own
+        } else {
+            Messages::Whole
+        }
+    }
+
+    // What is reported of this message.
+    fn shown<'m>(&self, message: &'m [u8]) -> &'m [u8] {
+        match self {
+            Messages::Own if message.starts_with(SERVICE_WORDS) => own_words(message),
+            Messages::Own | Messages::Whole => message,
+        }
+    }
+}
+
+// What this program says in a message about the signing service.
+fn own_words(message: &[u8]) -> &[u8] {
+    let has_own = message == b"signer: fault".as_slice()
+        || message == b"signer: bad answer".as_slice();
+    if has_own { message } else { b"signer" }
+}
 
 /// A key as the hex digits that a request has of it: none where it has something else.
 #[derive(Drop)]
@@ -96,11 +134,19 @@ impl Outcome {
     }
 }
 
-impl Display for Outcome {
+/// What is reported of one key.
+#[derive(Drop)]
+struct Told<'a> {
+    outcome: &'a Outcome,
+    messages: Messages,
+}
+
+impl Display for Told<'_> {
     fn fmt<W: fmt::Write>(&self, f: &mut Formatter<W>) -> fmt::Result {
-        write!(f, "{}", Visible(self.status.as_slice()))?;
-        if !self.message.is_empty() {
-            write!(f, ": {}", Visible(self.message.as_slice()))?;
+        write!(f, "{}", Visible(self.outcome.status.as_slice()))?;
+        let message = self.messages.shown(self.outcome.message.as_slice());
+        if !message.is_empty() {
+            write!(f, ": {}", Visible(message))?;
         }
         Ok(())
     }
@@ -182,12 +228,20 @@ impl KeyOutcomes {
         Ok(self.keys.push(KeyDigits(digits))?)
     }
 
-    // Takes one piece more of the reply, and reports each key of which it says what became of it.
-    pub(crate) fn answer<E: Eprint>(&mut self, handle: &E, reports: Reports, piece: &[u8]) {
+    // Takes one piece more of the reply, and reports each key of which it says what became of it, and of its message so much.
+    pub(crate) fn answer<E: Eprint>(
+        &mut self,
+        handle: &E,
+        reports: Reports,
+        messages: Messages,
+        piece: &[u8],
+    ) {
         for byte in piece {
             match self.answered.take(*byte) {
                 Met::Text => self.note_text(),
-                Met::Object if self.answered.member() == "data" => self.report(handle, reports),
+                Met::Object if self.answered.member() == "data" => {
+                    self.report(handle, reports, messages);
+                }
                 _ => {}
             }
         }
@@ -203,25 +257,26 @@ impl KeyOutcomes {
     }
 
     // Reports what became of the next key, where the reply says so.
-    fn report<E: Eprint>(&mut self, handle: &E, reports: Reports) {
+    fn report<E: Eprint>(&mut self, handle: &E, reports: Reports, messages: Messages) {
         if self.outcome.status.is_empty() {
             return;
         }
         if reports.has_news() || self.outcome.is_error() {
-            self.tell(handle);
+            self.tell(handle, messages);
         }
         self.told = self.told.saturating_add(1);
         self.outcome.clear();
     }
 
-    fn tell<E: Eprint>(&self, handle: &E) {
+    fn tell<E: Eprint>(&self, handle: &E, messages: Messages) {
         let outcome = &self.outcome;
+        let told = Told { outcome, messages };
         match self.keys.get(self.told) {
             Some(key) => {
-                let _ = eprintln!(handle; "Keymanager API: {key}: {outcome}");
+                let _ = eprintln!(handle; "Keymanager API: {key}: {told}");
             }
             None => {
-                let _ = eprintln!(handle; "Keymanager API: a key that is not held: {outcome}");
+                let _ = eprintln!(handle; "Keymanager API: a key that is not held: {told}");
             }
         }
     }

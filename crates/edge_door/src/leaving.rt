@@ -180,7 +180,7 @@ impl<S: Read + Write + OpenStream + Drop> Leaving<S> {
 
     // Reports that the reply was not taken in its time.
     fn report<E: Eprint>(&self, handle: &E) {
-        let call = self.heard.call();
+        let call = self.heard.call_without_query();
         let status = Visible(self.heard.status().unwrap_or(&[]));
         let _ = eprintln!(handle;
             "Keymanager API: {call}: {status}: the reply was not read in time"

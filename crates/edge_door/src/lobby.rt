@@ -134,12 +134,15 @@ impl<'a, N: Net + Eprint + Clock + Drop> Lobby<'a, N> {
     }
 
     // Lets connections leave and come, until none leaves any more, or one is ready to be served. In the end there is a place
-    // for one more to leave.
+    // for one more to leave. Once the halt is raised none comes any more, and no peer is asked for the body of its request.
     pub(crate) fn go_on(&mut self, listener: &N::Listener) {
         self.room.resume(&self.handle);
         self.exit.resume(&self.handle);
         let mut nap = 1;
         'looks: for _ in 0..u64::MAX {
+            if self.halt.is_raised() {
+                return self.send_out();
+            }
             if self.exit.is_empty() {
                 return;
             }

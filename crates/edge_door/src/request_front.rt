@@ -10,7 +10,8 @@ pub(crate) const HEAD_LIMIT: usize = 65_536;
 /// How many bytes the body of a request has at most (`http_wire`).
 pub(crate) const BODY_LIMIT: u64 = 16_777_216;
 
-/// How many bytes of a request are read before it is served at most: a body in chunks has more than its size.
+/// How many bytes of a request are read at most: a body in chunks has more than its size. Of one that has more still nothing
+/// further is waited for.
 const ARRIVED_LIMIT: usize = 33_554_432;
 
 /// What the requests that are not refused for their methods or their targets begin with (`keymanager_routes`).
@@ -84,8 +85,8 @@ impl Coming {
 
     /// Whether the request, of which this has come in, is to be served now: it is whole, or what is missing decides nothing,
     /// since what has come in is no request, or its head does not bear this token, has a method or a target that is refused,
-    /// or announces no body that is read. Only how long others wait rests on the answer: who serves the request judges it by
-    /// itself.
+    /// or announces no body that is read. It is called ready only where who serves it needs no byte more to answer it
+    /// (`http_wire`), since then nothing more of it is waited for. How it is answered is judged there, by itself.
     pub(crate) fn is_ready(&mut self, arrived: &[u8], token: &str) -> bool {
         let front = match self.front {
             Some(front) => front,
@@ -123,22 +124,43 @@ impl Coming {
     }
 }
 
-// What the head says of a request of which this has come in; None where it is not whole.
+// As much of what has come in as a head has at most, and so a line of a chunk, and the fields after the last one.
+pub(crate) fn front_of(arrived: &[u8]) -> &[u8] {
+    arrived.get(..HEAD_LIMIT).unwrap_or(arrived)
+}
+
+// The lines whose ends are there. Of a line whose end is not there nothing is judged, as who serves the request reads on
+// to the end of each (`http_wire`).
+pub(crate) fn whole_lines(bytes: &[u8]) -> &[u8] {
+    match bytes.iter().rposition(|byte| *byte == b'\n') {
+        Some(end) => bytes.get(..end.saturating_add(1)).unwrap_or(bytes),
+        None => &[],
+    }
+}
+
+// What the head says of a request of which this has come in; None where it is not whole, or too long.
 fn read_front(arrived: &[u8], token: &str) -> Option<Front> {
+    let lines = whole_lines(front_of(arrived));
     let mut spans = [EMPTY_HEADER_SPAN; 64];
-    match parse_request(arrived, &mut spans) {
+    match parse_request(lines, &mut spans) {
         Ok(Status::Complete(head)) => {
-            let bytes = arrived.get(..head.len).unwrap_or(arrived);
-            Some(front_of(bytes, token))
+            let bytes = lines.get(..head.len).unwrap_or(lines);
+            Some(said_in(bytes, token))
         }
         _ => None,
     }
 }
 
-// Whether what has come in, which has no whole head, never has one that is read.
+// Whether what has come in, which has no whole head, never has one that is read. Empty lines alone are not judged.
 fn is_no_head(arrived: &[u8]) -> bool {
+    let lines = whole_lines(front_of(arrived));
     let mut spans = [EMPTY_HEADER_SPAN; 64];
-    arrived.len() >= HEAD_LIMIT || parse_request(arrived, &mut spans).is_err()
+    arrived.len() >= HEAD_LIMIT || has_text(lines) && parse_request(lines, &mut spans).is_err()
+}
+
+// Whether there is anything but the ends of lines.
+fn has_text(lines: &[u8]) -> bool {
+    lines.iter().any(|byte| *byte != b'\r' && *byte != b'\n')
 }
 
 // Whether a head is not refused for its method or its target.
@@ -150,7 +172,7 @@ fn is_known(head: &[u8]) -> bool {
 }
 
 // What a head says.
-fn front_of(head: &[u8], token: &str) -> Front {
+fn said_in(head: &[u8], token: &str) -> Front {
     let mut front = Front {
         end: head.len(),
         is_known: is_known(head),
@@ -209,10 +231,23 @@ fn coded(is_chunked: bool, framing: Framing) -> Framing {
 fn bears(value: &[u8], token: &str) -> Option<bool> {
     let (scheme, given) = value.split_at_checked(7)?;
     if scheme.eq_ignore_ascii_case(b"bearer ") {
-        Some(given == token.as_bytes())
+        Some(is_same_token(given, token.as_bytes()))
     } else {
         None
     }
+}
+
+// Whether two tokens are the same. Those of one length are compared to their end, wherever they differ, so that the time until
+// a reply does not tell how much of a guess is right (`keymanager_routes`).
+fn is_same_token(given: &[u8], token: &[u8]) -> bool {
+    if given.len() != token.len() {
+        return false;
+    }
+    let mut differing = 0;
+    'bytes: for (byte, wanted) in given.iter().zip(token.iter()) {
+        differing |= *byte ^ *wanted;
+    }
+    differing == 0
 }
 
 // The number that these 1 to 20 digits write; none where they write none.

@@ -4,50 +4,49 @@ ghost use Rattle.std.specs.Io.{ReadsAtMost, WritesAtMost};
 ghost use Rattle.std.specs.Result.{result_ok};
 ghost use Rattle.edge_kit.specs.Causes.{HasCause};
 
-use crate::key_outcomes::KeyOutcomes;
+use crate::key_outcomes::{KeyOutcomes, Messages};
 use crate::leaving::Leaving;
 use crate::rest::Rest;
-use crate::waiting::CONTINUE;
+use crate::waiting::{Arrived, CONTINUE};
 use edge_kit::{Failed, Link, count_fault};
-use edge_sockets::{Call, Heard, Span, Timed, recv_over, send_over};
+use edge_sockets::{Heard, Span, Timed, Visible, send_over};
 use edge_system::Reports;
 use std::alloc::{AllocError, Global};
+use std::fmt::{Display, Formatter};
 use std::io::{Eprint, ErrorKind, Read, Write};
 use std::net::OpenStream;
 use std::rt::Clock;
 use std::time::Duration;
-use std::{io, mem};
+use std::{fmt, io, mem};
 
-/// How many seconds the request of an accepted connection may last, from the start to its last byte, and its reply, from
-/// the first byte to the last.
+/// How many seconds the request of a connection may last, from the start to its last byte, and its reply, from the first byte
+/// to the last.
 pub(crate) const LIMIT_SECONDS: u64 = 30;
 
-/// How many seconds each read of an accepted connection may last.
+/// How many seconds a connection may be silent while its request comes in.
 pub(crate) const READ_SECONDS: u64 = 10;
 
-/// A connection that was accepted, with a count of its failures. A single read has a limit of time (10 seconds), and so
-/// have the whole request and the whole reply (30 seconds), the reply's from its first byte on; what is read after a
-/// response of status 100 that it sends has as long from that one on. It was begun by its peer, so `connect` begins no other, and fails.
+/// A connection that was accepted, with a count of its failures. Its request is what came in before that: `recv` waits for
+/// nothing, gives the end where the peer has said it, and fails behind what came in where it has not. Its reply may last 30
+/// seconds from its first byte on. It was begun by its peer, so `connect` begins no other, and fails.
 ///
 /// A reply does not wait for its peer: `send` takes the whole piece, and what the system does not take at once is kept in
 /// memory. `hang_up` ends the calls at once; what is left of the reply is sent once the door has the connection back. A
 /// response of status 100 has left before the request is read on. Where the door has sent that response already, the first
 /// `send`, if it is of just that, takes it as sent.
 ///
-/// It reports on standard error a request that changes something and one that is refused: the method, the target, the status
-/// and the first 200 bytes of the reply's body; and before that what became of each key that was to be taken in or given up.
-/// Where the reply is not taken in its time, that is reported as well.
+/// It reports on standard error a request that changes something and one that is refused: the method, the target before its
+/// query, the status, and the first 200 bytes of the reply's body where no keystores were to be taken in; and before that what
+/// became of each key that was to be taken in or given up. Where the reply is not taken in its time, that is reported as well.
 #[derive(Drop)]
 pub struct TcpConn<S: Read + Write + OpenStream + Drop, C: Eprint + Clock + Drop> {
     stream: Option<Timed<S>>,
     /// The connection after its end, where a reply was begun.
     ended: Option<Timed<S>>,
-    /// What was read of the request before the connection was accepted.
-    arrived: Vec<u8>,
+    /// What came in of the request before the connection was accepted. Nothing was sent since while its peer counts as asked.
+    arrived: Arrived,
     /// How much of that was received.
     taken: usize,
-    /// Its peer was asked for the body before, or is not to be any more, and nothing was sent since.
-    is_asked: bool,
     /// The span of the reply, where one was begun.
     reply: Option<Span>,
     /// What is still to be sent of it.
@@ -59,40 +58,54 @@ pub struct TcpConn<S: Read + Write + OpenStream + Drop, C: Eprint + Clock + Drop
     faults: u64,
 }
 
-// A connection whose calls wait, and all end with this span.
+/// What became of a request: the method, the target before its query, the status, and the front of the reply's body, of which
+/// nothing is told where keystores were sent, since it may have what the signing service said of them.
+#[derive(Drop)]
+struct Replied<'a>(&'a Heard);
+
+impl Display for Replied<'_> {
+    fn fmt<W: fmt::Write>(&self, f: &mut Formatter<W>) -> fmt::Result {
+        let Replied(heard) = self;
+        let call = heard.call_without_query();
+        let Some(status) = heard.status() else {
+            return write!(f, "{call}: no reply");
+        };
+        write!(f, "{call}: {}", Visible(status))?;
+        if !heard.is_import() {
+            write!(f, " {}", heard.body())?;
+        }
+        Ok(())
+    }
+}
+
+// A connection whose calls wait, and end with this span until it has another.
 fn timed<S: Read + Write + OpenStream + Drop>(
     alloc: Global,
     stream: S,
     span: Span,
 ) -> io::Result<Timed<S>> {
     stream.set_nonblocking(false)?;
-    let longest = Duration::from_secs(READ_SECONDS);
-    Timed::new(alloc, stream, span, Some(longest))
+    Timed::new(alloc, stream, span)
 }
 
 impl<S: Read + Write + OpenStream + Drop, C: Eprint + Clock + Drop> TcpConn<S, C> {
-    // A connection whose request is to be read within this span, where these bytes of it were read before and its peer may
-    // have been asked for the body, and that makes these reports. One of which the system does not let it read fails at each
-    // call.
+    // A connection whose request has come in, and that makes these reports. One that the system does not let wait fails at
+    // each call.
     pub(crate) fn new(
         alloc: Global,
         stream: S,
         span: Span,
-        arrived: Vec<u8>,
-        is_asked: bool,
+        arrived: Arrived,
         clock: C,
         reports: Reports,
     ) -> Self
         ensures { result.faults ≡ 0 }
     {
-        let stream = timed(alloc, stream, span).ok();
-        let taken = if stream.is_some() { 0 } else { arrived.len() };
         TcpConn {
-            stream,
+            stream: timed(alloc, stream, span).ok(),
             ended: None,
             arrived,
-            taken,
-            is_asked,
+            taken: 0,
             reply: None,
             rest: Rest::new(alloc),
             clock,
@@ -110,7 +123,6 @@ impl<S: Read + Write + OpenStream + Drop, C: Eprint + Clock + Drop> TcpConn<S, C
             ended,
             arrived: _arrived,
             taken: _taken,
-            is_asked: _is_asked,
             reply,
             rest,
             clock: _clock,
@@ -135,7 +147,7 @@ impl<S: Read + Write + OpenStream + Drop, C: Eprint + Clock + Drop> TcpConn<S, C
         ensures some { IfOk result (λ n. 0 < length piece.now → 0 < n) }
         ensures faults { self.new.faults ≡ self.old.faults }
     {
-        let is_asked = mem::replace(&mut self.is_asked, false);
+        let is_asked = mem::replace(&mut self.arrived.is_asked, false);
         if is_asked && self.stream.is_some() && piece == CONTINUE {
             return Ok(piece.len());
         }
@@ -214,15 +226,18 @@ impl<S: Read + Write + OpenStream + Drop, C: Eprint + Clock + Drop> TcpConn<S, C
         self.rest.send_all(&mut self.stream, &self.clock)
     }
 
-    // Reads some bytes of a request: of those that were read before, or of the connection.
+    // Reads some bytes of a request, of those that came in before. Nothing is waited for behind them, whatever is missing.
     fn read(&mut self, buf: &mut [u8]) -> io::Result<usize>
         ensures bound { ReadsAtMost result buf.new }
         ensures faults { self.new.faults ≡ self.old.faults }
     {
+        if self.stream.is_none() {
+            return Err(io::Error::from(ErrorKind::NotConnected));
+        }
         self.end_reply()?;
-        let mut rest = self.arrived.get(self.taken..).unwrap_or(&[]);
-        if rest.is_empty() {
-            return recv_over(&mut self.stream, &self.clock, buf);
+        let mut rest = self.arrived.bytes.get(self.taken..).unwrap_or(&[]);
+        if rest.is_empty() && !self.arrived.is_ended {
+            return Err(io::Error::from(ErrorKind::TimedOut));
         }
         let count = rest.read(buf)?;
         self.taken = self.taken.saturating_add(count);
@@ -233,8 +248,8 @@ impl<S: Read + Write + OpenStream + Drop, C: Eprint + Clock + Drop> TcpConn<S, C
     fn report(&self) {
         let is_news = self.reports.has_news() && self.heard.changes();
         if self.stream.is_some() && (is_news || self.heard.is_refusal()) {
-            let call = Call(&self.heard);
-            let _ = eprintln!(&self.clock; "Keymanager API: {call}");
+            let replied = Replied(&self.heard);
+            let _ = eprintln!(&self.clock; "Keymanager API: {replied}");
         }
     }
 
@@ -244,7 +259,9 @@ impl<S: Read + Write + OpenStream + Drop, C: Eprint + Clock + Drop> TcpConn<S, C
     {
         self.heard.answer(piece);
         if self.heard.changes() {
-            self.outcomes.answer(&self.clock, self.reports, piece);
+            let messages = Messages::of(&self.heard);
+            self.outcomes
+                .answer(&self.clock, self.reports, messages, piece);
         }
     }
 
@@ -317,9 +334,8 @@ impl<S: Read + Write + OpenStream + Drop, C: Eprint + Clock + Copy + Drop> Link 
         Ok(TcpConn {
             stream: None,
             ended: None,
-            arrived: Vec::new(alloc),
+            arrived: Arrived::none(alloc),
             taken: 0,
-            is_asked: false,
             reply: None,
             rest: Rest::new(alloc),
             clock: self.clock,

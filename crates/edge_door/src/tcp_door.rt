@@ -19,10 +19,11 @@ use std::rt::Clock;
 /// `listen` or `accept` on. What the system says of a failure is reported on standard error. A connection that ends
 /// while it is accepted is passed over. Where the system cannot accept for now, as when the process may open no more
 /// files, that is reported once, and the door tries again until it can. Once its halt is raised `accept` waits for no
-/// connection: no further one comes.
+/// connection: no further one comes, and no peer is asked for a body.
 ///
 /// Some connections wait beside each other until their requests have come in, so that a slow peer bars no other: the first
-/// whose request is there is given first. One whose head does not bear the token is given once that head is there. A peer
+/// whose request is there is given first, and nothing more of it is waited for. One whose head does not bear the token is given
+/// once that head is there. A peer
 /// that bears it and sends its body only once it is asked to (RFC 9110, `Expect`) is asked as soon as its head is there, and
 /// waits like others.
 ///
@@ -139,21 +140,13 @@ impl<'a, N: Net + Eprint + Clock + Drop> TcpDoor<'a, N> {
 }
 
 impl<N: Net + Eprint + Clock + Copy + Drop> TcpDoor<'_, N> {
-    // A connection whose request is there, whose calls go on within what is left of its span.
+    // A connection whose request is there.
     fn served(&self, waiting: Waiting<N::Stream>) -> TcpConn<N::Stream, N>
         ensures { result.faults ≡ 0 }
     {
-        let (stream, span, arrived, is_asked) = waiting.into_parts();
+        let (stream, span, arrived) = waiting.into_parts();
         let handle = *self.lobby.handle();
-        TcpConn::new(
-            self.alloc,
-            stream,
-            span,
-            arrived,
-            is_asked,
-            handle,
-            self.reports,
-        )
+        TcpConn::new(self.alloc, stream, span, arrived, handle, self.reports)
     }
 }
 

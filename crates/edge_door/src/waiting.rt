@@ -17,6 +17,39 @@ const PIECE_BYTES: usize = 16_384;
 /// The response that asks for the body of a request (RFC 9110, section 10.1.1).
 pub(crate) const CONTINUE: &[u8] = b"HTTP/1.1 100 Continue\r\n\r\n";
 
+/// How far a request has come in.
+#[derive(Clone, Copy)]
+enum Progress {
+    /// More of it is to come in.
+    Comes,
+    /// It is to be served now: it is there, or nothing more of it is waited for.
+    Due,
+    /// The same, since its peer says that nothing more of it comes.
+    Ended,
+}
+
+/// What has come in of a request that is to be served.
+#[derive(Drop)]
+pub(crate) struct Arrived {
+    /// Its bytes. Nothing is read behind them.
+    pub bytes: Vec<u8>,
+    /// Whether its end was seen behind them.
+    pub is_ended: bool,
+    /// Its peer was asked for the body, or is not to be asked any more.
+    pub is_asked: bool,
+}
+
+impl Arrived {
+    // Nothing of a request. Takes no memory.
+    pub(crate) fn none(alloc: Global) -> Self {
+        Arrived {
+            bytes: Vec::new(alloc),
+            is_ended: false,
+            is_asked: false,
+        }
+    }
+}
+
 /// A connection whose request is coming in.
 #[derive(Drop)]
 pub(crate) struct Waiting<S> {
@@ -28,8 +61,7 @@ pub(crate) struct Waiting<S> {
     coming: Coming,
     /// Its peer was asked for the body, or is not to be asked any more.
     is_asked: bool,
-    /// Its request is to be served now: it is there, or nothing further comes in.
-    is_due: bool,
+    progress: Progress,
 }
 
 /// What a look at the connections has found.
@@ -86,15 +118,14 @@ impl<S: Read + Write + OpenStream + Drop> Room<S> {
         }
     }
 
-    /// Reads what has come in of the requests that are not there yet, asks for the bodies whose senders wait for that, and
-    /// finds the first connection whose request is to be served now.
+    /// Reads what has come in of the requests that are not there yet, asks for the bodies whose senders wait for that, gives up
+    /// those that come in too slowly, and finds the first connection whose request is to be served now.
     pub(crate) fn look<C: Clock>(&mut self, clock: &C, token: &str) -> Look {
         let mut ready = None;
         let mut has_come = false;
         'waiting: for (place, waiting) in self.waiting.iter_mut().enumerate() {
-            let came = !waiting.is_due && waiting.work(clock, token);
-            has_come |= came;
-            if ready.is_none() && (waiting.is_due || !came && waiting.is_late(clock)) {
+            has_come |= waiting.is_coming() && waiting.work(clock, token);
+            if ready.is_none() && !waiting.is_coming() {
                 ready = Some(place);
             }
         }
@@ -133,29 +164,43 @@ impl<S: Read + Write + OpenStream + Drop> Waiting<S> {
             arrived: Vec::new(alloc),
             coming: Coming::new(),
             is_asked: false,
-            is_due: false,
+            progress: Progress::Comes,
         })
     }
 
-    // The connection, its span, what of its request has come in, and whether its peer was asked for the body, or is not to be
-    // any more.
-    pub(crate) fn into_parts(self) -> (S, Span, Vec<u8>, bool) {
+    // The connection, its span, and what of its request has come in.
+    pub(crate) fn into_parts(self) -> (S, Span, Arrived) {
         let Waiting {
             stream,
             span,
             silence: _silence,
-            arrived,
+            arrived: bytes,
             coming: _coming,
             is_asked,
-            is_due: _is_due,
+            progress,
         } = self;
-        (stream, span, arrived, is_asked)
+        let is_ended = matches!(progress, Progress::Ended);
+        let arrived = Arrived {
+            bytes,
+            is_ended,
+            is_asked,
+        };
+        (stream, span, arrived)
     }
 
-    // Reads what has come in, and says whether anything has. Where its peer waits to be asked for the body, it is.
+    // Whether more of its request is to come in.
+    fn is_coming(&self) -> bool {
+        matches!(self.progress, Progress::Comes)
+    }
+
+    // Reads what has come in, and says whether anything has. Where its peer waits to be asked for the body, it is. Where
+    // nothing has come in and its time is over, it is given up.
     fn work<C: Clock>(&mut self, clock: &C, token: &str) -> bool {
         let has_come = self.read(clock, token);
-        if !self.is_due && !self.is_asked && self.coming.waits_to_be_asked() {
+        if !has_come && self.is_late(clock) {
+            self.give_up();
+        }
+        if self.is_coming() && !self.is_asked && self.coming.waits_to_be_asked() {
             self.ask();
         }
         has_come
@@ -170,32 +215,41 @@ impl<S: Read + Write + OpenStream + Drop> Waiting<S> {
         }
     }
 
-    // Its request is to be served now, and whoever serves it finds its time over.
+    // Nothing more of its request is waited for.
     fn give_up(&mut self) {
-        self.span = self.span.with_limit(Duration::ZERO);
         self.is_asked = true;
-        self.is_due = true;
+        self.progress = Progress::Due;
     }
 
-    // Reads what has come in, and says whether anything has. Where memory is wanted for it, it is left to whoever serves the
-    // request.
+    // Reads what has come in, and says whether anything has. Where memory is wanted for it, nothing more is waited for.
     fn read<C: Clock>(&mut self, clock: &C, token: &str) -> bool {
         let mut piece = [0; PIECE_BYTES];
         if self.arrived.reserve(PIECE_BYTES).is_err() {
-            self.is_due = true;
+            self.give_up();
             return false;
         }
         match self.stream.read(&mut piece) {
             Err(error) if is_later(error.kind()) => false,
-            Ok(0) | Err(_) => {
-                self.is_due = true;
+            Ok(0) => {
+                self.progress = Progress::Ended;
+                false
+            }
+            Err(_) => {
+                self.give_up();
                 false
             }
             Ok(count) => {
                 self.keep(clock, piece.get(..count).unwrap_or(&[]));
-                self.is_due = self.coming.is_ready(self.arrived.as_slice(), token);
+                self.judge(token);
                 true
             }
+        }
+    }
+
+    // Looks whether its request is to be served now.
+    fn judge(&mut self, token: &str) {
+        if self.coming.is_ready(self.arrived.as_slice(), token) {
+            self.progress = Progress::Due;
         }
     }
 
@@ -207,13 +261,9 @@ impl<S: Read + Write + OpenStream + Drop> Waiting<S> {
         }
     }
 
-    // Whether its request comes in too slowly, for which it is given up.
-    fn is_late<C: Clock>(&mut self, clock: &C) -> bool {
-        let is_late = self.span.left(clock).is_err() || self.silence.left(clock).is_err();
-        if is_late {
-            self.give_up();
-        }
-        is_late
+    // Whether more of its request is to come in, and its time is over.
+    fn is_late<C: Clock>(&self, clock: &C) -> bool {
+        self.is_coming() && (self.span.left(clock).is_err() || self.silence.left(clock).is_err())
     }
 
     // Its time begins now.

@@ -22,7 +22,7 @@ pub struct ToldNode<'a, N, E> {
     reports: Reports,
     /// For how many keys it was asked indices, and answered, since it was last asked for the fork.
     keys: u64,
-    /// Whether it was asked for duties.
+    /// Whether it was asked for duties after it had answered for some keys.
     has_begun: bool,
 }
 
@@ -64,16 +64,16 @@ impl<'a, N, E: Eprint> ToldNode<'a, N, E> {
         }
     }
 
-    // Reports for how many keys it was asked indices, before it is first asked for duties.
+    // Reports for how many keys it was asked indices, and answered, before it is first asked for duties after that.
     fn report_keys(&mut self, ask: &Ask)
         ensures { self.new.inner ≡ self.old.inner }
     {
-        if !matches!(ask, Ask::Proposer { .. }) || self.has_begun {
+        let keys = self.keys;
+        if !matches!(ask, Ask::Proposer { .. }) || self.has_begun || keys == 0 {
             return;
         }
         self.has_begun = true;
-        let keys = self.keys;
-        if keys > 0 && self.reports.has_news() {
+        if self.reports.has_news() {
             let _ = eprintln!(&self.handle; "validator: {keys} keys");
         }
     }

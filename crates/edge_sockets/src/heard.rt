@@ -3,25 +3,31 @@ use std::alloc::Global;
 use std::fmt;
 use std::fmt::{Display, Formatter};
 
-/// How many bytes of a request and of its answer are held at most.
-const FRONT_BYTES: usize = 512;
+/// How many bytes of a request are held at most.
+const REQUEST_BYTES: usize = 512;
 
-/// How many bytes of a body a report has at most.
+/// How many bytes of an answer's first line are held at most: up to the end of its status.
+const STATUS_BYTES: usize = 12;
+
+/// How many bytes of a body are held at most, and a report has.
 const BODY_BYTES: usize = 200;
 
-/// The front of what went one way, without a gap.
+/// The front of what came, without a gap.
 #[derive(Drop)]
 struct Front {
     bytes: Vec<u8>,
+    /// How many bytes are held at most.
+    most: usize,
     /// Memory was wanted for a piece: what came after it is not held.
     is_cut: bool,
 }
 
 impl Front {
-    // Nothing went that way yet. Takes no memory.
-    fn new(alloc: Global) -> Self {
+    // Nothing came yet, of which that many bytes are to be held. Takes no memory.
+    fn new(alloc: Global, most: usize) -> Self {
         Front {
             bytes: Vec::new(alloc),
+            most,
             is_cut: false,
         }
     }
@@ -34,7 +40,7 @@ impl Front {
 
     // Adds the front of a piece to what is held, as far as there is room for it.
     fn hold(&mut self, piece: &[u8]) {
-        let room = FRONT_BYTES.saturating_sub(self.bytes.len());
+        let room = self.most.saturating_sub(self.bytes.len());
         let front = piece.get(..room).unwrap_or(piece);
         if !self.is_cut {
             self.is_cut = self.bytes.extend_from_slice(front).is_err();
@@ -42,19 +48,116 @@ impl Front {
     }
 }
 
+/// How far the head of an answer has come.
+#[derive(Clone, Copy)]
+enum HeadPart {
+    /// Into one of its lines.
+    Line,
+    /// To the start of a line after its first one.
+    Start,
+    /// Behind a CR at such a start.
+    Return,
+    /// Over its end: what comes is of the body.
+    Over,
+}
+
+impl HeadPart {
+    // How far it has come with one byte more.
+    fn with(self, byte: u8) -> HeadPart {
+        match (self, byte) {
+            (HeadPart::Over, _) => HeadPart::Over,
+            (HeadPart::Start | HeadPart::Return, b'\n') => HeadPart::Over,
+            (HeadPart::Start, b'\r') => HeadPart::Return,
+            (HeadPart::Line, b'\n') => HeadPart::Start,
+            _ => HeadPart::Line,
+        }
+    }
+}
+
+/// The front of an answer's first line, and that of its body, however long its head is. A head of status 100 to 199 is none of
+/// an answer: another one follows it.
+#[derive(Drop)]
+struct Answer {
+    line: Front,
+    head: HeadPart,
+    body: Front,
+}
+
+impl Answer {
+    // Nothing of it came yet. Takes no memory.
+    fn new(alloc: Global) -> Self {
+        Answer {
+            line: Front::new(alloc, STATUS_BYTES),
+            head: HeadPart::Line,
+            body: Front::new(alloc, BODY_BYTES),
+        }
+    }
+
+    // Nothing is held any more.
+    fn clear(&mut self) {
+        self.line.clear();
+        self.head = HeadPart::Line;
+        self.body.clear();
+    }
+
+    // Whether its head is over.
+    fn is_over(&self) -> bool {
+        matches!(self.head, HeadPart::Over)
+    }
+
+    // Whether its head is one that another one follows, as far as it has come.
+    fn is_interim(&self) -> bool {
+        matches!(self.line.bytes.get(9), Some(b'1'))
+    }
+
+    // Takes one piece more.
+    fn take(&mut self, piece: &[u8]) {
+        let body = self.take_head(piece);
+        self.body.hold(body);
+    }
+
+    // Takes what of a piece is of the head, and gives the rest, which is of the body.
+    fn take_head<'p>(&mut self, piece: &'p [u8]) -> &'p [u8] {
+        'bytes: for (at, byte) in piece.iter().enumerate() {
+            if self.is_over() {
+                return piece.get(at..).unwrap_or(&[]);
+            }
+            self.take_byte(*byte);
+        }
+        &[]
+    }
+
+    // Takes a byte of the head.
+    fn take_byte(&mut self, byte: u8) {
+        self.line.hold(&[byte]);
+        self.head = self.head.with(byte);
+        if self.is_over() && self.is_interim() {
+            self.clear();
+        }
+    }
+
+    // The three digits of its status, if there are any.
+    fn status(&self) -> Option<&[u8]> {
+        if self.is_interim() {
+            return None;
+        }
+        self.line.bytes.get(9..STATUS_BYTES)
+    }
+}
+
 /// The front of a request, and of its answer, by bytes as they went over a connection.
 #[derive(Drop)]
 pub struct Heard {
     asked: Front,
-    answered: Front,
+    answered: Answer,
 }
 
 impl Heard {
     /// That of an exchange in which nothing was said yet. Takes no memory.
     pub fn new(alloc: Global) -> Self {
         Heard {
-            asked: Front::new(alloc),
-            answered: Front::new(alloc),
+            asked: Front::new(alloc, REQUEST_BYTES),
+            answered: Answer::new(alloc),
         }
     }
 
@@ -65,20 +168,25 @@ impl Heard {
     }
 
     /// Holds the front of the request, of which this is one piece more. Where memory is wanted for a piece, neither it nor what
-    /// comes after it is held. What was answered before was no answer to all of it, and is forgotten.
+    /// comes after it is held, and empty lines before it never are. What was answered before was no answer to all of it, and is
+    /// forgotten.
     pub fn ask(&mut self, piece: &[u8]) {
         self.answered.clear();
-        self.asked.hold(piece);
+        if self.is_begun() {
+            self.asked.hold(piece);
+        } else {
+            self.asked.hold(piece.trim_ascii_start());
+        }
     }
 
-    /// Holds the front of the answer, of which this is one piece more, in the same way.
+    /// Holds the status of the answer, of which this is one piece more, and the front of its body, in the same way.
     pub fn answer(&mut self, piece: &[u8]) {
-        self.answered.hold(piece);
+        self.answered.take(piece);
     }
 
-    // The front of the request, without what stands before its first line.
+    // The front of the request, from its first line on.
     fn request(&self) -> &[u8] {
-        self.asked.bytes.trim_ascii_start()
+        self.asked.bytes.as_slice()
     }
 
     /// The method and the target of the request.
@@ -87,20 +195,25 @@ impl Heard {
         Visible(before(line, b" HTTP/"))
     }
 
+    /// The method of the request and its target before the query, which may have what is not to be reported.
+    pub fn call_without_query(&self) -> Visible<'_> {
+        let Visible(call) = self.call();
+        Visible(before(call, b"?"))
+    }
+
     /// Whether a request was begun.
     pub fn is_begun(&self) -> bool {
         !self.asked.bytes.is_empty()
     }
 
-    /// The three digits of the answer's status, if there are any.
+    /// The three digits of the answer's status, if there are any. A status of 100 to 199 is that of no answer.
     pub fn status(&self) -> Option<&[u8]> {
-        self.answered.bytes.get(9..12)
+        self.answered.status()
     }
 
     /// The front of the answer's body.
     pub fn body(&self) -> Visible<'_> {
-        let body = after(self.answered.bytes.as_slice(), b"\r\n\r\n");
-        Visible::front(body)
+        Visible::front(self.answered.body.bytes.as_slice())
     }
 
     /// Whether the answer says that what was asked was not done.
@@ -123,7 +236,7 @@ impl Heard {
 
 /// What became of a call: the method and the target, the answer's status, and the front of its body.
 #[derive(Drop)]
-pub struct Call<'a>(
+pub(crate) struct Call<'a>(
     /// What was said in it.
     pub &'a Heard,
 );

@@ -11,8 +11,8 @@ mod tcp_link;
 mod tcp_stream;
 
 pub use address::Address;
-pub use heard::{Call, Heard, Visible};
+pub use heard::{Heard, Visible};
 pub use silence::Peers;
 pub use span::Span;
 pub use tcp_link::TcpLink;
-pub use tcp_stream::{LongRequests, Timed, is_later, recv_over, send_over, write_now};
+pub use tcp_stream::{LongRequests, Timed, is_later, send_over, write_now};

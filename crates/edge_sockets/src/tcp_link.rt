@@ -142,7 +142,7 @@ impl<N: Net + Eprint + Clock + Drop> TcpLink<N> {
         let mut last = io::Error::from(ErrorKind::NotFound);
         for (index, address) in addresses.enumerate() {
             match self.open_at(address, &span, count.saturating_sub(index)) {
-                Ok(stream) => return Timed::new(self.alloc, stream, span, None),
+                Ok(stream) => return Timed::new(self.alloc, stream, span),
                 Err(e) => last = e,
             }
         }

@@ -37,24 +37,17 @@ pub enum LongRequests {
 pub struct Timed<S: Read + Write + OpenStream + Drop> {
     inner: BufReader<S>,
     span: Span,
-    longest_read: Option<Duration>,
     is_begun: bool,
     is_heard: bool,
 }
 
 impl<S: Read + Write + OpenStream + Drop> Timed<S> {
-    /// A connection whose calls all end with this span, and of which each read may last so long, if that is said.
-    pub fn new(
-        alloc: Global,
-        stream: S,
-        span: Span,
-        longest_read: Option<Duration>,
-    ) -> io::Result<Self> {
+    /// A connection whose calls all end with this span.
+    pub fn new(alloc: Global, stream: S, span: Span) -> io::Result<Self> {
         stream.set_nodelay(true)?;
         Ok(Timed {
             inner: BufReader::new(alloc, stream)?,
             span,
-            longest_read,
             is_begun: false,
             is_heard: false,
         })
@@ -95,20 +88,10 @@ impl<S: Read + Write + OpenStream + Drop> Timed<S> {
         let Timed {
             inner,
             span: _span,
-            longest_read: _longest_read,
             is_begun: _is_begun,
             is_heard: _is_heard,
         } = self;
         inner.into_inner()
-    }
-
-    // How long the next read may last.
-    fn read_limit<C: Clock>(&self, clock: &C) -> io::Result<Duration> {
-        let left = self.span.left(clock)?;
-        match self.longest_read {
-            Some(longest) => Ok(left.min(longest)),
-            None => Ok(left),
-        }
     }
 
     // Writes some bytes of the piece within what is left of the span.
@@ -126,8 +109,8 @@ impl<S: Read + Write + OpenStream + Drop> Timed<S> {
         ensures bound { ReadsAtMost result buf.new }
     {
         if self.inner.buffer().is_empty() {
-            let limit = self.read_limit(clock)?;
-            self.inner.get_ref().set_read_timeout(Some(limit))?;
+            let left = self.span.left(clock)?;
+            self.inner.get_ref().set_read_timeout(Some(left))?;
         }
         in_time(self.inner.read(buf))
     }
@@ -212,7 +195,7 @@ pub fn send_over<S: Read + Write + OpenStream + Drop, C: Clock>(
 }
 
 /// Reads some bytes into the front of the buffer.
-pub fn recv_over<S: Read + Write + OpenStream + Drop, C: Clock>(
+pub(crate) fn recv_over<S: Read + Write + OpenStream + Drop, C: Clock>(
     stream: &mut Option<Timed<S>>,
     clock: &C,
     buf: &mut [u8],

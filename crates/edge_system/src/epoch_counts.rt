@@ -151,7 +151,7 @@ impl<E: Eprint + Clock> Tally<'_, E> {
 }
 
 /// An output of duty lines, which reports on standard error what they say of each epoch, in one line once a line of another
-/// epoch comes, with how many keys are active, and how many seconds past the moment at which the votes of a slot are due the
+/// epoch comes or nothing more is written, with how many keys are active, and how many seconds past the moment at which the votes of a slot are due the
 /// lines of the slowest came. What is written goes to the output behind it, unchanged.
 #[derive(Drop)]
 pub struct EpochCounts<'a, O, E> {
@@ -179,6 +179,13 @@ impl<'a, O, E> EpochCounts<'a, O, E> {
                 counts: Counts::of(0),
             },
         }
+    }
+}
+
+impl<O, E: Eprint + Clock> EpochCounts<'_, O, E> {
+    /// Reports what was counted of the epoch at hand. For an output to which nothing more is written.
+    pub fn end(&self) {
+        report(&self.tally.counts, &self.tally.handle, self.tally.reports);
     }
 }
 

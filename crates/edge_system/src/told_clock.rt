@@ -4,8 +4,9 @@ use edge_clock::Clock;
 use std::io::Eprint;
 use std::sync::Wait;
 
-/// How many seconds late a wait is that is reported: a slot's.
-const LATE_SECONDS: u64 = 12;
+/// How many seconds late a wait is that is reported: from then on the votes of a slot, which are waited for up to a third of it,
+/// are dropped, and a little later all its duties.
+const LATE_SECONDS: u64 = 8;
 
 /// What a clock that is set back does to whoever waits.
 #[derive(Clone, Copy, PartialEq, Eq, Debug)]
@@ -27,8 +28,8 @@ impl SetBack {
     }
 }
 
-/// A clock that reports on standard error each wait that is over so late that the duties of a slot are dropped, and each
-/// that is over before its moment, since the clock was set back. It notes what is waited for.
+/// A clock that reports on standard error each wait that is over so late that votes of a slot are dropped, or all its duties,
+/// and each that is over before its moment, since the clock was set back. It notes what is waited for.
 #[derive(Drop)]
 pub struct ToldClock<'a, C, E> {
     inner: C,

@@ -79,7 +79,7 @@ chunks_end a b c body now t step =
       };
     }
 
-pub chunks_break : (a b c : Option (List ℕ)) (body : List ℕ) → TookChunks a b body → Took b c (λ taken. IsNoChunk taken c) → Took a c (λ taken. BreaksChunked taken c)
+pub chunks_break : (a b c : Option (List ℕ)) (body : List ℕ) → TookChunks a b body → Took b c (λ taken. IsNoChunk (length body) taken c) → Took a c (λ taken. BreaksChunked taken c)
 chunks_break a b c body t step = record {
   bytes = t.front ++ step.bytes;
   taken = Consumes-trans a b c t.front step.bytes t.taken step.taken;

@@ -25,33 +25,33 @@ line_form : (line : List ℕ) (size : ℕ) → SaysSize line size → Within IsC
 line_form line size s = record { form = (s.tree, s.reads); short = s.short }
 
 -- no chunk stands where one was read
-chunk_stands : (c : Chunk) (rest w b : List ℕ) → IsChunk c → IsNoChunk w (Some b) → c.line ++ ((c.bytes ++ crlf_bytes) ++ rest) ≡ w ++ b → ⊥
-chunk_stands c rest w b is (no_line stuck) e = (stops_whole IsChunkText head_limit w b stuck).none c.line ((c.bytes ++ crlf_bytes) ++ rest) (line_form c.line (length c.bytes) is.size) (sym e)
-chunk_stands c rest w b is (cut_short line bytes size says short end split) e =
+chunk_stands : (n : ℕ) (c : Chunk) (rest w b : List ℕ) → IsChunk c → IsNoChunk n w (Some b) → c.line ++ ((c.bytes ++ crlf_bytes) ++ rest) ≡ w ++ b → ⊥
+chunk_stands n c rest w b is (no_line stuck) e = (stops_whole IsChunkText head_limit w b stuck).none c.line ((c.bytes ++ crlf_bytes) ++ rest) (line_form c.line (length c.bytes) is.size) (sym e)
+chunk_stands n c rest w b is (cut_short line bytes size says within short end split) e =
     let lines = line_unique c.line ((c.bytes ++ crlf_bytes) ++ rest) line (bytes ++ b) (length c.bytes) size is.size says (e ∙ ap (λ u. u ++ b) split ∙ append_assoc line bytes b) in
     let counts : length ((c.bytes ++ crlf_bytes) ++ rest) ≡ length (bytes ++ b) = ap length lines.2 in
     absurd (omega (arith, counts, lines.1, short, ap length end, length-append (c.bytes ++ crlf_bytes) rest, length-append c.bytes crlf_bytes, length-append bytes b))
-chunk_stands c rest w b is (no_end line bytes tail says some stuck split) e =
+chunk_stands n c rest w b is (no_end line bytes tail says some within stuck split) e =
     let lines = line_unique c.line ((c.bytes ++ crlf_bytes) ++ rest) line (bytes ++ (tail ++ b)) (length c.bytes) (length bytes) is.size says
     (e ∙ ap (λ u. u ++ b) split ∙ append_assoc line (bytes ++ tail) b ∙ ap (λ u. line ++ u) (append_assoc bytes tail b)) in
     let parts = same_front c.bytes (crlf_bytes ++ rest) bytes (tail ++ b) (sym (append_assoc c.bytes crlf_bytes rest) ∙ lines.2) lines.1 in
     (stops_whole IsCrlfText 2 tail b stuck).none crlf_bytes rest (record { form = refl; short = omega arith }) (sym parts.1)
-chunk_stands c rest w b is (no_trailer line tail says stuck split) e =
+chunk_stands n c rest w b is (no_trailer line tail says stuck split) e =
     let lines = line_unique c.line ((c.bytes ++ crlf_bytes) ++ rest) line (tail ++ b) (length c.bytes) 0 is.size says (e ∙ ap (λ u. u ++ b) split ∙ append_assoc line tail b) in
     let some : 0 < length c.bytes = is.some in
     absurd (omega (arith, lines.1, some))
 
 -- nor where the last was
-last_stands : (l t a w b : List ℕ) → SaysSize l 0 → Within IsTrailerText head_limit t → IsNoChunk w (Some b) → l ++ (t ++ a) ≡ w ++ b → ⊥
-last_stands l t a w b s f (no_line stuck) e = (stops_whole IsChunkText head_limit w b stuck).none l (t ++ a) (line_form l 0 s) (sym e)
-last_stands l t a w b s f (cut_short line bytes size says short end split) e =
+last_stands : (n : ℕ) (l t a w b : List ℕ) → SaysSize l 0 → Within IsTrailerText head_limit t → IsNoChunk n w (Some b) → l ++ (t ++ a) ≡ w ++ b → ⊥
+last_stands n l t a w b s f (no_line stuck) e = (stops_whole IsChunkText head_limit w b stuck).none l (t ++ a) (line_form l 0 s) (sym e)
+last_stands n l t a w b s f (cut_short line bytes size says within short end split) e =
     let lines = line_unique l (t ++ a) line (bytes ++ b) 0 size s says (e ∙ ap (λ u. u ++ b) split ∙ append_assoc line bytes b) in
     absurd (omega (arith, lines.1, short))
-last_stands l t a w b s f (no_end line bytes tail says some stuck split) e =
+last_stands n l t a w b s f (no_end line bytes tail says some within stuck split) e =
     let lines = line_unique l (t ++ a) line (bytes ++ (tail ++ b)) 0 (length bytes) s says
     (e ∙ ap (λ u. u ++ b) split ∙ append_assoc line (bytes ++ tail) b ∙ ap (λ u. line ++ u) (append_assoc bytes tail b)) in
     absurd (omega (arith, lines.1, some))
-last_stands l t a w b s f (no_trailer line tail says stuck split) e =
+last_stands n l t a w b s f (no_trailer line tail says stuck split) e =
     let lines = line_unique l (t ++ a) line (tail ++ b) 0 0 s says (e ∙ ap (λ u. u ++ b) split ∙ append_assoc line tail b) in
     (stops_whole IsTrailerText head_limit tail b stuck).none t a f (sym lines.2)
 
@@ -65,15 +65,15 @@ rest_same c d x y p q e =
           (length-append c.bytes crlf_bytes ∙ ap (λ n. n + length crlf_bytes) count ∙ sym (length-append d.bytes crlf_bytes))).1,
     )
 
-chunks_stand : (cs ds : List Chunk) (l t a w b : List ℕ) → All IsChunk cs → All IsChunk ds → SaysSize l 0 → Within IsTrailerText head_limit t → IsNoChunk w (Some b)
+chunks_stand : (n : ℕ) (cs ds : List Chunk) (l t a w b : List ℕ) → All IsChunk cs → All IsChunk ds → SaysSize l 0 → Within IsTrailerText head_limit t → IsNoChunk n w (Some b)
     → print_chunks cs ++ (l ++ (t ++ a)) ≡ print_chunks ds ++ (w ++ b) → ⊥
-chunks_stand [] [] l t a w b p q s f bad e = last_stands l t a w b s f bad e
-chunks_stand (c ∷ cs) [] l t a w b p q s f bad e =
-    chunk_stands c (print_chunks cs ++ (l ++ (t ++ a))) w b (All-head IsChunk c cs p) bad (sym (cons_split c cs (l ++ (t ++ a))) ∙ e)
-chunks_stand [] (d ∷ ds) l t a w b p q s f bad e = last_no_chunk l (t ++ a) d ds (w ++ b) s (All-head IsChunk d ds q) e
-chunks_stand (c ∷ cs) (d ∷ ds) l t a w b p q s f bad e =
+chunks_stand n [] [] l t a w b p q s f bad e = last_stands n l t a w b s f bad e
+chunks_stand n (c ∷ cs) [] l t a w b p q s f bad e =
+    chunk_stands n c (print_chunks cs ++ (l ++ (t ++ a))) w b (All-head IsChunk c cs p) bad (sym (cons_split c cs (l ++ (t ++ a))) ∙ e)
+chunks_stand n [] (d ∷ ds) l t a w b p q s f bad e = last_no_chunk l (t ++ a) d ds (w ++ b) s (All-head IsChunk d ds q) e
+chunks_stand n (c ∷ cs) (d ∷ ds) l t a w b p q s f bad e =
     let rest = (rest_same c d (print_chunks cs ++ (l ++ (t ++ a))) (print_chunks ds ++ (w ++ b)) (All-head IsChunk c cs p) (All-head IsChunk d ds q) (sym (cons_split c cs (l ++ (t ++ a))) ∙ e ∙ cons_split d ds (w ++ b))).1 in
-    chunks_stand cs ds l t a w b (All-tail IsChunk c cs p) (All-tail IsChunk d ds q) s f bad rest
+    chunks_stand n cs ds l t a w b (All-tail IsChunk c cs p) (All-tail IsChunk d ds q) s f bad rest
 
 -- chunks within the limit pass it nowhere
 chunks_within : (cs ds : List Chunk) (l m a b : List ℕ) (n size : ℕ) → All IsChunk cs → All IsChunk ds → SaysSize l 0 → SaysSize m size
@@ -98,7 +98,7 @@ pub body_stands : (to_end : Bool) (f : Framing) (x a y b v : List ℕ) → IsBod
 body_stands to_end (Sized n) x a y b v s bad e =
     absurd (omega (arith, ap length e, length-append x a, length-append y b, ap length s.0, s.1, bad.1, ap length bad.2))
 body_stands to_end Chunked x a y b v s bad e =
-    chunks_stand s.chunks bad.chunks s.last s.trailer a bad.tail b s.are.each bad.are.each s.size s.fields bad.wrong
+    chunks_stand (length bad.body) s.chunks bad.chunks s.last s.trailer a bad.tail b s.are.each bad.are.each s.size s.fields bad.wrong
     (sym (chunked_stream x v a s) ∙ e ∙ ap (λ u. u ++ b) (bad.split ∙ ap (λ u. u ++ bad.tail) bad.are.text_is) ∙ append_assoc (print_chunks bad.chunks) bad.tail b)
 body_stands to_end Unsaid x a y b v s bad e = bad
 body_stands to_end Bad x a y b v s bad e = s

@@ -14,8 +14,8 @@ use Rattle.http_wire.specs.Steps.{Took, AddsChunk, EndsChunks, PassesBy}
 abbrev pub TookSize : Option (List ℕ) → Option (List ℕ) → ℕ → Type 0
 TookSize a b size = Took a b (λ line. SaysSize line size)
 
-pub line_stuck : (a b : Option (List ℕ)) → Took a b (λ taken. StopsWithin IsChunkText head_limit taken b) → Took a b (λ taken. IsNoChunk taken b)
-line_stuck a b t = record { bytes = t.bytes; taken = t.taken; holds = no_line t.holds }
+pub line_stuck : (n : ℕ) (a b : Option (List ℕ)) → Took a b (λ taken. StopsWithin IsChunkText head_limit taken b) → Took a b (λ taken. IsNoChunk n taken b)
+line_stuck n a b t = record { bytes = t.bytes; taken = t.taken; holds = no_line t.holds }
 
 pub trailer_read : (a b c : Option (List ℕ)) (body trailer : List ℕ) → TookSize a b 0 → Consumes b c trailer → Within IsTrailerText head_limit trailer → Took a c (EndsChunks body body)
 trailer_read a b c body trailer line taken fields = record {
@@ -24,8 +24,8 @@ trailer_read a b c body trailer line taken fields = record {
   holds = record { last = line.bytes; size = line.holds; trailer = trailer; fields = fields; text = refl; body = refl };
 }
 
-pub trailer_stuck : (a b c : Option (List ℕ)) (tail : List ℕ) → TookSize a b 0 → Consumes b c tail → StopsWithin IsTrailerText head_limit tail c → Took a c (λ t. IsNoChunk t c)
-trailer_stuck a b c tail line taken stuck = record {
+pub trailer_stuck : (n : ℕ) (a b c : Option (List ℕ)) (tail : List ℕ) → TookSize a b 0 → Consumes b c tail → StopsWithin IsTrailerText head_limit tail c → Took a c (λ t. IsNoChunk n t c)
+trailer_stuck n a b c tail line taken stuck = record {
   bytes = line.bytes ++ tail;
   taken = Consumes-trans a b c line.bytes tail line.taken taken;
   holds = no_trailer line.bytes tail line.holds stuck refl;
@@ -34,11 +34,11 @@ trailer_stuck a b c tail line taken stuck = record {
 pub limit_passed : (a b : Option (List ℕ)) (size : ℕ) (body : List ℕ) → TookSize a b size → body_limit < length body + size → Took a b (PassesBy body)
 limit_passed a b size body line over = record { bytes = line.bytes; taken = line.taken; holds = record { size = size; says = line.holds; over = over } }
 
-pub stops_short : (a b c : Option (List ℕ)) (size : ℕ) → TookSize a b size → StopsShort b c size → Took a c (λ t. IsNoChunk t c)
-stops_short a b c size line s = record {
+pub stops_short : (n : ℕ) (a b c : Option (List ℕ)) (size : ℕ) → TookSize a b size → n + size ≤ body_limit → StopsShort b c size → Took a c (λ t. IsNoChunk n t c)
+stops_short n a b c size line within s = record {
   bytes = line.bytes ++ s.bytes;
   taken = Consumes-trans a b c line.bytes s.bytes line.taken s.taken;
-  holds = cut_short line.bytes s.bytes size line.holds s.short s.end refl;
+  holds = cut_short line.bytes s.bytes size line.holds within s.short s.end refl;
 }
 
 sized_line : (line bytes : List ℕ) (size : ℕ) → SaysSize line size → length bytes ≡ size → SaysSize line (length bytes)
@@ -60,12 +60,12 @@ chunk_read a b c d size before now end line some within gains taken e =
       };
     }
 
-pub crlf_stuck : (a b c d : Option (List ℕ)) (size : ℕ) (before now tail : List ℕ) → TookSize a b size → 0 < size → Gains b c size before now → Consumes c d tail → StopsWithin IsCrlfText 2 tail d → Took a d (λ t. IsNoChunk t d)
-crlf_stuck a b c d size before now tail line some gains taken stuck =
+pub crlf_stuck : (a b c d : Option (List ℕ)) (size : ℕ) (before now tail : List ℕ) → TookSize a b size → 0 < size → length before + size ≤ body_limit → Gains b c size before now → Consumes c d tail → StopsWithin IsCrlfText 2 tail d → Took a d (λ t. IsNoChunk (length before) t d)
+crlf_stuck a b c d size before now tail line some within gains taken stuck =
     let both = Consumes-trans a b c line.bytes gains.bytes line.taken gains.taken in
     let count : length gains.bytes ≡ size = gains.count in
     record {
       bytes = (line.bytes ++ gains.bytes) ++ tail;
       taken = Consumes-trans a c d (line.bytes ++ gains.bytes) tail both taken;
-      holds = no_end line.bytes gains.bytes tail (sized_line line.bytes gains.bytes size line.holds gains.count) (omega arith) stuck (append_assoc line.bytes gains.bytes tail);
+      holds = no_end line.bytes gains.bytes tail (sized_line line.bytes gains.bytes size line.holds gains.count) (omega arith) (omega arith) stuck (append_assoc line.bytes gains.bytes tail);
     }

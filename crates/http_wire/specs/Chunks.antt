@@ -53,16 +53,17 @@ pub record SpellsChunked (text body : List ℕ) : Type 0 where
   pub fields : Within IsTrailerText head_limit trailer
   pub split : text ≡ front ++ (last ++ trailer)
 
--- what can stand where a chunk should, and isn't one
-pub data IsNoChunk (text : List ℕ) (left : Option (List ℕ)) : Type 0 where
+-- what can stand where a chunk should, after so many bytes of the body, and isn't one. A line with which the body passes the
+-- limit is no such thing: it is refused for that, whatever follows it.
+pub data IsNoChunk (before : ℕ) (text : List ℕ) (left : Option (List ℕ)) : Type 0 where
   -- no line of a chunk
-  no_line : StopsWithin IsChunkText head_limit text left → IsNoChunk text left
+  no_line : StopsWithin IsChunkText head_limit text left → IsNoChunk before text left
   -- the end within the bytes of a chunk
-  cut_short : (line bytes : List ℕ) (size : ℕ) → SaysSize line size → length bytes < size → IsAtEnd left → text ≡ line ++ bytes → IsNoChunk text left
+  cut_short : (line bytes : List ℕ) (size : ℕ) → SaysSize line size → before + size ≤ body_limit → length bytes < size → IsAtEnd left → text ≡ line ++ bytes → IsNoChunk before text left
   -- no CR LF after them
-  no_end : (line bytes tail : List ℕ) → SaysSize line (length bytes) → 0 < length bytes → StopsWithin IsCrlfText 2 tail left → text ≡ line ++ (bytes ++ tail) → IsNoChunk text left
+  no_end : (line bytes tail : List ℕ) → SaysSize line (length bytes) → 0 < length bytes → before + length bytes ≤ body_limit → StopsWithin IsCrlfText 2 tail left → text ≡ line ++ (bytes ++ tail) → IsNoChunk before text left
   -- no fields after the last chunk
-  no_trailer : (line tail : List ℕ) → SaysSize line 0 → StopsWithin IsTrailerText head_limit tail left → text ≡ line ++ tail → IsNoChunk text left
+  no_trailer : (line tail : List ℕ) → SaysSize line 0 → StopsWithin IsTrailerText head_limit tail left → text ≡ line ++ tail → IsNoChunk before text left
 
 -- chunks, and then what is none
 pub record BreaksChunked (text : List ℕ) (left : Option (List ℕ)) : Type 0 where
@@ -71,7 +72,7 @@ pub record BreaksChunked (text : List ℕ) (left : Option (List ℕ)) : Type 0 w
   pub body : List ℕ
   pub are : AreChunks chunks front body
   pub tail : List ℕ
-  pub wrong : IsNoChunk tail left
+  pub wrong : IsNoChunk (length body) tail left
   pub split : text ≡ front ++ tail
 
 -- chunks, and then the line of one with which the body passes the limit

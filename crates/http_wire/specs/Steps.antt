@@ -48,7 +48,7 @@ abbrev pub ChunkStep : Option (List ℕ) → List ℕ → List ℕ → Result Bo
 ChunkStep left before now (Ok true) taken = AddsChunk before now taken
 ChunkStep left before now (Ok false) taken = EndsChunks before now taken
 ChunkStep left before now (Err fault.BadHead) taken = ⊥
-ChunkStep left before now (Err fault.BadBody) taken = IsNoChunk taken left
+ChunkStep left before now (Err fault.BadBody) taken = IsNoChunk (length before) taken left
 ChunkStep left before now (Err (fault.TooLong n)) taken = (n ≡ body_limit) × PassesBy before taken
 ChunkStep left before now (Err (fault.Encoded v)) taken = ⊥
 ChunkStep left before now (Err fault.Link) taken = ⊤

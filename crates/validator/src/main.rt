@@ -293,6 +293,7 @@ fn run<
         &mut input,
         &mut output,
     );
+    output.end();
     ending.status
 }
 

@@ -15,7 +15,7 @@ pub returns-in-Err-Stuck-read_trailer-clause-step : goal.returns-in-Err-Stuck-re
 returns-in-Err-Stuck-read_trailer-clause-step g c =
     let S : ℕ → Type 0 = TookSize (g.L.Link.left c.args.link.now) (g.L.Link.left c.read_size.new.link) in
     let t = rw c.in-Err-Stuck-read_trailer.field-0-is at c.in-Err-Stuck-read_trailer.ensures.stuck in
-    trailer_stuck _ _ _ (t refl).bytes (subst S c.if-size-eq0.true c.in-Ok.ensures.size) (t refl).taken (t refl).holds
+    trailer_stuck (length c.args.body.now.items) _ _ _ (t refl).bytes (subst S c.if-size-eq0.true c.in-Ok.ensures.size) (t refl).taken (t refl).holds
 
 pub returns-in-Err-Link-read_trailer-clause-step : goal.returns-in-Err-Link-read_trailer-clause-step
 returns-in-Err-Link-read_trailer-clause-step g c = took_any _ _ _ _ _ c.in-Ok.ensures.size c.in-Err-Link-read_trailer.ensures.bound
@@ -26,7 +26,8 @@ returns-in-Err-Memory-read_trailer-clause-step g c = took_any _ _ _ _ _ c.in-Ok.
 pub returns-in-Err-Stuck-read_sized-clause-step : goal.returns-in-Err-Stuck-read_sized-clause-step
 returns-in-Err-Stuck-read_sized-clause-step g c =
     let t = rw c.in-Err-Stuck-read_sized.field-0-is at c.in-Err-Stuck-read_sized.ensures.stuck in
-    stops_short _ _ _ c.in-Ok.size c.in-Ok.ensures.size (t refl)
+    let within : length c.args.body.now.items + c.in-Ok.size ≤ body_limit = omega (arith, c.requires) in
+    stops_short (length c.args.body.now.items) _ _ _ c.in-Ok.size c.in-Ok.ensures.size within (t refl)
 
 pub returns-in-Err-Link-read_sized-clause-step : goal.returns-in-Err-Link-read_sized-clause-step
 returns-in-Err-Link-read_sized-clause-step g c = took_any _ _ _ _ _ c.in-Ok.ensures.size c.in-Err-Link-read_sized.ensures.bound
@@ -44,7 +45,8 @@ pub returns-in-Err-Stuck-read_end-clause-step : goal.returns-in-Err-Stuck-read_e
 returns-in-Err-Stuck-read_end-clause-step g c =
     let some : 0 < c.in-Ok.size = omega arith in
     let t = rw c.in-Err-Stuck-read_end.field-0-is at c.in-Err-Stuck-read_end.ensures.stuck in
-    crlf_stuck _ _ _ _ c.in-Ok.size _ _ (t refl).bytes c.in-Ok.ensures.size some c.in-Ok-read_sized.ensures.ok (t refl).taken (t refl).holds
+    let within : length c.args.body.now.items + c.in-Ok.size ≤ body_limit = omega (arith, c.requires) in
+    crlf_stuck _ _ _ _ c.in-Ok.size _ _ (t refl).bytes c.in-Ok.ensures.size some within c.in-Ok-read_sized.ensures.ok (t refl).taken (t refl).holds
 
 pub returns-in-Err-Link-read_end-clause-step : goal.returns-in-Err-Link-read_end-clause-step
 returns-in-Err-Link-read_end-clause-step g c =
