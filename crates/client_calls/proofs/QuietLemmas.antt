@@ -7,7 +7,7 @@ use Rattle.desk_machine.specs.declared.open_grant.OpenGrant.{OpenGrant}
 use Rattle.desk_machine.specs.declared.call.DeskCall.{DeskCall}
 use Rattle.desk_machine.specs.declared.call.DeskCall.TheVariants as call
 use Rattle.desk_machine.specs.declared.call.DeskReply.{DeskReply}
-use Rattle.client_calls.specs.Steps.{ClientCall, ClientReply, ClientStep, Calls, Closes, Signs, Imports, Deletes, Replies, ClosedBy, Signed, Imported, Deleted, Fits, step_calls, step_sent, desk_calls, sent_in}
+use Rattle.client_calls.specs.Steps.{ClientCall, ClientReply, ClientStep, Calls, Closes, Signs, SignsPlain, Imports, Deletes, Replies, ClosedBy, Signed, Imported, Deleted, Fits, step_calls, step_sent, desk_calls, sent_in}
 use Rattle.client_calls.proofs.AskLemmas.{AllSteps}
 
 -- it asks for no grant, and settles none
@@ -69,6 +69,7 @@ quiet_step gs (Closes key) (Signed r) h f = absurd f
 quiet_step gs (Closes key) (Imported r) h f = absurd f
 quiet_step gs (Closes key) (Deleted r) h f = absurd f
 quiet_step gs (Signs grant q) r h f = absurd h
+quiet_step gs (SignsPlain grant q) r h f = refl
 quiet_step gs (Imports q) r h f = refl
 quiet_step gs (Deletes key) r h f = refl
 
@@ -80,6 +81,7 @@ unsent_step : (c : ClientCall) (r : ClientReply) → IsQuiet c → step_sent (c,
 unsent_step (Calls c) r h = refl
 unsent_step (Closes key) r h = refl
 unsent_step (Signs grant q) r h = absurd h
+unsent_step (SignsPlain grant q) r h = refl
 unsent_step (Imports q) r h = refl
 unsent_step (Deletes key) r h = refl
 

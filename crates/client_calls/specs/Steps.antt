@@ -10,8 +10,9 @@ use Rattle.desk_machine.specs.declared.call.DeskCall.{DeskCall}
 use Rattle.desk_machine.specs.declared.call.DeskCall.TheVariants as call
 use Rattle.desk_machine.specs.declared.call.DeskReply.{DeskReply}
 use Rattle.signer_link.specs.Outcomes.{sign_failed, sign_denied, import_failed, import_denied, delete_failed, delete_denied}
-use Rattle.signer_link.specs.Signing.{asked, told_sign, told_import, told_delete}
+use Rattle.signer_link.specs.Signing.{asked, plainly_asked, told_sign, told_plain, told_import, told_delete}
 use Rattle.signer_link.specs.declared.request.SignRequest.{SignRequest}
+use Rattle.signer_link.specs.declared.request.PlainRequest.{PlainRequest}
 use Rattle.signer_link.specs.declared.request.ImportCall.{ImportCall}
 use Rattle.signer_link.specs.declared.reply.SignReply.{SignReply}
 use Rattle.signer_link.specs.declared.reply.SignReply.TheVariants as signing
@@ -20,12 +21,13 @@ use Rattle.signer_link.specs.declared.reply.DeleteReply.{DeleteReply}
 use Rattle.signer_link.specs.declared.reply.Told.{Told}
 use Rattle.call_plans.specs.Plans.{Plan}
 
--- a call of the desk; the closing of a key once it is idle; and a call of the signer: to sign the message of a grant, to take a key in
--- or to give one up
+-- a call of the desk; the closing of a key once it is idle; and a call of the signer: to sign the message of a grant, or under a grant
+-- what is no block and no vote, to take a key in or to give one up
 pub data ClientCall : Type 0 where
   Calls : DeskCall → ClientCall
   Closes : PubKey → ClientCall
   Signs : OpenGrant → SignRequest → ClientCall
+  SignsPlain : OpenGrant → PlainRequest → ClientCall
   Imports : ImportCall → ClientCall
   Deletes : PubKey → ClientCall
 
@@ -48,6 +50,7 @@ abbrev pub Fits : ClientCall → ClientReply → Type 0
 Fits (Calls c) (Replies r) = IsKind c r
 Fits (Closes key) (ClosedBy made r) = ClosesIdle (call.FinishClose key) r made × IsKind (call.FinishClose key) r
 Fits (Signs grant q) (Signed r) = Unit {0}
+Fits (SignsPlain grant q) (Signed r) = Unit {0}
 Fits (Imports q) (Imported r) = Unit {0}
 Fits (Deletes key) (Deleted r) = Unit {0}
 Fits c r = ⊥
@@ -68,6 +71,7 @@ told_under grant q (Some m) r = told_sign (asked grant.key m q) r
 -- the calls that the signer tells
 abbrev pub step_told : ClientStep → List Told
 step_told (Signs grant q, Signed r) = told_under grant q grant.message r
+step_told (SignsPlain grant q, Signed r) = told_plain (plainly_asked grant.key q) r
 step_told (Imports q, Imported r) = told_import q r
 step_told (Deletes key, Deleted r) = told_delete key r
 step_told s = []
@@ -75,12 +79,14 @@ step_told s = []
 -- the signer failed, or refused
 abbrev pub step_failed : ClientStep → Bool
 step_failed (Signs grant q, Signed r) = sign_failed r
+step_failed (SignsPlain grant q, Signed r) = sign_failed r
 step_failed (Imports q, Imported r) = import_failed r
 step_failed (Deletes key, Deleted r) = delete_failed r
 step_failed s = false
 
 abbrev pub step_denied : ClientStep → Bool
 step_denied (Signs grant q, Signed r) = sign_denied r
+step_denied (SignsPlain grant q, Signed r) = sign_denied r
 step_denied (Imports q, Imported r) = import_denied r
 step_denied (Deletes key, Deleted r) = delete_denied r
 step_denied s = false

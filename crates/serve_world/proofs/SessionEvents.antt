@@ -21,7 +21,7 @@ use Rattle.check_sign.specs.Contents.{Seen}
 use Rattle.check_sign.specs.Paths.{Path}
 use Rattle.check_sign.specs.Standing.{DeskStands}
 use Rattle.client_calls.specs.Machines.{CanMake, state_after}
-use Rattle.client_calls.specs.Steps.{ClientCall, ClientReply, ClientStep, Calls, Closes, Signs, Imports, Deletes, Replies, ClosedBy, Signed, Imported, Deleted, message_of, step_calls, step_sent, desk_calls, sent_in}
+use Rattle.client_calls.specs.Steps.{ClientCall, ClientReply, ClientStep, Calls, Closes, Signs, SignsPlain, Imports, Deletes, Replies, ClosedBy, Signed, Imported, Deleted, message_of, step_calls, step_sent, desk_calls, sent_in}
 use Rattle.client_calls.proofs.MachineLemmas.{can_split, after_on}
 use Rattle.client_calls.proofs.QuietLemmas.{IsQuiet, AllQuiet, quiet_sent}
 use Rattle.world_law.specs.Worlds.{Event}
@@ -59,6 +59,7 @@ quiet_events client (Closes key) (Signed r) h = refl
 quiet_events client (Closes key) (Imported r) h = refl
 quiet_events client (Closes key) (Deleted r) h = refl
 quiet_events client (Signs grant q) y h = absurd h
+quiet_events client (SignsPlain grant q) y h = refl
 quiet_events client (Imports q) y h = refl
 quiet_events client (Deletes key) y h = refl
 

@@ -15,7 +15,7 @@ use Rattle.check_sign.specs.Calls.{LeavesDesk}
 use Rattle.check_sign.specs.Paths.{IsDuring, Path}
 use Rattle.check_sign.specs.Standing.{DeskStands, MayOpen, Opens}
 use Rattle.client_calls.specs.Machines.{state_after}
-use Rattle.client_calls.specs.Steps.{ClientCall, ClientReply, ClientStep, Calls, Closes, Signs, Imports, Deletes, Replies, ClosedBy, Signed, Imported, Deleted, step_calls, desk_calls}
+use Rattle.client_calls.specs.Steps.{ClientCall, ClientReply, ClientStep, Calls, Closes, Signs, SignsPlain, Imports, Deletes, Replies, ClosedBy, Signed, Imported, Deleted, step_calls, desk_calls}
 use Rattle.world_law.specs.Worlds.{Event, lasting_stopped}
 use Rattle.world_law.specs.Worlds.Event.{Call, Send, Crash}
 use Rattle.world_law.specs.Clients.{RunsFrom, state_over}
@@ -127,6 +127,7 @@ calls_in_step client (Signs grant q) (Signed (signing.BadAnswer body)) = (refl, 
 calls_in_step client (Signs grant q) (Signed signing.OutOfMemory) = (refl, tt)
 calls_in_step client (Signs grant q) (Imported r) = (refl, tt)
 calls_in_step client (Signs grant q) (Deleted r) = (refl, tt)
+calls_in_step client (SignsPlain grant q) y = (refl, tt)
 calls_in_step client (Imports q) y = (refl, tt)
 calls_in_step client (Deletes key) y = (refl, tt)
 

@@ -22,7 +22,7 @@ use Rattle.desk_machine.specs.declared.call.DeskCall.TheVariants as call
 use Rattle.desk_machine.specs.declared.call.DeskReply.{DeskReply}
 use Rattle.desk_machine.specs.declared.call.DeskReply.TheVariants as reply
 use Rattle.client_calls.specs.Machines.{CanMake, state_after}
-use Rattle.client_calls.specs.Steps.{ClientCall, ClientReply, ClientStep, Calls, Closes, Signs, Imports, Deletes, Replies, ClosedBy, Signed, Imported, Deleted, Fits, message_of, step_calls, step_sent, desk_calls}
+use Rattle.client_calls.specs.Steps.{ClientCall, ClientReply, ClientStep, Calls, Closes, Signs, SignsPlain, Imports, Deletes, Replies, ClosedBy, Signed, Imported, Deleted, Fits, message_of, step_calls, step_sent, desk_calls}
 use Rattle.client_calls.proofs.MachineLemmas.{can_split, after_on}
 use Rattle.client_calls.proofs.QuietLemmas.{AllQuiet, IsQuiet}
 use Rattle.session_run.specs.Plans.{moment_by, outcome_of}
@@ -138,6 +138,7 @@ closed_step state (Closes k) (Signed r) key quiet fits can h = absurd fits
 closed_step state (Closes k) (Imported r) key quiet fits can h = absurd fits
 closed_step state (Closes k) (Deleted r) key quiet fits can h = absurd fits
 closed_step state (Signs grant q) y key quiet fits can h = absurd quiet
+closed_step state (SignsPlain grant q) y key quiet fits can h = absurd h
 closed_step state (Imports q) y key quiet fits can h = absurd h
 closed_step state (Deletes k) y key quiet fits can h = absurd h
 
@@ -147,6 +148,7 @@ unsent : (key : PubKey) (c : ClientCall) (y : ClientReply) → IsQuiet c → Non
 unsent key (Calls c) y h = tt
 unsent key (Closes k) y h = tt
 unsent key (Signs grant q) y h = absurd h
+unsent key (SignsPlain grant q) y h = tt
 unsent key (Imports q) y h = tt
 unsent key (Deletes k) y h = tt
 
