@@ -11,7 +11,7 @@ use Rattle.phase0_types.specs.declared.fault.ReadFault.{ReadFault}
 use Rattle.sign_roots.specs.declared.domains.Domains.{Domains}
 use Rattle.signer_link.specs.declared.request.SignObject.TheVariants as object
 use Rattle.session_format.specs.declared.request.Op.TheVariants as op
-use Rattle.session_format.specs.Objects.{header_from, checkpoint_from, details_from, block_message, vote_message}
+use Rattle.signer_link.specs.Objects.{header_from, checkpoint_from, details_from, block_message, vote_message}
 use Rattle.session_format.specs.Requests.{header_block, details_vote}
 
 pub header_from-value : (header : BeaconBlockHeader) → header_from (beacon_block_header_value header) ≡ header

@@ -1,6 +1,5 @@
 pub mod Members
 pub mod Steps
-pub mod Objects
 pub mod Requests
 pub mod Causes
 pub mod Answers

@@ -25,7 +25,7 @@ use Rattle.custody_format.specs.declared.import.ImportFault.{ImportFault}
 use Rattle.custody_format.specs.declared.import.ImportFault.TheVariants as fault
 use Rattle.session_format.specs.Members.{inside}
 use Rattle.session_format.specs.Steps.{◌>>=◌}
-use Rattle.session_format.specs.Objects.{root, header_from, details_from, block_message, vote_message}
+use Rattle.signer_link.specs.Objects.{root, header_from, details_from, block_message, vote_message}
 use Rattle.session_format.specs.declared.member.Member.{Member}
 use Rattle.session_format.specs.declared.member.Member.TheVariants as member
 use Rattle.session_format.specs.declared.request.Op.{Op}

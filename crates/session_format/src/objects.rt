@@ -3,7 +3,7 @@ ghost use Rattle.std.specs.Prelude.{◌≡◌, None};
 ghost use Rattle.serde_json.specs.View.{view};
 ghost use Rattle.phase0_types.specs.Containers.{attestation_data, beacon_block_header};
 ghost use Rattle.phase0_types.specs.Reading.{read_at};
-ghost use Rattle.session_format.specs.Objects.{block_message, vote_message};
+ghost use Rattle.signer_link.specs.Objects.{block_message, vote_message};
 ghost use Rattle.session_format.specs.Requests.{block_at, details_vote, header_block, plain_block, plain_vote, vote_at};
 ghost use Rattle.session_format.specs.Steps.{Gives};
 

@@ -3,3 +3,4 @@ pub mod Signing
 pub mod Keeping
 pub mod Plain
 pub mod InMemory
+pub mod Objects

@@ -1,4 +1,4 @@
--- The objects of a line, and the messages that they are.
+-- The objects that messages are made of, by their values, and the messages that they are.
 use Rattle.std.specs.Prelude.{ℕ, List}
 use Rattle.edge_kit.specs.declared.bytes.Root.{Root}
 use Rattle.slash_defs.specs.declared.message.Message.{Message}
