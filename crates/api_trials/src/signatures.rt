@@ -1,0 +1,66 @@
+//! Requests for a signature, each with its reply.
+ghost use Rattle.desk_machine.specs.Making.{MaySettle};
+
+use crate::Outcome;
+use crate::exhausted::Exhausted;
+use crate::links::counted;
+use crate::stage::{Chosen, NOW, Stage};
+use desk_machine::{DeskCall, DeskCalls, DeskReply, Grant, Outcome as Settling};
+use edge_kit::Root;
+use keymanager_routes::Reply;
+use sign_proxy::{SignEnd, sign_reply};
+use signer_link::Signer;
+use std::alloc::{AllocError, Global};
+
+/// A reply in words: its status and its body.
+fn reply_words(alloc: Global, reply: &Reply) -> Outcome {
+    let status = reply.status;
+    let body = counted(alloc, reply.body.as_slice())?;
+    Ok(Some(format!(in alloc; "status {status}, {body}")?))
+}
+
+/// Settles the grant of a signature as sent.
+fn send<K: DeskCalls>(desk: &mut K, grant: Grant)
+    requires ready { K.ready desk.old }
+    requires settles { MaySettle (K.allows desk.old) (DeskReply.Granted grant) }
+{
+    let outcome = Settling::Sent;
+    match desk.call(DeskCall::Settle { grant, outcome }) {
+        DeskReply::Settled => (),
+        _ => unreachable!(),
+    }
+}
+
+/// Answers a request for a signature at a desk and a signer, and settles the grant that it gives as sent.
+fn answer<K: DeskCalls, S: Signer>(
+    alloc: Global,
+    identifier: &str,
+    body: &[u8],
+    desk: &mut K,
+    signer: &mut S,
+) -> Outcome
+    requires ready { K.ready desk.old }
+{
+    match sign_reply(alloc, identifier, &Root([0; 32]), body, NOW, desk, signer) {
+        SignEnd::Refused(reply) => reply_words(alloc, &reply),
+        SignEnd::Signed { reply, grant } => {
+            send(desk, grant);
+            reply_words(alloc, &reply)
+        }
+        SignEnd::OutOfMemory => Ok(Some(String::from_str(alloc, "no memory")?)),
+    }
+}
+
+/// Answers a request for a signature by what the first word names, over the signer that is chosen.
+pub(crate) fn sign(alloc: Global, arguments: &str, stage: &mut Stage) -> Outcome {
+    let Some(desk) = &mut stage.desk else {
+        return Ok(None);
+    };
+    let (identifier, body) = arguments.split_once(' ').unwrap_or((arguments, ""));
+    let body = body.as_bytes();
+    match &mut stage.signer {
+        Chosen::Memory(signer) => answer(alloc, identifier, body, desk, signer),
+        Chosen::Service(signer) => answer(alloc, identifier, body, desk, signer),
+        Chosen::Exhausted => answer(alloc, identifier, body, desk, &mut Exhausted),
+    }
+}

@@ -1,0 +1,4 @@
+pub mod Replies
+pub mod Kinds
+pub mod Plans
+pub mod Signing

@@ -1,0 +1,42 @@
+-- Objects by their values, and the roots that are signed for them.
+use Rattle.std.proofs.Common.{◌≡◌, Result, Ok, Err, refl, sym, ap}
+use Rattle.phase0_types.specs.Containers.{fork, voluntary_exit}
+use Rattle.phase0_types.specs.Forks.{fork_value}
+use Rattle.phase0_types.specs.declared.fault.ReadFault.{ReadFault as ShapeFault}
+use Rattle.phase0_types.specs.declared.fork.Fork.{Fork}
+use Rattle.phase0_blocks.specs.Operations.{voluntary_exit_value}
+use Rattle.phase0_blocks.specs.declared.operation.VoluntaryExit.{VoluntaryExit}
+use Rattle.sign_roots.specs.Domains.{domain_of}
+use Rattle.sign_roots.specs.SigningRoots.{signing_root_of}
+use Rattle.sign_roots.specs.declared.domains.Domains.{Domains}
+use Rattle.sign_roots.specs.declared.kind.DomainKind.TheVariants as kind
+use Rattle.signer_link.specs.Plain.{plain_root, plain_object_root}
+use Rattle.signer_link.specs.declared.request.PlainObject.{PlainObject}
+use Rattle.signer_link.specs.declared.request.PlainObject.TheVariants as plain
+use Rattle.signing_requests.specs.Members.{inside}
+use Rattle.signing_requests.specs.Objects.{exit_epoch, fork_from, said_plain, signed_root}
+use Rattle.signing_requests.specs.Requests.{shaped}
+use Rattle.signing_requests.specs.declared.member.SigningMember.{SigningMember}
+use Rattle.signing_requests.specs.declared.refusal.SigningRefusal.TheVariants as refusal
+
+pub fork_from-value : (f : Fork) → fork_from (fork_value f) ≡ f
+unfolding fork_from fork_value fork
+fork_from-value f = refl
+
+pub exit_epoch-value : (e : VoluntaryExit) → exit_epoch (voluntary_exit_value e) ≡ e.epoch
+unfolding exit_epoch voluntary_exit_value voluntary_exit
+exit_epoch-value e = refl
+
+-- what is no block and no vote has one root, by its value and by the request for it
+pub plain_root-said : (domains : Domains) (p : PlainObject) → plain_root (record { fork = domains.fork; genesis = domains.genesis; object = p }) ≡ signed_root domains (said_plain p)
+plain_root-said domains (plain.RandaoReveal epoch) = refl
+plain_root-said domains (plain.AggregationSlot slot) = refl
+plain_root-said domains (plain.VoluntaryExit e) =
+    ap (λ n. signing_root_of (plain_object_root (plain.VoluntaryExit e)) (domain_of domains kind.VoluntaryExit n)) (sym (exit_epoch-value e))
+
+-- what was read of a container is its value, and what of it cannot be read the member that is named
+pub shaped-read : {A B : Type 0} (whole : SigningMember) (value : A → B) (v : A) (read : Result A ShapeFault) → Ok v ≡ read → shaped whole value read ≡ Ok (value v)
+shaped-read whole value v read is = ap (shaped whole value) (sym is)
+
+pub shaped-unread : {A B : Type 0} (whole : SigningMember) (value : A → B) (f : ShapeFault) (read : Result A ShapeFault) → Err f ≡ read → shaped whole value read ≡ Err (refusal.BadMember (inside whole f))
+shaped-unread whole value f read is = ap (shaped whole value) (sym is)

@@ -1,0 +1,5 @@
+pub mod Members
+pub mod Refusals
+pub mod Steps
+pub mod Objects
+pub mod Requests

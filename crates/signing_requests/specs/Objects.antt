@@ -1,0 +1,118 @@
+-- What is to be signed, and the root of it that is signed (consensus-specs, `compute_signing_root`).
+use Rattle.std.specs.Prelude.{ℕ, ◌/◌, List, Some}
+use Rattle.slash_defs.specs.declared.message.Message.TheVariants as message
+use Rattle.phase0_types.specs.Values.{ValueOf}
+use Rattle.phase0_types.specs.Roots.{root_of}
+use Rattle.phase0_types.specs.Shapes.{uint64}
+use Rattle.phase0_types.specs.Containers.{fork, checkpoint, attestation_data, beacon_block, beacon_block_header, voluntary_exit}
+use Rattle.phase0_types.specs.Attestations.{attestation_data_value}
+use Rattle.phase0_types.specs.Headers.{beacon_block_header_value}
+use Rattle.phase0_types.specs.declared.fork.Fork.{Fork}
+use Rattle.phase0_blocks.specs.Blocks.{beacon_block_value}
+use Rattle.phase0_blocks.specs.Operations.{voluntary_exit_value}
+use Rattle.sign_roots.specs.Domains.{domain_of}
+use Rattle.sign_roots.specs.SigningRoots.{signing_root_of, slots_per_epoch}
+use Rattle.sign_roots.specs.declared.domains.Domains.{Domains}
+use Rattle.sign_roots.specs.declared.kind.DomainKind.{DomainKind}
+use Rattle.sign_roots.specs.declared.kind.DomainKind.TheVariants as kind
+use Rattle.signer_link.specs.Objects.{root, block_message, vote_message}
+use Rattle.signer_link.specs.declared.request.SignObject.{SignObject}
+use Rattle.signer_link.specs.declared.request.SignObject.TheVariants as made_of
+use Rattle.signer_link.specs.declared.request.SignRequest.{SignRequest}
+use Rattle.signer_link.specs.declared.request.PlainObject.{PlainObject}
+use Rattle.signer_link.specs.declared.request.PlainObject.TheVariants as plain
+use Rattle.signing_requests.specs.declared.request.SigningObject.{SigningObject}
+use Rattle.signing_requests.specs.declared.request.SigningObject.TheVariants as object
+use Rattle.signing_requests.specs.declared.request.Wanted.{Wanted}
+use Rattle.signing_requests.specs.declared.request.Wanted.TheVariants as wanted
+
+-- what is to be signed, by its value
+pub data ObjectValue : Type 0 where
+  block_is : ValueOf beacon_block → ObjectValue
+  header_is : ValueOf beacon_block_header → ObjectValue
+  vote_is : ValueOf attestation_data → ObjectValue
+  reveal_is : ℕ → ObjectValue
+  slot_is : ℕ → ObjectValue
+  exit_is : ValueOf voluntary_exit → ObjectValue
+
+abbrev pub said_plain : PlainObject → ObjectValue
+said_plain (plain.RandaoReveal epoch) = reveal_is epoch
+said_plain (plain.AggregationSlot slot) = slot_is slot
+said_plain (plain.VoluntaryExit exit) = exit_is (voluntary_exit_value exit)
+
+abbrev pub said : SigningObject → ObjectValue
+said (object.Block block) = block_is (beacon_block_value block)
+said (object.Header header) = header_is (beacon_block_header_value header)
+said (object.Vote details) = vote_is (attestation_data_value details)
+said (object.Plain p) = said_plain p
+
+-- the fork of a value of its shape
+unfoldable pub fork_from : ValueOf fork → Fork
+unfolding fork
+fork_from v = record { previous_version = v.0; current_version = v.1.0; epoch = v.1.1.0 }
+
+-- the slot of a block, and of its header
+unfoldable pub block_slot : ValueOf beacon_block → ℕ
+unfolding beacon_block
+block_slot v = v.0
+
+unfoldable pub header_slot : ValueOf beacon_block_header → ℕ
+unfolding beacon_block_header
+header_slot v = v.0
+
+-- the epoch of a vote's target
+unfoldable pub target_epoch : ValueOf attestation_data → ℕ
+unfolding attestation_data checkpoint
+target_epoch v = v.1.1.1.1.0.0
+
+-- the epoch of an exit
+unfoldable pub exit_epoch : ValueOf voluntary_exit → ℕ
+unfolding voluntary_exit
+exit_epoch v = v.0
+
+-- the object's own root
+abbrev pub object_root : ObjectValue → List ℕ
+object_root (block_is v) = root_of beacon_block v
+object_root (header_is v) = root_of beacon_block_header v
+object_root (vote_is v) = root_of attestation_data v
+object_root (reveal_is epoch) = root_of uint64 epoch
+object_root (slot_is slot) = root_of uint64 slot
+object_root (exit_is v) = root_of voluntary_exit v
+
+-- the kind of its domain (consensus-specs, "Domain types")
+abbrev pub kind_of : ObjectValue → DomainKind
+kind_of (block_is v) = kind.BeaconProposer
+kind_of (header_is v) = kind.BeaconProposer
+kind_of (vote_is v) = kind.BeaconAttester
+kind_of (reveal_is epoch) = kind.Randao
+kind_of (slot_is slot) = kind.SelectionProof
+kind_of (exit_is v) = kind.VoluntaryExit
+
+-- the epoch of its domain
+abbrev pub epoch_of : ObjectValue → ℕ
+epoch_of (block_is v) = block_slot v / slots_per_epoch
+epoch_of (header_is v) = header_slot v / slots_per_epoch
+epoch_of (vote_is v) = target_epoch v
+epoch_of (reveal_is epoch) = epoch
+epoch_of (slot_is slot) = slot / slots_per_epoch
+epoch_of (exit_is v) = exit_epoch v
+
+-- the root that is signed: the object's, under the domain of its kind and epoch
+abbrev pub signed_root : Domains → ObjectValue → List ℕ
+signed_root domains s = signing_root_of (object_root s) (domain_of domains (kind_of s) (epoch_of s))
+
+-- ---- what the desk and the signing service are asked
+
+-- the chain, and the object that a message was made of
+abbrev pub with_object : Domains → SignObject → SignRequest
+with_object domains o = record { fork = domains.fork; genesis = domains.genesis; object = Some o }
+
+-- a block and a vote go by a proposal of their message, whose root is the one that is signed; anything else by leave alone
+abbrev pub wanted_of : Domains → SigningObject → Wanted
+wanted_of domains (object.Block block) =
+    wanted.Propose (message.Block block.slot (root (signed_root domains (said (object.Block block))))) (with_object domains (made_of.Block block))
+wanted_of domains (object.Header header) =
+    wanted.Propose (block_message domains header) (with_object domains (made_of.Header header))
+wanted_of domains (object.Vote details) =
+    wanted.Propose (vote_message domains details) (with_object domains (made_of.Attestation details))
+wanted_of domains (object.Plain p) = wanted.Allow (record { fork = domains.fork; genesis = domains.genesis; object = p })

@@ -1,0 +1,173 @@
+-- The request for a signature that a body is, or the first check that it fails (Web3Signer API, `eth2/sign`).
+use Rattle.std.specs.Prelude.{ℕ, Bool, false, not, List, Option, Some, None, option_map, option_and_then, is_some, ok_or, Result, Ok, Err, if◌then◌else◌, codes}
+use Rattle.std.specs.Str.{bytes_eq}
+use Rattle.edge_kit.specs.Texts.{hex_bytes}
+use Rattle.edge_kit.specs.declared.bytes.PubKey.{PubKey}
+use Rattle.edge_kit.specs.declared.bytes.Root.{Root}
+use Rattle.serde_json.specs.Data.{Data}
+use Rattle.serde_json.specs.Find.{get, as_str, as_object}
+use Rattle.json_members.specs.Reading.{json_of, text_in, number_in, bytes_in}
+use Rattle.phase0_types.specs.Reading.{read_at}
+use Rattle.phase0_types.specs.Containers.{fork, attestation_data, beacon_block, beacon_block_header, voluntary_exit}
+use Rattle.phase0_types.specs.declared.fault.ReadFault.{ReadFault as ShapeFault}
+use Rattle.phase0_types.specs.declared.fork.Fork.{Fork}
+use Rattle.phase0_types.specs.declared.member.Member.TheVariants as shape
+use Rattle.sign_roots.specs.declared.domains.Domains.{Domains}
+use Rattle.signer_link.specs.Objects.{root}
+use Rattle.signing_requests.specs.Members.{inside}
+use Rattle.signing_requests.specs.Steps.{◌>>=◌}
+use Rattle.signing_requests.specs.Objects.{ObjectValue, block_is, header_is, vote_is, reveal_is, slot_is, exit_is, said, fork_from, signed_root}
+use Rattle.signing_requests.specs.declared.member.SigningMember.{SigningMember}
+use Rattle.signing_requests.specs.declared.member.SigningMember.TheVariants as member
+use Rattle.signing_requests.specs.declared.refusal.SigningRefusal.{SigningRefusal}
+use Rattle.signing_requests.specs.declared.refusal.SigningRefusal.TheVariants as refusal
+use Rattle.signing_requests.specs.declared.kind.SigningType.{SigningType}
+use Rattle.signing_requests.specs.declared.kind.SigningType.TheVariants as type
+use Rattle.signing_requests.specs.declared.request.SigningRequest.{SigningRequest}
+
+-- what a request asks for: a signature by this key, for the chain and the fork that it names, of this
+pub record RequestValue : Type 0 where
+  pub key : PubKey
+  pub domains : Domains
+  pub said : ObjectValue
+
+abbrev pub asking : SigningRequest → RequestValue
+asking a = record { key = a.key; domains = a.domains; said = said a.object }
+
+-- a value that is there
+abbrev pub found : {A : Type 0} → SigningMember → Option A → Result A SigningRefusal
+found m value = ok_or value (refusal.BadMember m)
+
+abbrev pub pub_key : List ℕ → PubKey
+pub_key bytes = record { 0 = bytes }
+
+-- the key that the target names
+abbrev pub key_at : List ℕ → Result PubKey SigningRefusal
+key_at identifier = found member.Identifier (option_map pub_key (hex_bytes 48 identifier))
+
+-- a value that is an object
+abbrev pub object_in : SigningMember → Option Data → Result Data SigningRefusal
+object_in m None = Err (refusal.BadMember m)
+object_in m (Some d) = if is_some (as_object d) then Ok d else Err (refusal.BadMember m)
+
+-- ---- what kind of thing is to be signed
+
+abbrev pub type_named : List ℕ → Option SigningType
+type_named name = if bytes_eq name (codes "ATTESTATION") then Some type.Attestation
+    else if bytes_eq name (codes "BLOCK_V2") then Some type.BlockV2
+    else if bytes_eq name (codes "RANDAO_REVEAL") then Some type.RandaoReveal
+    else if bytes_eq name (codes "AGGREGATION_SLOT") then Some type.AggregationSlot
+    else if bytes_eq name (codes "VOLUNTARY_EXIT") then Some type.VoluntaryExit
+    else None
+
+abbrev pub type_at : Data → Result SigningType SigningRefusal
+type_at d = found member.Type (option_and_then type_named (text_in (codes "type") d))
+
+-- ---- the chain and the fork
+
+-- what a container is read as, or what of it cannot be read
+abbrev pub shaped : {A B : Type 0} → SigningMember → (A → B) → Result A ShapeFault → Result B SigningRefusal
+shaped whole value (Ok v) = Ok (value v)
+shaped whole value (Err f) = Err (refusal.BadMember (inside whole f))
+
+abbrev pub fork_at : Data → Result Fork SigningRefusal
+fork_at info = found member.Fork (get (codes "fork") info) >>= (λ d. shaped member.Fork fork_from (read_at fork None d))
+
+abbrev pub genesis_at : Data → Result Root SigningRefusal
+genesis_at info = found member.GenesisValidatorsRoot (option_map root (bytes_in 32 (codes "genesis_validators_root") info))
+
+abbrev pub domains_at : Data → Result Domains SigningRefusal
+domains_at info = do
+  f ← fork_at info
+  genesis ← genesis_at info
+  Ok (record { fork = f; genesis = genesis })
+
+abbrev pub chain_at : Data → Result Domains SigningRefusal
+chain_at d = object_in member.ForkInfo (get (codes "fork_info") d) >>= domains_at
+
+-- ---- what is to be signed
+
+abbrev pub vote_at : Data → Result ObjectValue SigningRefusal
+vote_at d = found member.Attestation (get (codes "attestation") d) >>= (λ a. shaped member.Attestation vote_is (read_at attestation_data None a))
+
+-- a whole block, whose version is that of its container
+abbrev pub whole_block : Data → Result ObjectValue SigningRefusal
+whole_block b = do
+  version ← found member.Version (text_in (codes "version") b)
+  if bytes_eq version (codes "PHASE0") then found member.Block (get (codes "block") b) >>= (λ w. shaped member.Block block_is (read_at beacon_block None w))
+      else Err (refusal.BadMember member.Version)
+
+-- where the header is there, neither the version nor a whole block is looked at: it has the same root in each fork
+abbrev pub block_by : Data → Option Data → Result ObjectValue SigningRefusal
+block_by b None = whole_block b
+block_by b (Some h) = shaped member.BlockHeader header_is (read_at beacon_block_header None h)
+
+abbrev pub block_in : Data → Result ObjectValue SigningRefusal
+block_in b = block_by b (get (codes "block_header") b)
+
+abbrev pub block_at : Data → Result ObjectValue SigningRefusal
+block_at d = object_in member.BeaconBlock (get (codes "beacon_block") d) >>= block_in
+
+abbrev pub reveal_in : Data → Result ObjectValue SigningRefusal
+reveal_in r = found (member.Inside shape.Epoch) (option_map reveal_is (number_in (codes "epoch") r))
+
+abbrev pub reveal_at : Data → Result ObjectValue SigningRefusal
+reveal_at d = object_in member.RandaoReveal (get (codes "randao_reveal") d) >>= reveal_in
+
+abbrev pub slot_in : Data → Result ObjectValue SigningRefusal
+slot_in s = found (member.Inside shape.Slot) (option_map slot_is (number_in (codes "slot") s))
+
+abbrev pub slot_at : Data → Result ObjectValue SigningRefusal
+slot_at d = object_in member.AggregationSlot (get (codes "aggregation_slot") d) >>= slot_in
+
+abbrev pub exit_at : Data → Result ObjectValue SigningRefusal
+exit_at d = found member.VoluntaryExit (get (codes "voluntary_exit") d) >>= (λ e. shaped member.VoluntaryExit exit_is (read_at voluntary_exit None e))
+
+abbrev pub said_by : SigningType → Data → Result ObjectValue SigningRefusal
+said_by type.Attestation d = vote_at d
+said_by type.BlockV2 d = block_at d
+said_by type.RandaoReveal d = reveal_at d
+said_by type.AggregationSlot d = slot_at d
+said_by type.VoluntaryExit d = exit_at d
+
+-- ---- the root that the request names
+
+abbrev pub root_in : SigningMember → Data → Result (Option Root) SigningRefusal
+root_in m d = found m (option_map (λ bytes. Some (root bytes)) (option_and_then (hex_bytes 32) (as_str d)))
+
+-- `signing_root` is looked at where there is no `signingRoot`
+abbrev pub named_root : Option Data → Option Data → Result (Option Root) SigningRefusal
+named_root (Some d) other = root_in member.SigningRoot d
+named_root None (Some d) = root_in member.SigningRootInSnakeCase d
+named_root None None = Ok None
+
+abbrev pub root_at : Data → Result (Option Root) SigningRefusal
+root_at d = named_root (get (codes "signingRoot") d) (get (codes "signing_root") d)
+
+-- ---- the whole
+
+-- a root is named, and is another than this one
+abbrev pub is_another : Option Root → List ℕ → Bool
+is_another None bytes = false
+is_another (Some named) bytes = not (bytes_eq named.0 bytes)
+
+-- what is signed is of this chain, and of the root that the request names, if it names one
+abbrev pub checked : Root → RequestValue → Option Root → Result RequestValue SigningRefusal
+checked genesis a named =
+    if is_another (Some a.domains.genesis) genesis.0 then Err refusal.GenesisDiffers
+    else (if is_another named (signed_root a.domains a.said) then Err refusal.SigningRootDiffers else Ok a)
+
+abbrev pub members_of : Root → PubKey → Data → Result RequestValue SigningRefusal
+members_of genesis key d = do
+  t ← type_at d
+  domains ← chain_at d
+  s ← said_by t d
+  named ← root_at d
+  checked genesis (record { key = key; domains = domains; said = s }) named
+
+-- what a target's identifier and a body ask for of the chain with this root of its genesis validators
+unfoldable pub asked_of : List ℕ → Root → List ℕ → Result RequestValue SigningRefusal
+asked_of identifier genesis body = do
+  key ← key_at identifier
+  d ← object_in member.Body (json_of body)
+  members_of genesis key d
