@@ -2,6 +2,7 @@
 the rows are dealt to, each a process with a beacon node, a signing service and journals of its own."""
 import shutil, threading
 from stand_ins import *
+from standard_error import amiss, unfit
 
 LIMIT = 60
 WORKERS = int(os.environ.get('WORKERS', os.cpu_count()))
@@ -218,6 +219,25 @@ def answer_once(name, signer_url, node_url, asked, tries=1, **more):
         return 'none', out.splitlines(), reply, told
     return child.returncode, out.splitlines(), reply, told
 
+# ---- requests that peers read
+
+def read_request(link):
+    """A whole request, or what came of it where its end came first."""
+    head, body = b'', b''
+    while b'\r\n\r\n' not in head:
+        piece = link.recv(65536)
+        if not piece:
+            return head
+        head += piece
+    head, _, body = head.partition(b'\r\n\r\n')
+    length = re.search(rb'(?i)\r\ncontent-length: *(\d+)', head)
+    while length and len(body) < int(length[1]):
+        piece = link.recv(65536)
+        if not piece:
+            break
+        body += piece
+    return head + b'\r\n\r\n' + body
+
 # ---- what is looked at afterwards
 
 def short(answer):
@@ -305,7 +325,7 @@ class Row:
     """What came of a row, and what is wrong with it."""
 
     def __init__(self, name):
-        self.name, self.told, self.wrong, self.count = name, [], [], 1
+        self.name, self.told, self.wrong = name, [], []
 
     def tell(self, *told):
         self.told.extend(told)
@@ -313,6 +333,10 @@ class Row:
     def want(self, what, came, *wanted):
         if came not in wanted:
             self.wrong.append('%s: %s in place of %s' % (what, came, ' or '.join(map(str, wanted))))
+
+    def says(self, told, *wanted):
+        """Standard error has a line of each of these patterns, and no other."""
+        self.wrong.extend(amiss(told.splitlines(), [(line, 1, 1) for line in wanted]) + ['standard error has what the table has not: ' + line for line in unfit(told.splitlines(), True)])
 
     def ended(self, status, lines):
         self.tell('status %s' % status, 'last line %s' % (lines[-1][:72] if lines else 'none'))
@@ -430,9 +454,10 @@ def deal(file, measure, rows_of, shows_all):
     for name in sorted(counts):
         print('%s: %s' % (name, ', '.join('%s %d' % (how, counts[name][how]) for how in sorted(counts[name]))))
     wrong = sum(how.get('wrong', 0) for how in counts.values())
-    print('rows %d, wrong %d, in %d s' % (sum(sum(how.values()) for how in counts.values()), wrong, time.time() - begun))
+    done, all_rows = sum(sum(how.values()) for how in counts.values()), len(rows_of(json.loads(measured)))
+    print('rows %d, wrong %d, in %d s' % (done, wrong, time.time() - begun) + ('' if done == all_rows else ', of %d rows' % all_rows))
     shutil.rmtree(folder)
-    sys.exit(1 if wrong or any(ends) else 0)
+    sys.exit(1 if wrong or any(ends) or done != all_rows else 0)
 
 def work(rows, place, workers):
     """Does the rows of a worker. Each is a group, under which it is counted, and what runs it."""
