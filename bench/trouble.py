@@ -6,6 +6,7 @@ from trouble_runs import *
 
 TIMED_OUT = lambda at: [(at + CALL + 'timed out', 2, None), (at + 'set aside for 1000 ms', 1, 1), (at + r'set aside for (?:2000|4000|8000|16000|32000|60000) ms', 0, None)]
 UNREADABLE = lambda at: [(at + CALL + 'unreadable: ', 2, None)]
+NO_JSON = lambda at: [(at + CALL + r'unreadable: \{"data', 2, None), (at + r'POST (?:%s|%s): 503 \{"data' % (VOTES, BLOCKS), 1, None)]
 
 def hangs_cost(seen):
     """What is wrong with what nodes were asked which never answer: once for their version and once more until each is found out, which costs its limit of 2
@@ -545,7 +546,7 @@ def slowest_amiss(run):
     for line in run.lines():
         if told := re.fullmatch(r'epoch (\d+): .* slowest (\d+\.\d) s', line):
             took = came.get(int(told[1]), -1)
-            wrong += [] if -0.5 < float(told[2]) - took < 0.2 else ['slowest %s s in place of %.1f' % (told[2], took)]
+            wrong += [] if -0.5 < float(told[2]) - took < 0.2 else ['epoch %s: slowest %s s in place of %.1f' % (told[1], told[2], took)]
     return wrong
 
 def standard_error(name, quiet):
@@ -582,7 +583,7 @@ SCENES = {
     'first_node_drips': lambda name: first_node(name, drip, TIMED_OUT),
     'first_node_breaks_off': lambda name: first_node(name, break_off, UNREADABLE),
     'first_node_talks_rubbish': lambda name: first_node(name, rubbish, UNREADABLE),
-    'first_node_sends_no_json': lambda name: first_node(name, no_json, lambda at: [(at + CALL + r'unreadable: \{"data', 2, None)], 'of no known version'),
+    'first_node_sends_no_json': lambda name: first_node(name, no_json, NO_JSON, 'of no known version'),
     'two_nodes_swallow': lambda name: first_node(name, swallow, TIMED_OUT, count=2),
     'two_addresses_swallow': lambda name: named_node(name, lambda host, at: Peer(swallow, host, at), 2, TIMED_OUT, 2.6),
     'three_addresses_swallow': lambda name: named_node(name, lambda host, at: Peer(swallow, host, at), 3, TIMED_OUT, 2.6),

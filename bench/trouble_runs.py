@@ -49,7 +49,9 @@ def rubbish(link, request):
     link.sendall(os.urandom(4096))
 
 def no_json(link, request):
-    link.sendall(b'HTTP/1.1 200 OK\r\nContent-Type: application/json\r\nContent-Length: 6\r\n\r\n{"data')
+    """Answers with what is no JSON, and takes nothing that is handed in: to a post a status of success would be enough."""
+    status = 503 if request.startswith((b'POST %s ' % VOTES.encode(), b'POST %s ' % BLOCKS.encode())) else 200
+    answers(status, b'{"data')(link, request)
 
 def reset(link, request):
     link.setsockopt(socket.SOL_SOCKET, socket.SO_LINGER, struct.pack('ii', 1, 0))
