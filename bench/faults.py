@@ -19,12 +19,21 @@ class Proxy:
         self.begin()
         threading.Thread(target=self.take, daemon=True).start()
 
-    def begin(self, number=None, place='after'):
-        self.number, self.place, self.asked = number, place, []
+    def begin(self, number=None, place='after', ahead=None):
+        """From now on this connection is cut there. The moments of all are noted by the clock that is ahead by what this file has, where one is named."""
+        self.number, self.place, self.ahead, self.asked, self.moments = number, place, ahead, [], []
+
+    def now(self):
+        """The moment that the program's clock shows."""
+        if self.ahead is None:
+            return time.time()
+        with open(self.ahead, 'rb') as file:
+            return time.time() + int.from_bytes(file.read(), sys.byteorder, signed=True) / 10 ** 9
 
     def take(self):
         while True:
             link, _ = self.listening.accept()
+            self.moments.append(self.now())
             self.asked.append('')
             threading.Thread(target=self.pass_on, args=(link, len(self.asked) - 1), daemon=True).start()
 
@@ -93,14 +102,13 @@ def session_cut(name, number, place):
 
 def serve_cut(name, who, number, place):
     row = Row('serve, call %d of the %s, %s' % (number, who, place))
-    begin_serving(name)
+    genesis, env = begin_serving(name), driven(name)
     to_signer.begin(*((number, place) if who == 'service' else ()))
-    to_node.begin(*((number, place) if who == 'node' else ()))
-    status, lines, told = run(serve_words(name, to_signer.url, to_node.url, 2, 0), env=driven(name))
+    to_node.begin(*((number, place, env['YEAR_CLOCK']) if who == 'node' else ()))
+    status, lines, told = run(serve_words(name, to_signer.url, to_node.url, 2, 0), env=env)
     asked = (to_node if who == 'node' else to_signer).asked[number]
     row.name += ' (%s)' % asked
-    syncing = [at for at, told in enumerate(to_node.asked) if '/node/syncing' in told]
-    slot = 1 if who == 'node' and len(syncing) > 2 and number >= syncing[2] else 0
+    slot = 1 if who == 'node' and to_node.moments[number] >= genesis + SLOT else 0
     if who == 'node' and number in (1, 2) and place != 'after':
         row.want('status', status, 10)
         row.want('lines', lines, ['validator: no node: ' + ('fault' if place == 'unasked' else 'unreadable')])

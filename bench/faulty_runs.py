@@ -168,10 +168,12 @@ def driven(name, **more):
     return {**os.environ, **more, 'LD_PRELOAD': loaded, 'YEAR_CLOCK': ahead}
 
 def begin_serving(name):
-    """Makes two keys active, of which one is to vote in the first slot, and to make a block in the second, in which the other one votes."""
+    """Makes two keys active, of which one is to vote in the first slot, and to make a block in the second, in which the other one votes. Gives genesis."""
     sessions(name, [{'op': 'activate', 'pubkey': key(n)} for n in (0, 1)])
-    node.set(genesis_time=int(time.time()) + 3, blocks={1: 0}, votes={0: 0, 1: 1})
+    genesis = int(time.time()) + 3
+    node.set(genesis_time=genesis, blocks={1: 0}, votes={0: 0, 1: 1})
     node.take(), signer.take()
+    return genesis
 
 def begin_deletion(name):
     begin_serving(name)

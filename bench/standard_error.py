@@ -37,7 +37,7 @@ if len(FORMS) != 24:
 # the signing service refused, of which the call alone is reported; and what is told with `--quiet`, too: a key that ended with `error`, and a request
 # that was refused, of whatever method.
 FORMS += [(form, pattern_of(form), False) for form in ('HOST:PORT: CAUSE', 'HOST:PORT: CALL: refused')]
-REFUSED = re.compile(r'Keymanager API: (?:%s: error(?:: %s)?|[ ->@-~]*: [345]\d\d(?: %s)?)' % (WORDS['KEY'], WORDS['MESSAGE'], WORDS['BODY']))
+REFUSED = re.compile(r'Keymanager API: (?:%s: error(?:: %s)?|[ ->@-~]+: [345]\d\d(?: %s)?)' % (WORDS['KEY'], WORDS['MESSAGE'], WORDS['BODY']))
 
 def unfit(lines, quiet=False):
     """The lines of which the table has no form, and, where the program is to be quiet, those that are news."""
