@@ -327,7 +327,7 @@ class Row:
     """What came of a row, and what is wrong with it."""
 
     def __init__(self, name):
-        self.name, self.told, self.wrong = name, [], []
+        self.name, self.told, self.wrong, self.tries = name, [], [], 1
 
     def tell(self, *told):
         self.told.extend(told)
@@ -432,7 +432,7 @@ def deal(file, measure, rows_of, shows_all):
     is given; a row is run by its name for files."""
     if len(sys.argv) > 3 and sys.argv[2] == 'worker':
         return work(rows_of(json.loads(sys.argv[5])), int(sys.argv[3]), int(sys.argv[4]))
-    begun, counts, ends = time.time(), {}, []
+    begun, counts, anew, ends = time.time(), {}, [], []
     measured = json.dumps(measure())
     workers = [subprocess.Popen([sys.executable, '-B', file, sys.argv[1], 'worker', str(n), str(WORKERS), measured], stdout=subprocess.PIPE, text=True) for n in range(WORKERS)]
     lock = threading.Lock()
@@ -440,7 +440,9 @@ def deal(file, measure, rows_of, shows_all):
     def gather(worker):
         for line in worker.stdout:
             with lock:
-                if line.startswith('count '):
+                if line.startswith('tried again'):
+                    anew.append(line)
+                elif line.startswith('count '):
                     _, name, how = line.strip().split('\t')
                     counts.setdefault(name, {}).setdefault(how, 0)
                     counts[name][how] += 1
@@ -457,7 +459,7 @@ def deal(file, measure, rows_of, shows_all):
         print('%s: %s' % (name, ', '.join('%s %d' % (how, counts[name][how]) for how in sorted(counts[name]))))
     wrong = sum(how.get('wrong', 0) for how in counts.values())
     done, all_rows = sum(sum(how.values()) for how in counts.values()), len(rows_of(json.loads(measured)))
-    print('rows %d, wrong %d, in %d s' % (done, wrong, time.time() - begun) + ('' if done == all_rows else ', of %d rows' % all_rows))
+    print('rows %d, wrong %d, tried again %d, in %d s' % (done, wrong, len(anew), time.time() - begun) + ('' if done == all_rows else ', of %d rows' % all_rows))
     shutil.rmtree(folder)
     sys.exit(1 if wrong or any(ends) or done != all_rows else 0)
 
@@ -471,7 +473,7 @@ def work(rows, place, workers):
         except (OSError, ValueError, LookupError, subprocess.SubprocessError) as fault:
             row = Row('%s, row %d' % (group, at))
             row.wrong.append(repr(fault))
-        print(row.line())
+        print('tried again\n' * (row.tries > 1) + row.line())
         print('count \t%s\t%s' % (group, 'wrong' if row.wrong else next((t for t in row.told if t.startswith('status')), 'right')), flush=True)
         for end in ('.a', '.b', '.clock'):
             try:

@@ -248,9 +248,10 @@ def rows_of(found):
     rows = []
     def add(script, number, goes_on):
         def row_of(name):
-            for _ in range(3):
+            for tries in range(1, 4):
                 begun = time.time()
                 row, _ = SCRIPTS[script](name, Lack(script, number, goes_on, found[script][1]))
+                row.tries = tries
                 if not row.wrong or time.time() - begun < LATE:
                     break
                 for end in ('.a', '.b'):
