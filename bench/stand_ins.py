@@ -92,6 +92,8 @@ class Server:
 def sign(state, method, target, body):
     if target == '/eth/v1/keystores' and state.get('takes_no_key'):
         return 400, {'message': 'not taken: ' + json.dumps(body)}
+    if target == '/eth/v1/keystores' and state.get('repeats'):
+        return 200, {'data': [{'status': 'error', 'message': json.dumps(body)}]} if state['repeats'] == 'in a message' else {'nothing': body}
     if target == '/eth/v1/keystores':
         listed = body.get('keystores') or body.get('pubkeys')
         return 200, {'data': [{'status': 'imported' if method == 'POST' else 'deleted', 'message': ''} for _ in listed], 'slashing_protection': ''}

@@ -497,7 +497,7 @@ def of_epochs(name, quiet, second, token):
     with socket.create_server(('127.0.0.1', 0)) as free:
         gone = '127.0.0.1:%d' % free.getsockname()[1]
     nodes = [(node.url, HEALTHY), (second.url, 'other/2'), ('http://' + gone, 'does not answer')]
-    child = serve(name, 4, 9, nodes=[url for url, _ in nodes], options=['--quiet'] * quiet, token=('--token-file', token))
+    child = serve(name, 4, 11, nodes=[url for url, _ in nodes], options=['--quiet'] * quiet, token=('--token-file', token))
     run = Run(child, due, genesis, signer.url, nodes, 5, quiet)
     run.hidden += [WRONG_TOKEN, PASSWORD, SECRET, QUERY]
     return run, gone
@@ -521,19 +521,22 @@ def asks_with_secrets(run):
     wrong = ['%r' % of for of, wanted in zip(came, (refusal(401, 'no token'), refusal(401, 'no token'), refusal(403, 'wrong token'))) if of != wanted]
     imported = sends('POST', keystores, {'keystores': [text(4), SECRET, text(6)], 'passwords': [PASSWORD] * 3})
     deleted = sends('DELETE', keystores + '?of=' + QUERY, {'pubkeys': [key(5), key(9)]})
-    signer.set(takes_no_key=True)
-    refused = sends('POST', keystores, {'keystores': [text(7)], 'passwords': [PASSWORD]})
-    signer.set(takes_no_key=False)
+    failed = []
+    for number, how in ((7, {'takes_no_key': True}), (8, {'repeats': 'in a message'}), (10, {'repeats': 'in no form'})):
+        signer.set(**how)
+        failed += [of for of in said(sends('POST', keystores, {'keystores': [text(number)], 'passwords': [PASSWORD]}))]
+        signer.set(takes_no_key=False, repeats='')
     unread, chunked = sends('POST', keystores, {'keystores': SECRET, 'passwords': PASSWORD}), sends('DELETE', keystores, {'pubkeys': [key(9)]}, chunked=True)
     wrong += [] if said(imported) == [('imported', ''), ('error', 'bad keystore'), ('imported', '')] else [repr(imported)]
     wrong += [] if said(deleted) == [('deleted', ''), ('not_found', '')] and said(chunked) == [('not_found', '')] else [repr((deleted, chunked))]
-    wrong += [] if said(refused)[0][0] == 'error' and said(refused)[0][1].startswith('signer: ') else [repr(refused)]
+    wrong += [] if [of for of, _ in failed] == ['error'] * 3 and failed[0][1].startswith('signer: ') and failed[1][1].startswith('signer: {') and failed[2][1] == 'signer: bad answer' else [repr(failed)]
     wrong += [] if unread == refusal(400, 'bad member: keystores') else [repr(unread)]
     wrong += not_so('a listing', LISTS, reply(200, compact({'data': [{'derivation_path': '', 'readonly': False, 'validating_pubkey': key(n)} for n in (0, 1, 2, 3, 4, 6)]})), 4)
     faults = [told_of('GET ' + keystores, 401, no_token), told_of('DELETE ' + keystores, 401, no_token), told_of('DELETE ' + keystores, 403, wrong_token), told_of('POST ' + keystores, 400),
-              API + 'a key that cannot be read: error: bad keystore', API + key(7) + ': error: signer', at(signer) + 'POST /eth/v1/keystores: refused']
+              API + 'a key that cannot be read: error: bad keystore', API + key(7) + ': error: signer', at(signer) + 'POST /eth/v1/keystores: refused', API + key(8) + ': error: signer',
+              API + key(10) + ': error: signer: bad answer', at(signer) + 'POST /eth/v1/keystores: unreadable: %d bytes' % len(json.dumps({'nothing': {'keystores': [text(10)], 'passwords': [PASSWORD]}}))]
     news = [API + key(n) + ': imported' for n in (4, 6)] + [API + key(5) + ': deleted', API + key(9) + ': not_found', API + 'a key that cannot be read: not_found']
-    news += [told_of('POST ' + keystores, 200)] * 2 + [told_of('DELETE ' + keystores, 200, of.partition(b'\r\n\r\n')[2].decode()) for of in (deleted, chunked)]
+    news += [told_of('POST ' + keystores, 200)] * 4 + [told_of('DELETE ' + keystores, 200, of.partition(b'\r\n\r\n')[2].decode()) for of in (deleted, chunked)]
     return wrong, faults, news
 
 def slowest_amiss(run):
