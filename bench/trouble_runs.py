@@ -264,10 +264,10 @@ def brief(line):
 HEALTHY = r'stand-in/1'
 
 def begin(name, connections=0, first=(), before=(), lanes=4, more=0, signing=None, options=(), says='does not answer', reads=True):
-    """Starts the program in slot 0, with these peers as its first nodes, which say at the start what they are: a block in each later slot and a vote of each
-    key in one of them."""
+    """Starts the program in slot 0, or four seconds before it with these peers as its first nodes, which say at the start what they are: a block in each later slot
+    and a vote of each key in one of them."""
     sessions(name, [{'op': 'activate', 'pubkey': key(n)} for n in range(KEYS)])
-    genesis = int(time.time()) - 2
+    genesis = int(time.time()) + (4 if first else -2)
     blocks = {slot: slot % KEYS for slot in range(1, slots + 1)}
     votes = {n: 1 + n * slots // KEYS for n in range(KEYS)}
     node.set(genesis_time=genesis, blocks=blocks, votes=votes)
