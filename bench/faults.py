@@ -1,7 +1,7 @@
 """The rows of `faults.sh`: the built program, of whose outside calls one goes wrong. A row says what came: the status, the last line, how the keys stand
 when the journal is opened, and what the run's last proposal is answered when it comes again, with the same root, and over a copy of the journal with
 another one."""
-import resource, signal
+import resource, signal, struct
 from faulty_runs import *
 
 PLACES = ['unasked', 'before', 'head', 'body', 'after']
@@ -9,8 +9,8 @@ PLACES = ['unasked', 'before', 'head', 'body', 'after']
 # ---- a proxy that cuts a connection
 
 class Proxy:
-    """Passes each connection on to a server, but cuts that of one number at a place: `unasked` before the request is passed on; else with the answer, of
-    which nothing comes (`before`), half of the head, the head and half of the body, or all (`after`)."""
+    """Passes each connection on to a server, but cuts that of one number at a place: `unasked` it is reset, and the request is not passed on; else with the
+    answer, of which nothing comes (`before`), half of the head, the head and half of the body, or all (`after`)."""
 
     def __init__(self, url):
         self.server = ('127.0.0.1', int(url.rsplit(':', 1)[1]))
@@ -19,12 +19,21 @@ class Proxy:
         self.begin()
         threading.Thread(target=self.take, daemon=True).start()
 
-    def begin(self, number=None, place='after'):
-        self.number, self.place, self.asked = number, place, []
+    def begin(self, number=None, place='after', ahead=None):
+        """From now on this connection is cut there. The moments of all are noted by the clock that is ahead by what this file has, where one is named."""
+        self.number, self.place, self.ahead, self.asked, self.moments = number, place, ahead, [], []
+
+    def now(self):
+        """The moment that the program's clock shows."""
+        if self.ahead is None:
+            return time.time()
+        with open(self.ahead, 'rb') as file:
+            return time.time() + int.from_bytes(file.read(), sys.byteorder, signed=True) / 10 ** 9
 
     def take(self):
         while True:
             link, _ = self.listening.accept()
+            self.moments.append(self.now())
             self.asked.append('')
             threading.Thread(target=self.pass_on, args=(link, len(self.asked) - 1), daemon=True).start()
 
@@ -34,7 +43,9 @@ class Proxy:
             try:
                 request = read_request(link)
                 self.asked[number] = named(request)
-                if place != 'unasked':
+                if place == 'unasked':
+                    link.setsockopt(socket.SOL_SOCKET, socket.SO_LINGER, struct.pack('ii', 1, 0))
+                else:
                     link.sendall(front_of(self.answer(request), place))
             except OSError:
                 pass
@@ -46,22 +57,6 @@ class Proxy:
             while piece := server.recv(65536):
                 came += piece
         return came
-
-def read_request(link):
-    head, body = b'', b''
-    while b'\r\n\r\n' not in head:
-        piece = link.recv(65536)
-        if not piece:
-            return head
-        head += piece
-    head, _, body = head.partition(b'\r\n\r\n')
-    length = re.search(rb'(?i)\r\ncontent-length: *(\d+)', head)
-    while length and len(body) < int(length[1]):
-        piece = link.recv(65536)
-        if not piece:
-            break
-        body += piece
-    return head + b'\r\n\r\n' + body
 
 def named(request):
     """What a request asks, in a few words."""
@@ -75,23 +70,30 @@ def front_of(answer, place):
 
 to_signer, to_node = Proxy(signer.url), Proxy(node.url)
 
-# A link that fails is a fault; an answer that ends before it is whole is one that cannot be read. Where the request was not passed on, the end of the
-# connection may be seen as either.
-def causes(place):
-    return ['bad_answer', 'fault'] if place == 'unasked' else ['bad_answer']
+def cause_of(place):
+    """A link that fails is a fault; an answer that ends before it is whole is one that cannot be read."""
+    return 'fault' if place == 'unasked' else 'bad_answer'
+
+def line_of(proxy, number, place):
+    """What standard error has of the connection that was cut there. Of an answer to an import only how many bytes came is reported."""
+    if place == 'after':
+        return []
+    asked = proxy.asked[number]
+    count = '0 bytes' if asked == 'POST /eth/v1/keystores' else ''
+    return [r'127\.0\.0\.1:%s: %s\S*: ' % (proxy.url.rsplit(':', 1)[1], ' '.join(asked.split(' ')[:2])) + (r'Connection reset by peer \(os error 104\)' if place == 'unasked' else 'unreadable: ' + count)]
 
 def session_cut(name, number, place):
     row = Row('session, call %d of the service, %s' % (number, place))
     to_signer.begin(number, place)
-    status, lines, _ = run(words(name, 'session', to_signer.url, *FORKED), lines_of(REQUESTS))
+    status, lines, told = run(words(name, 'session', to_signer.url, *FORKED), lines_of(REQUESTS))
     came, of_service = [short(line) for line in lines], signer.take()
     row.name += ' (%s)' % to_signer.asked[number]
-    wanted, opened, proposals = [USUAL], [STATES[7]], [IS_CLOSED]
+    answers, opened, proposals = USUAL, [STATES[7]], [IS_CLOSED]
     if place != 'after':
-        wanted = [without(number, cause) for cause in causes(place)]
-        opened, proposals = [states_without(number)], [again_without(number)]
+        answers, opened, proposals = without(number, cause_of(place)), [states_without(number)], [again_without(number)]
     row.want('status', status, 0)
-    row.want('answers', came, *wanted)
+    row.want('answers', came, answers)
+    row.says(told, *line_of(to_signer, number, place))
     row.answers_fit(REQUESTS, lines, of_service)
     row.ended(status, came)
     row.opens(name, *opened)
@@ -100,22 +102,22 @@ def session_cut(name, number, place):
 
 def serve_cut(name, who, number, place):
     row = Row('serve, call %d of the %s, %s' % (number, who, place))
-    begin_serving(name)
+    genesis, env = begin_serving(name), driven(name)
     to_signer.begin(*((number, place) if who == 'service' else ()))
-    to_node.begin(*((number, place) if who == 'node' else ()))
-    status, lines, _ = run(serve_words(name, to_signer.url, to_node.url, 2, 0), env=driven(name))
+    to_node.begin(*((number, place, env['YEAR_CLOCK']) if who == 'node' else ()))
+    status, lines, told = run(serve_words(name, to_signer.url, to_node.url, 2, 0), env=env)
     asked = (to_node if who == 'node' else to_signer).asked[number]
     row.name += ' (%s)' % asked
-    syncing = [at for at, told in enumerate(to_node.asked) if '/node/syncing' in told]
-    slot = 1 if who == 'node' and len(syncing) > 2 and number >= syncing[2] else 0
+    slot = 1 if who == 'node' and to_node.moments[number] >= genesis + SLOT else 0
     if who == 'node' and number in (1, 2) and place != 'after':
         row.want('status', status, 10)
-        row.want('lines', lines, *(['validator: no node: ' + ('unreadable' if cause == 'bad_answer' else 'fault')] for cause in causes(place)))
+        row.want('lines', lines, ['validator: no node: ' + ('fault' if place == 'unasked' else 'unreadable')])
         opened = [STATES[2]]
     else:
         row.want('status', status, 0)
         row.want('lines', lines, *due_with(asked, slot, place))
         opened = served_states(lines)
+    row.says(told, *reported(to_node if who == 'node' else to_signer, who, number, place))
     row.ended(status, lines)
     of_service = signer.take()
     posts_fit(row, lines, node.take(), of_service)
@@ -123,12 +125,16 @@ def serve_cut(name, who, number, place):
     row.voted_again(name, of_service)
     return row
 
+def reported(proxy, who, number, place):
+    """The same of a run of `serve`. The first call of the node looks at its chain, before anything is asked of it: an answer that cannot be read is no fault there."""
+    return [] if (who, number) == ('node', 0) and place != 'unasked' else line_of(proxy, number, place)
+
 def delete_cut(name, who, number, place):
     row = Row('DELETE, call %d of the %s, %s' % (number, who, place))
     begin_deletion(name)
     to_signer.begin(*((number, place) if who == 'service' else ()))
     to_node.begin(*((number, place) if who == 'node' else ()))
-    status, lines, reply, _ = answer_once(name, to_signer.url, to_node.url, delete_request())
+    status, lines, reply, told = answer_once(name, to_signer.url, to_node.url, delete_request())
     row.name += ' (%s)' % (to_node if who == 'node' else to_signer).asked[number]
     row.ended(status, lines)
     cut = place != 'after' and (who, number) != ('node', 0)
@@ -137,8 +143,10 @@ def delete_cut(name, who, number, place):
         row.want('reply', entries(reply), [])
     else:
         row.want('status', status, 0)
-        row.want('reply', entries(reply), *([['error signer: ' + cause.replace('_', ' ')] for cause in causes(place)] if cut else [['deleted']]))
+        row.want('reply', entries(reply), ['error signer: ' + cause_of(place).replace('_', ' ')] if cut else ['deleted'])
         row.tell('reply ' + ' '.join(entries(reply)))
+    failed = [r'Keymanager API: %s: error: signer: %s' % (key(1), cause_of(place).replace('_', ' '))] if cut and who == 'service' else []
+    row.says(told, *reported(to_node if who == 'node' else to_signer, who, number, place), *failed)
     row.reply_fits(reply)
     row.opens(name, VOTE_KEPT if cut else VOTE_CLOSED)
     row.voted_again(name)
@@ -151,7 +159,7 @@ def caller_leaves(name, place):
     whole = delete_request()
     head = whole.partition(b'\r\n\r\n')[0]
     asked = {'before': b'', 'head': head[:len(head) // 2], 'body': whole[:-10], 'after': whole}[place]
-    child = subprocess.Popen(serve_words(name, signer.url, node.url, 0, 1), stdout=subprocess.PIPE, stderr=subprocess.DEVNULL, text=True)
+    child = subprocess.Popen(serve_words(name, signer.url, node.url, 0, 1), stdout=subprocess.PIPE, stderr=subprocess.PIPE, text=True)
     while child.poll() is None:
         try:
             with socket.create_connection(('127.0.0.1', port)) as link:
@@ -160,19 +168,24 @@ def caller_leaves(name, place):
         except OSError:
             time.sleep(0.02)
     try:
-        out, _ = child.communicate(timeout=15)
+        out, told = child.communicate(timeout=15)
         row.want('status', child.returncode, 0)
         row.ended(child.returncode, out.splitlines())
     except subprocess.TimeoutExpired:
         child.terminate()
-        out, _ = child.communicate()
+        out, told = child.communicate()
         row.tell('status none, it waits for another connection')
         row.want('waits', place, 'before', 'head', 'body')
+    row.want('lines', out.splitlines(), [])
+    cut = [(r'Keymanager API: DELETE /eth/v1/keystores: 400 [ -~]*', 0, 1)] if place in ('head', 'body') else []
+    row.wrong.extend(amiss(told.splitlines(), cut))
     row.opens(name, VOTE_CLOSED if place == 'after' else VOTE_KEPT)
     row.voted_again(name)
     return row
 
 # ---- a full disk
+
+FILE_IS_FULL = r': File too large \(os error 27\)'
 
 def limited(limit, is_killed):
     """What limits each file that the program writes to this many bytes; a write past it fails, or kills the program."""
@@ -183,7 +196,7 @@ def limited(limit, is_killed):
 
 def session_full(name, limit, is_killed):
     row = Row('session, %s at byte %d' % ('killed' if is_killed else 'full disk', limit))
-    status, lines, _ = run(words(name, 'session', signer.url, *FORKED), lines_of(REQUESTS), **limited(limit, is_killed))
+    status, lines, told = run(words(name, 'session', signer.url, *FORKED), lines_of(REQUESTS), **limited(limit, is_killed))
     came, of_service = [short(line) for line in lines if line.startswith('{')], signer.take()
     done = len(came) if status == 0 or is_killed else max(0, len(came) - 1)
     row.want('status', status, *([0] if done == 6 else [-signal.SIGXFSZ] if is_killed else [5]))
@@ -192,6 +205,7 @@ def session_full(name, limit, is_killed):
         row.want('last line', lines[-1], 'validator: disk fault')
         row.want('last answer', 'disk' in came[-1] if came else True, True)
         row.tell('answered ' + (came[-1] if came else 'nothing'))
+    row.says(told, *[re.escape(os.path.join(folder, name + '.a')) + FILE_IS_FULL] * (status == 5))
     row.answers_fit(REQUESTS, lines, of_service)
     row.ended(status, lines)
     first, last = STEPS[done], STEPS[min(done + (status != 0), 6)]
@@ -206,12 +220,13 @@ def serve_full(name, limit):
     row = Row('serve, full disk after %d bytes' % limit)
     begin_serving(name)
     size = os.path.getsize(os.path.join(folder, name + '.a'))
-    status, lines, _ = run(serve_words(name, signer.url, node.url, 2, 0), env=driven(name), **limited(size + limit, False))
+    status, lines, told = run(serve_words(name, signer.url, node.url, 2, 0), env=driven(name), **limited(size + limit, False))
     fits = sum(limit >= frame for frame in FRAMES)
     results = [(slot, kind, 'sent' if at < fits else 'refused disk') for at, (slot, kind, _) in enumerate(SERVED)]
     wanted = due_lines(other={(slot, kind): result for slot, kind, result in results})
     row.want('status', status, 5 if fits < 3 else 0)
     row.want('lines', lines, (wanted[:1] if fits == 0 else wanted) + ['validator: disk fault'] * (fits < 3))
+    row.says(told, *[re.escape(os.path.join(folder, name + '.a')) + FILE_IS_FULL] * (fits < 3))
     row.ended(status, lines)
     of_service = signer.take()
     posts_fit(row, lines, node.take(), of_service)
@@ -227,7 +242,8 @@ def stream_closed(name, command, stream):
     line = {'session': words(name, 'session', signer.url, *FORKED), 'merge': words(name, 'merge', None), 'show': words(name, 'show', None), 'serve': serve_words(name, signer.url, node.url, 0, 0)}[command]
     file = {'data': [{'pubkey': key(0), 'signed_attestations': [], 'signed_blocks': [{'slot': '7'}]}], 'metadata': METADATA}
     text = {'session': lines_of(REQUESTS), 'merge': json.dumps(file)}.get(command, '')
-    status, lines, _ = run(['bash', '-c', 'exec "$@" %s' % ('>&-' if stream else '<&-'), 'bash'] + line, text)
+    status, lines, told = run(['bash', '-c', 'exec "$@" %s' % ('>&-' if stream else '<&-'), 'bash'] + line, text)
+    row.want('standard error', told.splitlines(), ['validator: standard output is closed'] if stream else [])
     row.want('status', status, 4 if stream else 12 if command == 'merge' else 0)
     row.want('lines', lines, ['validator: file refused: json'] if command == 'merge' and not stream else [])
     row.want('files', [end for end in 'ab' if os.path.exists(os.path.join(folder, name + '.' + end))], [] if stream else ['a', 'b'])
@@ -239,7 +255,7 @@ def stream_closed(name, command, stream):
 def reader_leaves(name, count):
     """Whoever reads the answers leaves after this many of them, before the next request is sent, which is done and not told."""
     row = Row('session, its reader leaves after %d answers' % count)
-    child = subprocess.Popen(words(name, 'session', signer.url, *FORKED), stdin=subprocess.PIPE, stdout=subprocess.PIPE, stderr=subprocess.DEVNULL)
+    child = subprocess.Popen(words(name, 'session', signer.url, *FORKED), stdin=subprocess.PIPE, stdout=subprocess.PIPE, stderr=subprocess.PIPE)
     lines = []
     for request in REQUESTS[:count]:
         child.stdin.write(lines_of([request]).encode())
@@ -251,8 +267,10 @@ def reader_leaves(name, count):
         child.stdin.close()
     except OSError:
         pass
+    told = child.stderr.read().decode()
     child.wait(timeout=LIMIT)
     row.want('status', child.returncode, 4 if count < 6 else 0)
+    row.says(told, *[r'output: Broken pipe \(os error 32\)'] * (count < 6))
     row.tell('status %d' % child.returncode)
     of_service, opened = signer.take(), STEPS[min(count + 1, 6)]
     row.answers_fit(REQUESTS, lines, of_service)

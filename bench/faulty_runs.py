@@ -2,6 +2,7 @@
 the rows are dealt to, each a process with a beacon node, a signing service and journals of its own."""
 import shutil, threading
 from stand_ins import *
+from standard_error import amiss, unfit
 
 LIMIT = 60
 WORKERS = int(os.environ.get('WORKERS', os.cpu_count()))
@@ -167,10 +168,12 @@ def driven(name, **more):
     return {**os.environ, **more, 'LD_PRELOAD': loaded, 'YEAR_CLOCK': ahead}
 
 def begin_serving(name):
-    """Makes two keys active, of which one is to vote in the first slot, and to make a block in the second, in which the other one votes."""
+    """Makes two keys active, of which one is to vote in the first slot, and to make a block in the second, in which the other one votes. Gives genesis."""
     sessions(name, [{'op': 'activate', 'pubkey': key(n)} for n in (0, 1)])
-    node.set(genesis_time=int(time.time()) + 3, blocks={1: 0}, votes={0: 0, 1: 1})
+    genesis = int(time.time()) + 3
+    node.set(genesis_time=genesis, blocks={1: 0}, votes={0: 0, 1: 1})
     node.take(), signer.take()
+    return genesis
 
 def begin_deletion(name):
     begin_serving(name)
@@ -217,6 +220,25 @@ def answer_once(name, signer_url, node_url, asked, tries=1, **more):
         out, told = child.communicate()
         return 'none', out.splitlines(), reply, told
     return child.returncode, out.splitlines(), reply, told
+
+# ---- requests that peers read
+
+def read_request(link):
+    """A whole request, or what came of it where its end came first."""
+    head, body = b'', b''
+    while b'\r\n\r\n' not in head:
+        piece = link.recv(65536)
+        if not piece:
+            return head
+        head += piece
+    head, _, body = head.partition(b'\r\n\r\n')
+    length = re.search(rb'(?i)\r\ncontent-length: *(\d+)', head)
+    while length and len(body) < int(length[1]):
+        piece = link.recv(65536)
+        if not piece:
+            break
+        body += piece
+    return head + b'\r\n\r\n' + body
 
 # ---- what is looked at afterwards
 
@@ -305,7 +327,7 @@ class Row:
     """What came of a row, and what is wrong with it."""
 
     def __init__(self, name):
-        self.name, self.told, self.wrong, self.count = name, [], [], 1
+        self.name, self.told, self.wrong, self.tries = name, [], [], 1
 
     def tell(self, *told):
         self.told.extend(told)
@@ -313,6 +335,10 @@ class Row:
     def want(self, what, came, *wanted):
         if came not in wanted:
             self.wrong.append('%s: %s in place of %s' % (what, came, ' or '.join(map(str, wanted))))
+
+    def says(self, told, *wanted):
+        """Standard error has a line of each of these patterns, and no other."""
+        self.wrong.extend(amiss(told.splitlines(), [(line, 1, 1) for line in wanted]) + ['standard error has what the table has not: ' + line for line in unfit(told.splitlines(), True)])
 
     def ended(self, status, lines):
         self.tell('status %s' % status, 'last line %s' % (lines[-1][:72] if lines else 'none'))
@@ -406,7 +432,7 @@ def deal(file, measure, rows_of, shows_all):
     is given; a row is run by its name for files."""
     if len(sys.argv) > 3 and sys.argv[2] == 'worker':
         return work(rows_of(json.loads(sys.argv[5])), int(sys.argv[3]), int(sys.argv[4]))
-    begun, counts, ends = time.time(), {}, []
+    begun, counts, anew, ends = time.time(), {}, [], []
     measured = json.dumps(measure())
     workers = [subprocess.Popen([sys.executable, '-B', file, sys.argv[1], 'worker', str(n), str(WORKERS), measured], stdout=subprocess.PIPE, text=True) for n in range(WORKERS)]
     lock = threading.Lock()
@@ -414,7 +440,9 @@ def deal(file, measure, rows_of, shows_all):
     def gather(worker):
         for line in worker.stdout:
             with lock:
-                if line.startswith('count '):
+                if line.startswith('tried again'):
+                    anew.append(line)
+                elif line.startswith('count '):
                     _, name, how = line.strip().split('\t')
                     counts.setdefault(name, {}).setdefault(how, 0)
                     counts[name][how] += 1
@@ -430,9 +458,10 @@ def deal(file, measure, rows_of, shows_all):
     for name in sorted(counts):
         print('%s: %s' % (name, ', '.join('%s %d' % (how, counts[name][how]) for how in sorted(counts[name]))))
     wrong = sum(how.get('wrong', 0) for how in counts.values())
-    print('rows %d, wrong %d, in %d s' % (sum(sum(how.values()) for how in counts.values()), wrong, time.time() - begun))
+    done, all_rows = sum(sum(how.values()) for how in counts.values()), len(rows_of(json.loads(measured)))
+    print('rows %d, wrong %d, tried again %d, in %d s' % (done, wrong, len(anew), time.time() - begun) + ('' if done == all_rows else ', of %d rows' % all_rows))
     shutil.rmtree(folder)
-    sys.exit(1 if wrong or any(ends) else 0)
+    sys.exit(1 if wrong or any(ends) or done != all_rows else 0)
 
 def work(rows, place, workers):
     """Does the rows of a worker. Each is a group, under which it is counted, and what runs it."""
@@ -444,7 +473,7 @@ def work(rows, place, workers):
         except (OSError, ValueError, LookupError, subprocess.SubprocessError) as fault:
             row = Row('%s, row %d' % (group, at))
             row.wrong.append(repr(fault))
-        print(row.line())
+        print('tried again\n' * (row.tries > 1) + row.line())
         print('count \t%s\t%s' % (group, 'wrong' if row.wrong else next((t for t in row.told if t.startswith('status')), 'right')), flush=True)
         for end in ('.a', '.b', '.clock'):
             try:

@@ -122,6 +122,8 @@ def refusal(name, lack):
     came, asked = [short(line) for line in lines], signer.take()
     failed = unconnected(row, told, *('127.0.0.1:%d: %s: refused' % (signer.port, call) for call in ('POST /eth/v1/keystores', '')))
     row.want('secrets on standard error', [secret for secret in (SECRET, PASSWORD) if secret in told], [])
+    if not lack.was_refused(name):
+        row.want('standard error', told, '127.0.0.1:%d: POST /eth/v1/keystores: refused\n' % signer.port)
     ended_so(row, lack, name, status, came, ['imported error signer: status 400'], [(0, ['imported error signer: fault'])] if failed else [], failed)
     row.opens(name, [])
     row.proposed_again(name, LAST, IS_UNKNOWN, asked=asked)
@@ -246,9 +248,10 @@ def rows_of(found):
     rows = []
     def add(script, number, goes_on):
         def row_of(name):
-            for _ in range(3):
+            for tries in range(1, 4):
                 begun = time.time()
                 row, _ = SCRIPTS[script](name, Lack(script, number, goes_on, found[script][1]))
+                row.tries = tries
                 if not row.wrong or time.time() - begun < LATE:
                     break
                 for end in ('.a', '.b'):

@@ -4,6 +4,7 @@ import asyncio, collections, hashlib, json, multiprocessing, os, re, socket, sub
 
 program = os.path.abspath(sys.argv[1])
 GENESIS_ROOT, ZERO, TOKEN = '0x' + '5a' * 32, '0x' + '00' * 32, 'a-token-of-36-characters-0123456789'
+GARBLE = 'what no question is answered by'
 FORK = {'previous_version': '0x00000001', 'current_version': '0x00000001', 'epoch': '0'}
 DATA, VOTES, BLOCKS, SIGN = '/eth/v1/validator/attestation_data', '/eth/v1/beacon/pool/attestations', '/eth/v1/beacon/blocks', '/api/v1/eth2/sign/'
 SLOT, THIRD = 12, 4
@@ -18,8 +19,8 @@ def signature_of(pubkey, root):
 
 # ---- servers
 
-# A request: when its connection was accepted, when the last byte of its answer was handed over, and what it asked.
-Request = collections.namedtuple('Request', 'begun ended method target body')
+# A request: when its connection was accepted, when the last byte of its answer was handed over, what it asked, and the status of the answer.
+Request = collections.namedtuple('Request', 'begun ended method target body status')
 
 class Connection(asyncio.Protocol):
     """Answers one request, one that signs after a delay, and notes it."""
@@ -49,7 +50,7 @@ class Connection(asyncio.Protocol):
         status, answer = self.answer(self.state, method, target, told)
         text = json.dumps(answer).encode() if answer is not None else b''
         self.link.write(b'HTTP/1.1 %d OK\r\nContent-Type: application/json\r\nContent-Length: %d\r\nConnection: close\r\n\r\n' % (status, len(text)) + text)
-        self.noted.append(Request(self.begun, time.time(), method, target, told))
+        self.noted.append(Request(self.begun, time.time(), method, target, told, status))
         self.link.close()
 
 async def answer_all(answer, listening, pipe):
@@ -91,6 +92,8 @@ class Server:
 def sign(state, method, target, body):
     if target == '/eth/v1/keystores' and state.get('takes_no_key'):
         return 400, {'message': 'not taken: ' + json.dumps(body)}
+    if target == '/eth/v1/keystores' and state.get('repeats'):
+        return 200, {'data': [{'status': 'error', 'message': json.dumps(body)}]} if state['repeats'] == 'in a message' else {'nothing': body}
     if target == '/eth/v1/keystores':
         listed = body.get('keystores') or body.get('pubkeys')
         return 200, {'data': [{'status': 'imported' if method == 'POST' else 'deleted', 'message': ''} for _ in listed], 'slashing_protection': ''}
@@ -108,6 +111,8 @@ def data_at(slot):
 
 def tell(due, method, target, body):
     path, _, query = target.partition('?')
+    if path in due.get('garbled', ()):
+        return 200, {'data': GARBLE}
     asked = [part.split('=') for part in query.split('&')] if query else []
     if path == '/eth/v1/beacon/genesis':
         return 200, {'data': {'genesis_time': str(due['genesis_time']), 'genesis_validators_root': GENESIS_ROOT, 'genesis_fork_version': '0x00000001'}}
@@ -132,7 +137,8 @@ def tell(due, method, target, body):
     if path.startswith('/eth/v2/validator/blocks/'):
         return 200, {'version': 'phase0', 'data': block_at(due, int(path.split('/')[-1]), dict(asked)['randao_reveal'])}
     if path in (VOTES, BLOCKS):
-        return (503, {'code': 503, 'message': 'takes none'}) if due.get('takes_none') else (200, None)
+        due['refuses'] = due.get('refuses', 0) - 1
+        return (503, {'code': 503, 'message': 'takes none'}) if due.get('takes_none') or due['refuses'] >= 0 else (200, None)
     return 404, {'code': 404, 'message': 'not here'}
 
 signer, node = Server(sign), Server(tell)
@@ -156,9 +162,9 @@ def wanted(what, is_so):
     if not is_so:
         sys.exit('bench: ' + what)
 
-def serve(journal, slots, connections, lanes=4, nodes=None, before=(), signing=None, options=()):
+def serve(journal, slots, connections, lanes=4, nodes=None, before=(), signing=None, options=(), token=('--token', TOKEN)):
     """Starts the program with these nodes and this signing service, else those here, after these words of another program."""
-    return subprocess.Popen([*before, program, 'serve', '--genesis', GENESIS_ROOT, '--journal', os.path.join(folder, journal), '--signer', signing or signer.url, '--listen', '127.0.0.1:%d' % port, '--token', TOKEN,
+    return subprocess.Popen([*before, program, 'serve', '--genesis', GENESIS_ROOT, '--journal', os.path.join(folder, journal), '--signer', signing or signer.url, '--listen', '127.0.0.1:%d' % port, *token,
                              '--slots', str(slots), '--connections', str(connections), '--lanes', str(lanes), *options] + (nodes or [node.url]), stdout=subprocess.PIPE, stderr=subprocess.PIPE, text=True)
 
 def ended(child, status=0):
