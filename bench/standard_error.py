@@ -30,13 +30,11 @@ def table():
     return [(form, pattern_of(form), cell.endswith('*')) for cell in rows for form in re.findall('`([^`]+)`', cell)]
 
 FORMS = table()
-if len(FORMS) != 24:
+if len(FORMS) != 26:
     raise SystemExit('bench: the table of docs/RUNBOOK.md has %d forms of lines: look at standard_error.py' % len(FORMS))
 
-# What sentences say that stand beside the table: a fault at a service before a call was begun (FORMATS: the address and the system's words); an import that
-# the signing service refused, of which the call alone is reported; and what is told with `--quiet`, too: a key that ended with `error`, and a request
-# that was refused, of whatever method.
-FORMS += [(form, pattern_of(form), False) for form in ('HOST:PORT: CAUSE', 'HOST:PORT: CALL: refused')]
+# What sentences say that stand beside the table: what is told with `--quiet`, too: a key that ended with `error`, and a request that was refused, of
+# whatever method.
 REFUSED = re.compile(r'Keymanager API: (?:%s: error(?:: %s)?|[ ->@-~]+: [345]\d\d(?: %s)?)' % (WORDS['KEY'], WORDS['MESSAGE'], WORDS['BODY']))
 
 def unfit(lines, quiet=False):

@@ -535,7 +535,7 @@ def asks_with_secrets(run):
     faults = [told_of('GET ' + keystores, 401, no_token), told_of('DELETE ' + keystores, 401, no_token), told_of('DELETE ' + keystores, 403, wrong_token), told_of('POST ' + keystores, 400),
               API + 'a key that cannot be read: error: bad keystore', API + key(7) + ': error: signer', at(signer) + 'POST /eth/v1/keystores: refused', API + key(8) + ': error: signer',
               API + key(10) + ': error: signer: bad answer', at(signer) + 'POST /eth/v1/keystores: unreadable: %d bytes' % len(json.dumps({'nothing': {'keystores': [text(10)], 'passwords': [PASSWORD]}}))]
-    news = [API + key(n) + ': imported' for n in (4, 6)] + [API + key(5) + ': deleted', API + key(9) + ': not_found', API + 'a key that cannot be read: not_found']
+    news = [API + key(n) + ': imported' for n in (4, 6)] + [API + key(5) + ': deleted', API + key(9) + ': not_found', API + key(9) + ': not_found']
     news += [told_of('POST ' + keystores, 200)] * 4 + [told_of('DELETE ' + keystores, 200, of.partition(b'\r\n\r\n')[2].decode()) for of in (deleted, chunked)]
     return wrong, faults, news
 

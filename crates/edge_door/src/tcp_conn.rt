@@ -244,10 +244,11 @@ impl<S: Read + Write + OpenStream + Drop, C: Eprint + Clock + Drop> TcpConn<S, C
         Ok(count)
     }
 
-    // Reports a request that changes something, or that was refused.
+    // Reports a request that changes something, or that was refused. A connection over which none was begun is reported nowhere.
     fn report(&self) {
         let is_news = self.reports.has_news() && self.heard.changes();
-        if self.stream.is_some() && (is_news || self.heard.is_refusal()) {
+        let is_told = self.heard.is_begun() && (is_news || self.heard.is_refusal());
+        if self.stream.is_some() && is_told {
             let replied = Replied(&self.heard);
             let _ = eprintln!(&self.clock; "Keymanager API: {replied}");
         }

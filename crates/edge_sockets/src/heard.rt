@@ -9,6 +9,9 @@ const REQUEST_BYTES: usize = 512;
 /// How many bytes of an answer's first line are held at most: up to the end of its status.
 const STATUS_BYTES: usize = 12;
 
+/// What the first line of an answer begins with.
+const HTTP: &[u8] = b"HTTP/";
+
 /// How many bytes of a body are held at most, and a report has.
 const BODY_BYTES: usize = 200;
 
@@ -105,9 +108,14 @@ impl Answer {
         matches!(self.head, HeadPart::Over)
     }
 
+    // Whether its first line is one of HTTP, as far as it has come.
+    fn is_http(&self) -> bool {
+        self.line.bytes.starts_with(HTTP)
+    }
+
     // Whether its head is one that another one follows, as far as it has come.
     fn is_interim(&self) -> bool {
-        matches!(self.line.bytes.get(9), Some(b'1'))
+        self.is_http() && matches!(self.line.bytes.get(9), Some(b'1'))
     }
 
     // Takes one piece more.
@@ -136,9 +144,9 @@ impl Answer {
         }
     }
 
-    // The three digits of its status, if there are any.
+    // The three digits of its status, if there are any; what is no HTTP has none.
     fn status(&self) -> Option<&[u8]> {
-        if self.is_interim() {
+        if !self.is_http() || self.is_interim() {
             return None;
         }
         self.line.bytes.get(9..STATUS_BYTES)
@@ -206,7 +214,8 @@ impl Heard {
         !self.asked.bytes.is_empty()
     }
 
-    /// The three digits of the answer's status, if there are any. A status of 100 to 199 is that of no answer.
+    /// The three digits of the answer's status, if there are any. A status of 100 to 199 is that of no answer, and what is no HTTP
+    /// has none.
     pub fn status(&self) -> Option<&[u8]> {
         self.answered.status()
     }

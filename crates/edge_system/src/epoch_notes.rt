@@ -2,6 +2,9 @@
 use std::rt::Clock;
 use std::sync::atomic::{AtomicBool, AtomicU64, Ordering};
 
+/// How many seconds after its start the votes of a slot are due. Another try of its duties comes sooner after that.
+const VOTES_SECONDS: u64 = 4;
+
 /// What is known of an epoch beside the lines of its duties, which several threads may note: how many keys are active, and
 /// when the duties of the slot at hand were due. Nothing is known at first.
 #[derive(Drop)]
@@ -10,7 +13,7 @@ pub struct EpochNotes {
     keys: AtomicU64,
     /// Whether a round of questions begins, of which no key is counted yet.
     is_new: AtomicBool,
-    /// The second since 1970 that was waited for last.
+    /// The second since 1970 at which the duties at hand were due: the one that was waited for last, but for another try.
     due: AtomicU64,
 }
 
@@ -46,12 +49,17 @@ impl EpochNotes {
         self.keys.load(Ordering::SeqCst)
     }
 
-    // Notes that this second since 1970 is waited for.
+    // Notes that this second since 1970 is waited for. Where that is for another try of what was due before, that is due since
+    // then.
     pub(crate) fn wait_for(&self, moment: u64) {
-        self.due.store(moment, Ordering::SeqCst);
+        let due = self.due.load(Ordering::SeqCst);
+        let is_again = due < moment && moment < due.saturating_add(VOTES_SECONDS);
+        if !is_again {
+            self.due.store(moment, Ordering::SeqCst);
+        }
     }
 
-    // For how many tenths of a second the moment that was waited for last is over; none where the clock cannot be read.
+    // For how many tenths of a second the duties at hand are due; none where the clock cannot be read.
     pub(crate) fn tenths_after<C: Clock>(&self, clock: &C) -> Option<u64> {
         let shown = clock.since_1970().ok()?;
         let tenths = u64::try_from(shown.as_millis()).ok()? / 100;
