@@ -379,12 +379,12 @@ def reader_leaves(name):
     return run.amiss([(r'output: Broken pipe \(os error 32\)', 1, 1)], lines=[], status=4, by=run.genesis + SLOT + THIRD + 4)
 
 def port_is_taken(name):
-    """Another process has the port: the Keymanager API ends at once, and the duties after the slot at hand."""
+    """Another process has the port: the Keymanager API ends at once, and the duties after the slot at hand, or before a node is asked for indices."""
     with socket.create_server(('127.0.0.1', port)):
         run = begin(name, connections=1000)
-        run.due = {duty for duty in run.due if duty[0] == 1}
+        run.due, run.keys = {duty for duty in run.due if duty[0] == 1}, 0
         taken = (r'127\.0\.0\.1:%d: Address already in use \(os error 98\)' % port, 1, 1)
-        return run.amiss([taken, ('epoch 0: .*', 0, 1)], lines=[('1 (?:block|vote) .* sent', 0, None), ('validator: door fault', 1, 1)], status=11, by=run.genesis + 2 * SLOT + THIRD + 2)
+        return run.amiss([taken, ('validator: 4 keys', 0, 1), ('epoch 0: .*', 0, 1)], lines=[('1 (?:block|vote) .* sent', 0, None), ('validator: door fault', 1, 1)], status=11, by=run.genesis + 2 * SLOT + THIRD + 2)
 
 def full_disk(name):
     """The disk of the journal is full: the duties end, and that ends the Keymanager API."""
