@@ -75,10 +75,11 @@ def cause_of(place):
     return 'fault' if place == 'unasked' else 'bad_answer'
 
 def line_of(proxy, number, place):
-    """What standard error has of the connection that was cut there. Of an answer to an import only how many bytes came is reported."""
-    if place == 'after':
-        return []
+    """What standard error has of the connection that was cut there. Of an answer to an import only how many bytes came is reported. An answer to what is
+    posted has no body, so that it is whole after its head."""
     asked = proxy.asked[number]
+    if place == 'after' or place == 'body' and asked.startswith('POST /eth/v1/beacon/'):
+        return []
     count = '0 bytes' if asked == 'POST /eth/v1/keystores' else ''
     return [r'127\.0\.0\.1:%s: %s\S*: ' % (proxy.url.rsplit(':', 1)[1], ' '.join(asked.split(' ')[:2])) + (r'Connection reset by peer \(os error 104\)' if place == 'unasked' else 'unreadable: ' + count)]
 
