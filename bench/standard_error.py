@@ -12,7 +12,7 @@ WORDS = {
     'CAUSE': CAUSE, 'CALL': r'(?:GET|POST|DELETE) /[!-~]*', 'TARGET': r'/[^? ]*', 'STATUS': r'\d{3}', 'BODY': r'[ -~]{0,200}', 'MESSAGE': r'[ -~]+',
     'KEY': r'(?:0x[0-9a-f]{96}|a key that cannot be read)', 'X.Y': r'\d+\.\d', '..': r'[ -~]+', **{letter: r'\d+' for letter in 'NMKDSRQ'},
 }
-# What became of a key, and what a call of the Keymanager API is, which is told without its query.
+# What became of a key, and what a call of the Keymanager API is, which is reported without its query.
 OUTCOME = '%s: (?:imported|duplicate|error|deleted|not_active|not_found)(?:: %s)?' % (WORDS['KEY'], WORDS['MESSAGE'])
 CALLED = '(?:GET|POST|DELETE) ' + WORDS['TARGET']
 
@@ -33,7 +33,7 @@ FORMS = table()
 if len(FORMS) != 26:
     raise SystemExit('bench: the table of docs/RUNBOOK.md has %d forms of lines: look at standard_error.py' % len(FORMS))
 
-# What sentences say that stand beside the table: what is told with `--quiet`, too: a key that ended with `error`, and a request that was refused, of
+# What sentences next to the table say: what is also reported with `--quiet`: a key that ended with `error`, and a request that was refused, of
 # whatever method.
 REFUSED = re.compile(r'Keymanager API: (?:%s: error(?:: %s)?|[ ->@-~]+: [345]\d\d(?: %s)?)' % (WORDS['KEY'], WORDS['MESSAGE'], WORDS['BODY']))
 
