@@ -15,6 +15,9 @@ pub record SignerSeen : Type 0 where
   pub faults : ℕ
   pub denials : ℕ
 
+abbrev pub signer_seen : {S : Type 0} → (S → Option (List Told)) → (S → ℕ) → (S → ℕ) → S → SignerSeen
+signer_seen told faults denials signer = record { told = told signer; faults = faults signer; denials = denials signer }
+
 -- it told this more; its counts have not fallen, and rose where it failed or refused
 pub record SignerTells (before now : SignerSeen) (more : List Told) (fails denies : Bool) : Type 0 where
   pub told : Tells before.told now.told more

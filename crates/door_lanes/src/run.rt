@@ -46,7 +46,7 @@ where
 /// door has no other. Each lane makes room for keeping one, takes it, serves it and keeps it, in a thread of its own where
 /// the system makes one, and else one lane after another. Where no lane ended by a fault the first then goes on alone, in
 /// the thread that is there. Last, each connection that was kept is finished, lane by lane, however the lanes ended. The
-/// door and the servants come back, the servants in their order.
+/// door and the servants come back, the servants in their order and ready for other connections.
 ///
 /// # Errors
 ///
@@ -68,7 +68,8 @@ where
     R::Conn: Send + Drop,
     requires count { (1 ≤ vec_len servants) × (vec_len servants ≤ 64) }
     requires ready { All V.ready servants.items }
-    ensures { Served V.serves wanted (door_seen R.coming R.finished R.lent R.faults door) (door_seen R.coming R.finished R.lent R.faults result.1) servants.items result.2.items result.0 }
+    ensures served { Served V.serves wanted (door_seen R.coming R.finished R.lent R.faults door) (door_seen R.coming R.finished R.lent R.faults result.1) servants.items result.2.items result.0 }
+    ensures ready { All V.ready result.2.items }
 {
     let count = servants.len();
     let Ok(room) = room_for(alloc, count) else {
@@ -155,7 +156,8 @@ where
     requires passes { (passes.old.items ≡ []) × (vec_len given ≤ vec_capacity passes.old) }
     requires kept { (kept.old.items ≡ []) × (vec_len given ≤ vec_capacity kept.old) }
     requires servants { (servants.old.items ≡ []) × (vec_len given ≤ vec_capacity servants.old) }
-    ensures { RanSeated V.serves shared.now (map (λ lane. lane.servant) given.items) passes.new.items (map (λ list. list.items) kept.new.items) servants.new.items result }
+    ensures ran { RanSeated V.serves shared.now (map (λ lane. lane.servant) given.items) passes.new.items (map (λ list. list.items) kept.new.items) servants.new.items result }
+    ensures ready { All V.ready servants.new.items }
 {
     let mut seats = seats;
     take_seats(rt, lock, shared, given, &mut seats);

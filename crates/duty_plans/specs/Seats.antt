@@ -17,10 +17,6 @@ use Rattle.duty_plans.specs.Steps.{DutyPlan, DutyStep, Tried, Asks, Posts, Answe
 use Rattle.duty_plans.specs.Hands.{Hand, Free, MayDo, hand_after}
 use Rattle.duty_plans.specs.Guards.{PostedGranted, PostsGuarded, SignsGuarded}
 
--- the service as it is seen
-abbrev pub signer_seen : {S : Type 0} → (S → Option (List Told)) → (S → ℕ) → (S → ℕ) → S → SignerSeen
-signer_seen told faults denials signer = record { told = told signer; faults = faults signer; denials = denials signer }
-
 -- the nodes as they are seen, in order
 abbrev pub nodes_seen : {N : Type 0} → (N → Option (List NodeCall)) → (N → ℕ) → Nodes N → List Seen
 nodes_seen told faults nodes = seen_of told faults nodes.nodes.items nodes.syncing.items

@@ -10,10 +10,11 @@ use Rattle.duty_plans.specs.declared.ended.Ended.{Ended}
 use Rattle.duty_plans.specs.declared.task.Task.{Task}
 use Rattle.duty_plans.specs.declared.work.SlotWork.{SlotWork}
 use Rattle.duty_plans.specs.Hands.{Free}
-use Rattle.duty_plans.specs.Seats.{Seat, at_seat, nodes_seen, signer_seen}
+use Rattle.duty_plans.specs.Seats.{Seat, at_seat, nodes_seen}
 use Rattle.duty_plans.specs.Steps.{DutyStep}
 use Rattle.duty_turns.specs.Lanes.{AreRefreshed, DidShares, EachDoes, HasEach}
 use Rattle.duty_workers.specs.declared.lane.Lane.{Lane}
+use Rattle.client_calls.specs.Seats.{signer_seen}
 
 -- a lane as it is seen: its desk, its signing service and its nodes, and no grant in hand
 abbrev pub lane_seen : {K S N : Type 0} → (S → Option (List Told)) → (S → ℕ) → (S → ℕ) → (N → Option (List NodeCall)) → (N → ℕ) → Lane K S N → Seat K

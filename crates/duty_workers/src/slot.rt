@@ -5,9 +5,10 @@ ghost use Rattle.desk_machine.specs.Machine.{moment_limit};
 ghost use Rattle.call_plans.specs.Paths.{Carries};
 ghost use Rattle.duty_plans.specs.Hands.{Free};
 ghost use Rattle.duty_plans.specs.Plans.{again_plan, duty_plan, made_plan, slot_plan, slot_work, task_plan};
-ghost use Rattle.duty_plans.specs.Seats.{Does, at_seat, nodes_seen, signer_seen};
+ghost use Rattle.duty_plans.specs.Seats.{Does, at_seat, nodes_seen};
 ghost use Rattle.duty_plans.specs.Steps.{Fits};
 ghost use Rattle.duty_workers.specs.Places.{are_placed_tasks, is_placed, is_placed_task};
+ghost use Rattle.client_calls.specs.Seats.{signer_seen};
 
 use crate::block::{propose, propose_block};
 use crate::vote::{cast_vote, vote_for};

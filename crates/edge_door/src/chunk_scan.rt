@@ -33,7 +33,7 @@ impl ChunkScan {
     }
 
     // Whether a body of which this has come in is whole, or what has come in is no body that is read, which is judged where who
-    // serves the request judges it (`http_wire`): at the end of a line, behind two bytes after a chunk, and at a limit. Each
+    // serves the request judges it (`http_wire`): at the end of a line, two bytes after a chunk, and at a limit. Each
     // chunk is looked at until it is there, and not again.
     pub(crate) fn is_over(&mut self, body: &[u8]) -> bool {
         'chunks: for _ in 0..u64::MAX {

@@ -78,7 +78,7 @@ struct KeySearch {
 }
 
 impl KeySearch {
-    // Before a text that has the key behind a mark.
+    // Before a text that has the key after a mark.
     fn begin(&mut self) {
         self.marked = 0;
         self.digits.clear();
@@ -104,7 +104,7 @@ impl KeySearch {
         }
     }
 
-    // Takes a byte behind the mark: a digit, or `x` after a first `0`, or what ends the digits.
+    // Takes a byte after the mark: a digit, or `x` after a first `0`, or what ends the digits.
     fn take_digit(&mut self, byte: u8) {
         if byte == b'x' && self.digits.as_slice() == b"0".as_slice() {
             self.digits.clear();

@@ -27,7 +27,7 @@ pub(crate) const LIMIT_SECONDS: u64 = 30;
 pub(crate) const READ_SECONDS: u64 = 10;
 
 /// A connection that was accepted, with a count of its failures. Its request is what came in before that: `recv` waits for
-/// nothing, gives the end where the peer has said it, and fails behind what came in where it has not. Its reply may last 30
+/// nothing, gives the end where the peer has said it, and fails after what came in where it has not. Its reply may last 30
 /// seconds from its first byte on. It was begun by its peer, so `connect` begins no other, and fails.
 ///
 /// A reply does not wait for its peer: `send` takes the whole piece, and what the system does not take at once is kept in
@@ -59,7 +59,7 @@ pub struct TcpConn<S: Read + Write + OpenStream + Drop, C: Eprint + Clock + Drop
 }
 
 /// What became of a request: the method, the target before its query, the status, and the front of the reply's body, of which
-/// nothing is told where keystores were sent, since it may have what the signing service said of them.
+/// nothing is reported where keystores were sent, since it may have what the signing service said of them.
 #[derive(Drop)]
 struct Replied<'a>(&'a Heard);
 
@@ -226,7 +226,7 @@ impl<S: Read + Write + OpenStream + Drop, C: Eprint + Clock + Drop> TcpConn<S, C
         self.rest.send_all(&mut self.stream, &self.clock)
     }
 
-    // Reads some bytes of a request, of those that came in before. Nothing is waited for behind them, whatever is missing.
+    // Reads some bytes of a request, of those that came in before. Nothing is waited for after them, whatever is missing.
     fn read(&mut self, buf: &mut [u8]) -> io::Result<usize>
         ensures bound { ReadsAtMost result buf.new }
         ensures faults { self.new.faults ≡ self.old.faults }

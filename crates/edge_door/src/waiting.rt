@@ -31,9 +31,9 @@ enum Progress {
 /// What has come in of a request that is to be served.
 #[derive(Drop)]
 pub(crate) struct Arrived {
-    /// Its bytes. Nothing is read behind them.
+    /// Its bytes. Nothing is read after them.
     pub bytes: Vec<u8>,
-    /// Whether its end was seen behind them.
+    /// Whether its end was seen after them.
     pub is_ended: bool,
     /// Its peer was asked for the body, or is not to be asked any more.
     pub is_asked: bool,

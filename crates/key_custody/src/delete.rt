@@ -3,7 +3,7 @@ ghost use Rattle.std.specs.Prelude.{◌≡◌, length, IfOk};
 ghost use Rattle.std.specs.Result.{result_ok};
 ghost use Rattle.call_plans.specs.Paths.{Carries};
 ghost use Rattle.client_calls.specs.Steps.{Fits};
-ghost use Rattle.client_calls.specs.Seats.{SignerSeen, Does, Ran, at_seat};
+ghost use Rattle.client_calls.specs.Seats.{SignerSeen, Does, Ran, at_seat, signer_seen};
 ghost use Rattle.key_custody.specs.Statuses.{handed_keys};
 ghost use Rattle.key_custody.specs.Plans.{delete_plan, given_up_plan, close_plan, deletion_plan, statuses_plan, export_plan};
 
@@ -41,8 +41,8 @@ pub fn delete_keys<K: DeskCalls, S: Signer>(
     requires ready { K.ready desk.old }
     ensures ready { K.ready desk.new }
     ensures runs { Ran K.leads (deletion_plan keys.now)
-        (at_seat desk.old (record { told = S.told signer.old; faults = S.faults signer.old; denials = S.denials signer.old }))
-        (at_seat desk.new (record { told = S.told signer.new; faults = S.faults signer.new; denials = S.denials signer.new })) (result_ok result) }
+        (at_seat desk.old (signer_seen S.told S.faults S.denials signer.old))
+        (at_seat desk.new (signer_seen S.told S.faults S.denials signer.new)) (result_ok result) }
 {
     let Ok(statuses) = delete_each(alloc, keys, desk, signer) else {
         return Err(AllocError);
@@ -61,8 +61,8 @@ fn delete_each<K: DeskCalls, S: Signer>(
     ensures ready { K.ready desk.new }
     ensures lengths { IfOk result (λ statuses. length statuses ≡ length keys.now) }
     ensures runs { Carries Fits (Does K.leads) (statuses_plan keys.now)
-        (at_seat desk.old (record { told = S.told signer.old; faults = S.faults signer.old; denials = S.denials signer.old }))
-        (at_seat desk.new (record { told = S.told signer.new; faults = S.faults signer.new; denials = S.denials signer.new })) (result_ok result) }
+        (at_seat desk.old (signer_seen S.told S.faults S.denials signer.old))
+        (at_seat desk.new (signer_seen S.told S.faults S.denials signer.new)) (result_ok result) }
 {
     let Ok(mut statuses) = Vec::with_capacity(alloc, keys.len()) else {
         return Err(AllocError);
@@ -87,8 +87,8 @@ fn delete_key<K: DeskCalls, S: Signer>(
     requires ready { K.ready desk.old }
     ensures ready { K.ready desk.new }
     ensures runs { Carries Fits (Does K.leads) (delete_plan key.now)
-        (at_seat desk.old (record { told = S.told signer.old; faults = S.faults signer.old; denials = S.denials signer.old }))
-        (at_seat desk.new (record { told = S.told signer.new; faults = S.faults signer.new; denials = S.denials signer.new })) (result_ok result) }
+        (at_seat desk.old (signer_seen S.told S.faults S.denials signer.old))
+        (at_seat desk.new (signer_seen S.told S.faults S.denials signer.new)) (result_ok result) }
 {
     match ask(desk, DeskCall::BeginClose { key: *key }) {
         Replied::Closing => {

@@ -5,7 +5,7 @@ ghost use Rattle.record_join.specs.BooksPasts.{EachOnce};
 ghost use Rattle.desk_machine.specs.Machine.{moment_limit};
 ghost use Rattle.call_plans.specs.Paths.{Carries};
 ghost use Rattle.client_calls.specs.Steps.{Fits};
-ghost use Rattle.client_calls.specs.Seats.{SignerSeen, Does, Ran, at_seat};
+ghost use Rattle.client_calls.specs.Seats.{SignerSeen, Does, Ran, at_seat, signer_seen};
 ghost use Rattle.key_custody.specs.Plans.{import_plan, file_plan, treated_plan, keystores_plan, keystore_plan, key_plan, listed_plan, taken_plan, activate_plan, paired};
 
 use crate::ask::{Replied, ask};
@@ -50,8 +50,8 @@ pub fn import_keys<K: DeskCalls, S: Signer>(
     requires moment { now ≤ moment_limit }
     ensures ready { K.ready desk.new }
     ensures runs { Ran K.leads (import_plan file now (paired (λ s. string_bytes s) keystores.now passwords.now))
-        (at_seat desk.old (record { told = S.told signer.old; faults = S.faults signer.old; denials = S.denials signer.old }))
-        (at_seat desk.new (record { told = S.told signer.new; faults = S.faults signer.new; denials = S.denials signer.new })) (result_ok result) }
+        (at_seat desk.old (signer_seen S.told S.faults S.denials signer.old))
+        (at_seat desk.new (signer_seen S.told S.faults S.denials signer.new)) (result_ok result) }
 {
     match file {
         Some(file) => merge_first(alloc, file, keystores, passwords, now, desk, signer),
@@ -75,8 +75,8 @@ fn merge_first<K: DeskCalls, S: Signer>(
     requires moment { now ≤ moment_limit }
     ensures ready { K.ready desk.new }
     ensures runs { Carries Fits (Does K.leads) (file_plan file now (paired (λ s. string_bytes s) keystores.now passwords.now))
-        (at_seat desk.old (record { told = S.told signer.old; faults = S.faults signer.old; denials = S.denials signer.old }))
-        (at_seat desk.new (record { told = S.told signer.new; faults = S.faults signer.new; denials = S.denials signer.new })) (result_ok result) }
+        (at_seat desk.old (signer_seen S.told S.faults S.denials signer.old))
+        (at_seat desk.new (signer_seen S.told S.faults S.denials signer.new)) (result_ok result) }
 {
     match ask(desk, DeskCall::Merge { file }) {
         Replied::Merged => treat(alloc, keystores, passwords, now, desk, signer),
@@ -99,8 +99,8 @@ fn treat<K: DeskCalls, S: Signer>(
     requires moment { now ≤ moment_limit }
     ensures ready { K.ready desk.new }
     ensures runs { Carries Fits (Does K.leads) (treated_plan now (paired (λ s. string_bytes s) keystores.now passwords.now))
-        (at_seat desk.old (record { told = S.told signer.old; faults = S.faults signer.old; denials = S.denials signer.old }))
-        (at_seat desk.new (record { told = S.told signer.new; faults = S.faults signer.new; denials = S.denials signer.new })) (result_ok result) }
+        (at_seat desk.old (signer_seen S.told S.faults S.denials signer.old))
+        (at_seat desk.new (signer_seen S.told S.faults S.denials signer.new)) (result_ok result) }
 {
     match import_each(alloc, keystores, passwords, now, desk, signer) {
         Ok(statuses) => Ok(ImportEnd::Treated(statuses)),
@@ -122,8 +122,8 @@ fn import_each<K: DeskCalls, S: Signer>(
     requires moment { now ≤ moment_limit }
     ensures ready { K.ready desk.new }
     ensures runs { Carries Fits (Does K.leads) (keystores_plan now (paired (λ s. string_bytes s) keystores.now passwords.now))
-        (at_seat desk.old (record { told = S.told signer.old; faults = S.faults signer.old; denials = S.denials signer.old }))
-        (at_seat desk.new (record { told = S.told signer.new; faults = S.faults signer.new; denials = S.denials signer.new })) (result_ok result) }
+        (at_seat desk.old (signer_seen S.told S.faults S.denials signer.old))
+        (at_seat desk.new (signer_seen S.told S.faults S.denials signer.new)) (result_ok result) }
 {
     let Ok(mut statuses) = Vec::with_capacity(alloc, keystores.len()) else {
         return Err(AllocError);
@@ -153,8 +153,8 @@ fn import_one<K: DeskCalls, S: Signer>(
     requires moment { now ≤ moment_limit }
     ensures ready { K.ready desk.new }
     ensures runs { Carries Fits (Does K.leads) (keystore_plan now (keystore.now, password.now))
-        (at_seat desk.old (record { told = S.told signer.old; faults = S.faults signer.old; denials = S.denials signer.old }))
-        (at_seat desk.new (record { told = S.told signer.new; faults = S.faults signer.new; denials = S.denials signer.new })) (result_ok result) }
+        (at_seat desk.old (signer_seen S.told S.faults S.denials signer.old))
+        (at_seat desk.new (signer_seen S.told S.faults S.denials signer.new)) (result_ok result) }
 {
     match key_of_keystore(alloc, keystore) {
         Ok(Some(key)) => import_key(&key, keystore, password, now, desk, signer),
@@ -176,8 +176,8 @@ fn import_key<K: DeskCalls, S: Signer>(
     requires moment { now ≤ moment_limit }
     ensures ready { K.ready desk.new }
     ensures runs { Carries Fits (Does K.leads) (key_plan now keystore.now password.now key.now)
-        (at_seat desk.old (record { told = S.told signer.old; faults = S.faults signer.old; denials = S.denials signer.old }))
-        (at_seat desk.new (record { told = S.told signer.new; faults = S.faults signer.new; denials = S.denials signer.new })) (result_ok result) }
+        (at_seat desk.old (signer_seen S.told S.faults S.denials signer.old))
+        (at_seat desk.new (signer_seen S.told S.faults S.denials signer.new)) (result_ok result) }
 {
     match ask(desk, DeskCall::Keys) {
         Replied::Listed(listed) => {
@@ -209,8 +209,8 @@ fn import_listed<K: DeskCalls, S: Signer>(
     requires moment { now ≤ moment_limit }
     ensures ready { K.ready desk.new }
     ensures runs { Carries Fits (Does K.leads) (listed_plan now keystore.now password.now key.now listed.now)
-        (at_seat desk.old (record { told = S.told signer.old; faults = S.faults signer.old; denials = S.denials signer.old }))
-        (at_seat desk.new (record { told = S.told signer.new; faults = S.faults signer.new; denials = S.denials signer.new })) (result_ok result) }
+        (at_seat desk.old (signer_seen S.told S.faults S.denials signer.old))
+        (at_seat desk.new (signer_seen S.told S.faults S.denials signer.new)) (result_ok result) }
 {
     if is_active_in(listed, key) {
         return Ok(KeyStatus::Duplicate);

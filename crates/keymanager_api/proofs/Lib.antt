@@ -1,4 +1,4 @@
-mod RunLemmas
-mod ServeLemmas
-mod ReadingLemmas
+pub mod RunLemmas
+pub mod ServeLemmas
+pub mod ReadingLemmas
 pub mod VisitLemmas

@@ -65,9 +65,9 @@ asks_stays false a b c p q = Stays-trans a b c p q
 
 -- ---- what was read
 
-pub record Reads (token : List ℕ) (left_before left : Option (List ℕ)) (read : Result Request WireFault) (held_before held : Option (List ℕ)) : Type 0 where
-  pub took : Took left_before left (MessageStep token left read)
-  pub continued : Continues token left read took.bytes took.holds held_before held
+pub record Reads {A : Type 0} (check : Request → Result A Refusal) (left_before left : Option (List ℕ)) (read : Result Request WireFault) (held_before held : Option (List ℕ)) : Type 0 where
+  pub took : Took left_before left (MessageStep check left read)
+  pub continued : Continues check left read took.bytes took.holds held_before held
 
 -- a head was taken
 abbrev pub TookHead : Option (List ℕ) → Option (List ℕ) → Request → Type 0
@@ -81,28 +81,28 @@ short_of_head a b (fault.Encoded v) t most = absurd t.holds
 short_of_head a b fault.Link t most = record { bytes = most.bytes; taken = most.taken; holds = (tt, most.holds) }
 short_of_head a b fault.OutOfMemory t most = record { bytes = most.bytes; taken = most.taken; holds = (tt, most.holds) }
 
-module _ (token : List ℕ) where
-  pub reads_headless : (a b c d : Option (List ℕ)) (f : WireFault) → Took a b (RequestHeadStep b (Err f)) → TookAtMost a b head_limit → Stays c d → Reads token a b (Err f) c d
+module _ {A : Type 0} (check : Request → Result A Refusal) where
+  pub reads_headless : (a b c d : Option (List ℕ)) (f : WireFault) → Took a b (RequestHeadStep b (Err f)) → TookAtMost a b head_limit → Stays c d → Reads check a b (Err f) c d
   reads_headless a b c d f t most st =
       let s = short_of_head a b f t most in
       record { took = record { bytes = s.bytes; taken = s.taken; holds = headless f refl s.holds.0 s.holds.1 }; continued = st }
 
-  pub reads_refused : (a b c d : Option (List ℕ)) (head : Request) (r : Refusal) → TookHead a b head → head.body.items ≡ [] → action_for token head ≡ Err r → Stays c d → Reads token a b (Ok head) c d
+  pub reads_refused : (a b c d : Option (List ℕ)) (head : Request) (r : Refusal) → TookHead a b head → head.body.items ≡ [] → check head ≡ Err r → Stays c d → Reads check a b (Ok head) c d
   reads_refused a b c d head r t empty fails st = record { took = record { bytes = t.bytes; taken = t.taken; holds = refused head r refl t.holds empty fails }; continued = st }
 
   -- memory ran out in the checks
-  pub reads_unchecked : (a b c d : Option (List ℕ)) (head : Request) → TookHead a b head → Stays c d → Reads token a b (Err fault.OutOfMemory) c d
+  pub reads_unchecked : (a b c d : Option (List ℕ)) (head : Request) → TookHead a b head → Stays c d → Reads check a b (Err fault.OutOfMemory) c d
   reads_unchecked a b c d head t st = record { took = record { bytes = t.bytes; taken = t.taken; holds = headless fault.OutOfMemory refl tt t.holds.short }; continued = st }
 
-  module _ (head : Request) (what : Action) (passes : action_for token head ≡ Ok what) where
+  module _ (head : Request) (what : A) (passes : check head ≡ Ok what) where
     -- the link failed where the body was asked for
-    pub reads_unasked : (a b c d e : Option (List ℕ)) → TookHead a b head → Stays c d → (expects_continue head ≡ true) × AppendsFront d e continue_text → Reads token a b (Err fault.Link) c e
+    pub reads_unasked : (a b c d e : Option (List ℕ)) → TookHead a b head → Stays c d → (expects_continue head ≡ true) × AppendsFront d e continue_text → Reads check a b (Err fault.Link) c e
     reads_unasked a b c d e t st failed = record {
       took = record { bytes = t.bytes; taken = t.taken; holds = let_in head what t.bytes [] (sym (append-nil t.bytes)) t.holds passes tt };
       continued = inr (failed.0, refl, refl, stays_front c d e continue_text st failed.1);
     }
 
-    pub reads_behind : (a b c d p q r : Option (List ℕ)) (read : Result Request WireFault) → TookHead a b head → Stays b c → Took c d (RequestBodyStep head d read) → Stays p q → Asks (expects_continue head) q r → Reads token a d read p r
+    pub reads_behind : (a b c d p q r : Option (List ℕ)) (read : Result Request WireFault) → TookHead a b head → Stays b c → Took c d (RequestBodyStep head d read) → Stays p q → Asks (expects_continue head) q r → Reads check a d read p r
     reads_behind a b c d p q r read t between u st asks = record {
       took = record { bytes = t.bytes ++ u.bytes; taken = Consumes-trans a b d t.bytes u.bytes t.taken (stays_consumes b c d u.bytes between u.taken); holds = let_in head what t.bytes u.bytes refl t.holds passes u.holds };
       continued = inl (stays_asks (expects_continue head) p q r st asks);
@@ -113,16 +113,16 @@ module _ (token : List ℕ) where
 headless_is : (left : Option (List ℕ)) (read : Result Request WireFault) (bytes : List ℕ) (f : WireFault) → read ≡ Err f → RequestHeadStep left (Err f) bytes → RequestStep left read bytes
 headless_is left read bytes f is none = subst (λ (m : Result Request WireFault). RequestStep left m bytes) (sym is) (request_headless left f bytes none)
 
-refused_is : (token : List ℕ) (read : Result Request WireFault) (bytes : List ℕ) (head : Request) (r : Refusal) → read ≡ Ok head → IsRequestHead bytes head → head.body.items ≡ [] → action_for token head ≡ Err r → IsRefusedHead token read bytes
-refused_is token read bytes head r is text empty fails = subst (λ (m : Result Request WireFault). IsRefusedHead token m bytes) (sym is) (text, empty, r, fails)
+refused_is : {A : Type 0} (check : Request → Result A Refusal) (read : Result Request WireFault) (bytes : List ℕ) (head : Request) (r : Refusal) → read ≡ Ok head → IsRequestHead bytes head → head.body.items ≡ [] → check head ≡ Err r → IsRefusedHead check read bytes
+refused_is check read bytes head r is text empty fails = subst (λ (m : Result Request WireFault). IsRefusedHead check m bytes) (sym is) (text, empty, r, fails)
 
-pub message_is : (token : List ℕ) (left : Option (List ℕ)) (read : Result Request WireFault) (bytes : List ℕ) → MessageStep token left read bytes → RequestStep left read bytes ⊎ IsRefusedHead token read bytes
-message_is token left read bytes (headless f is none short) = inl (headless_is left read bytes f is none)
-message_is token left read bytes (refused head r is text empty fails) = inr (refused_is token read bytes head r is text empty fails)
-message_is token left read bytes (let_in head what front rest split text passes step) = inl (subst (λ (l : List ℕ). RequestStep left read l) (sym split) (request_parts left head read front rest text step))
+pub message_is : {A : Type 0} (check : Request → Result A Refusal) (left : Option (List ℕ)) (read : Result Request WireFault) (bytes : List ℕ) → MessageStep check left read bytes → RequestStep left read bytes ⊎ IsRefusedHead check read bytes
+message_is check left read bytes (headless f is none short) = inl (headless_is left read bytes f is none)
+message_is check left read bytes (refused head r is text empty fails) = inr (refused_is check read bytes head r is text empty fails)
+message_is check left read bytes (let_in head what front rest split text passes step) = inl (subst (λ (l : List ℕ). RequestStep left read l) (sym split) (request_parts left head read front rest text step))
 
 -- a request whose head fails a check was read as its head alone
-pub unread_is : (token : List ℕ) (left : Option (List ℕ)) (request : Request) (bytes : List ℕ) (e : Refusal) → MessageStep token left (Ok request) bytes → action_for token request ≡ Err e → IsRequestHead bytes request
+pub unread_is : (token : List ℕ) (left : Option (List ℕ)) (request : Request) (bytes : List ℕ) (e : Refusal) → MessageStep (action_for token) left (Ok request) bytes → action_for token request ≡ Err e → IsRequestHead bytes request
 unread_is token left request bytes e (headless f is none short) fails = absurd (let clash : Ok request ≡ Err f = is in cc)
 unread_is token left request bytes e (refused head r is text empty other) fails = subst (λ (h : Request). IsRequestHead bytes h) (let same : head ≡ request = cc in same) text
 unread_is token left request bytes e (let_in head what front rest split text passes step) fails =

@@ -40,7 +40,7 @@ nothing_appends (Some x) None c text p q = absurd p
 nothing_appends (Some x) (Some y) None text p q = absurd q
 nothing_appends (Some x) (Some y) (Some z) text p q = q ∙ ap (λ l. l ++ text) (p ∙ append-nil x)
 
-nothing_sent : (a b : Option (List ℕ)) (text : List ℕ) → Stays a b → AppendsSome a b text
+pub nothing_sent : (a b : Option (List ℕ)) (text : List ℕ) → Stays a b → AppendsSome a b text
 nothing_sent None b text p = (0, tt)
 nothing_sent (Some x) None text p = absurd p
 nothing_sent (Some x) (Some y) text p = (0, p ∙ sym (append-nil x))
@@ -48,7 +48,7 @@ nothing_sent (Some x) (Some y) text p = (0, p ∙ sym (append-nil x))
 pub front_some : (a b : Option (List ℕ)) (text : List ℕ) → AppendsFront a b text → AppendsSome a b text
 front_some a b text f = (f.0, f.2)
 
-whole_some : (a b : Option (List ℕ)) (text : List ℕ) → Appends a b text → AppendsSome a b text
+pub whole_some : (a b : Option (List ℕ)) (text : List ℕ) → Appends a b text → AppendsSome a b text
 whole_some a b text p = (length text, subst (λ (t : List ℕ). Appends a b t) (sym (take_all (length text) text (omega arith))) p)
 
 pub rose_before : (a b c : ℕ) → Rose a b → b ≤ c → Rose a c
@@ -88,7 +88,7 @@ pub finished : (a b c : Option (List ℕ)) (f g h : ℕ) (reply : Option Reply) 
     → SendsWhole a b reply sent → HasCause f g sent → Stays b c → HasCause g h ended → Sends a c f h reply (served_by sent ended)
 finished a b c f g h reply sent ended s p st q = record { said = s.said; may = s.may; sent = ended_as a b c f g h s.said sent ended s.sent p st q }
 
-counted_as : (a b : Option (List ℕ)) (f g h : ℕ) (said : Reply) (s : Served) → f ≤ g → SentAs a b g h said s → SentAs a b f h said s
+pub counted_as : (a b : Option (List ℕ)) (f g h : ℕ) (said : Reply) (s : Served) → f ≤ g → SentAs a b g h said s → SentAs a b f h said s
 counted_as a b f g h said (served.Replied status) l s = s
 counted_as a b f g h said served.Dropped l s = (s.0, rose_after f g h l s.1)
 

@@ -9,23 +9,21 @@ use Rattle.http_wire.specs.Plain.{IsRequestHead, RequestBodyStep, RequestHeadSte
 use Rattle.http_wire.specs.declared.message.Request.{Request}
 use Rattle.http_wire.specs.declared.message.WireFault.{WireFault}
 use Rattle.http_wire.specs.declared.message.WireFault.TheVariants as fault
-use Rattle.keymanager_routes.specs.Checks.{action_for}
 use Rattle.keymanager_routes.specs.declared.refusal.Refusal.{Refusal}
-use Rattle.keymanager_routes.specs.declared.route.Action.{Action}
 
--- What the bytes that were taken are, where this token is wanted and so many more bytes are left, and what was read of them.
-pub data MessageStep (token : List ℕ) (left : Option (List ℕ)) (read : Result Request WireFault) (bytes : List ℕ) : Type 0 where
+-- What the bytes that were taken are, where heads have to pass this check and these bytes are left, and what was read of them.
+pub data MessageStep {A : Type 0} (check : Request → Result A Refusal) (left : Option (List ℕ)) (read : Result Request WireFault) (bytes : List ℕ) : Type 0 where
   -- No head, or why none was read to its end and checked. No more was taken than a head may have.
-  headless : (f : WireFault) → read ≡ Err f → RequestHeadStep left (Err f) bytes → length bytes ≤ head_limit → MessageStep token left read bytes
+  headless : (f : WireFault) → read ≡ Err f → RequestHeadStep left (Err f) bytes → length bytes ≤ head_limit → MessageStep check left read bytes
   -- a head that fails a check, and no byte after it: it is refused, whatever its body
-  refused : (head : Request) (r : Refusal) → read ≡ Ok head → IsRequestHead bytes head → head.body.items ≡ [] → action_for token head ≡ Err r → MessageStep token left read bytes
+  refused : (head : Request) (r : Refusal) → read ≡ Ok head → IsRequestHead bytes head → head.body.items ≡ [] → check head ≡ Err r → MessageStep check left read bytes
   -- a head that passes the checks, and after it the body, or why there is none
-  let_in : (head : Request) (what : Action) (front rest : List ℕ) → bytes ≡ front ++ rest → IsRequestHead front head → action_for token head ≡ Ok what → RequestBodyStep head left read rest → MessageStep token left read bytes
+  let_in : (head : Request) (what : A) (front rest : List ℕ) → bytes ≡ front ++ rest → IsRequestHead front head → check head ≡ Ok what → RequestBodyStep head left read rest → MessageStep check left read bytes
 
 -- a head that fails a check was read, and nothing else was taken
-abbrev pub IsRefusedHead : List ℕ → Result Request WireFault → List ℕ → Type 0
-IsRefusedHead token (Ok head) bytes = IsRequestHead bytes head × (head.body.items ≡ []) × (r : Refusal) × (action_for token head ≡ Err r)
-IsRefusedHead token (Err f) bytes = ⊥
+abbrev pub IsRefusedHead : {A : Type 0} → (Request → Result A Refusal) → Result Request WireFault → List ℕ → Type 0
+IsRefusedHead check (Ok head) bytes = IsRequestHead bytes head × (head.body.items ≡ []) × (r : Refusal) × (check head ≡ Err r)
+IsRefusedHead check (Err f) bytes = ⊥
 
 -- the response of status 100 was sent, whole, where it is asked for; else nothing was
 abbrev pub Asks : Bool → Option (List ℕ) → Option (List ℕ) → Type 0
@@ -37,7 +35,7 @@ abbrev pub SaysContinue : Bool → Result Request WireFault → List ℕ → Opt
 SaysContinue asked read rest held_before held = Asks asked held_before held ⊎ ((asked ≡ true) × (read ≡ Err fault.Link) × (rest ≡ []) × AppendsFront held_before held continue_text)
 
 -- It is sent after a head that passes its checks, and then only where that asks for it. Nothing else is sent before the reply.
-abbrev pub Continues : (token : List ℕ) (left : Option (List ℕ)) (read : Result Request WireFault) (bytes : List ℕ) → MessageStep token left read bytes → Option (List ℕ) → Option (List ℕ) → Type 0
-Continues token left read bytes (headless f is none short) held_before held = Stays held_before held
-Continues token left read bytes (refused head r is text empty fails) held_before held = Stays held_before held
-Continues token left read bytes (let_in head what front rest split text passes step) held_before held = SaysContinue (expects_continue head) read rest held_before held
+abbrev pub Continues : {A : Type 0} (check : Request → Result A Refusal) (left : Option (List ℕ)) (read : Result Request WireFault) (bytes : List ℕ) → MessageStep check left read bytes → Option (List ℕ) → Option (List ℕ) → Type 0
+Continues check left read bytes (headless f is none short) held_before held = Stays held_before held
+Continues check left read bytes (refused head r is text empty fails) held_before held = Stays held_before held
+Continues check left read bytes (let_in head what front rest split text passes step) held_before held = SaysContinue (expects_continue head) read rest held_before held

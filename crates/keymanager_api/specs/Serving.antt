@@ -16,6 +16,7 @@ use Rattle.http_wire.specs.declared.message.Request.{Request}
 use Rattle.http_wire.specs.declared.message.Response.{Response}
 use Rattle.http_wire.specs.declared.message.WireFault.{WireFault}
 use Rattle.http_wire.specs.declared.message.WireFault.TheVariants as fault
+use Rattle.keymanager_routes.specs.Checks.{action_for}
 use Rattle.keymanager_routes.specs.Replies.{message_reply, reply_text}
 use Rattle.keymanager_routes.specs.declared.reply.Reply.{Reply}
 use Rattle.keymanager_api.specs.Plans.{faulty_plan, message_plan}
@@ -83,9 +84,9 @@ pub record LinkSeen : Type 0 where
 pub record Serves {K : Type 0} (leads : K → List (DeskCall × DeskReply) → K → Type 0) (token : List ℕ) (now : ℕ) (link_before link_now : LinkSeen) (before after : Seat K) (s : Served) : Type 0 where
   pub read : Result Request WireFault
   pub left : Option (List ℕ)
-  pub took : Took link_before.left left (MessageStep token left read)
+  pub took : Took link_before.left left (MessageStep (action_for token) left read)
   pub held : Option (List ℕ)
-  pub continued : Continues token left read took.bytes took.holds link_before.held held
+  pub continued : Continues (action_for token) left read took.bytes took.holds link_before.held held
   pub reply : Option Reply
   pub ran : Ran leads (message_plan token now read) before after reply
   pub sends : Sends held link_now.held link_before.faults link_now.faults reply s

@@ -3,7 +3,7 @@ ghost use Rattle.std.specs.Prelude.{◌≡◌, ◌≤◌, ℕ, IfOk, option_map}
 ghost use Rattle.std.specs.Result.{result_ok};
 ghost use Rattle.http.specs.StatusCode.{IsStatusCode};
 ghost use Rattle.desk_machine.specs.Machine.{moment_limit};
-ghost use Rattle.client_calls.specs.Seats.{SignerSeen, Ran, at_seat};
+ghost use Rattle.client_calls.specs.Seats.{SignerSeen, Ran, at_seat, signer_seen};
 ghost use Rattle.keymanager_bodies.specs.Asking.{IsListedOnce, ListsOnce, body_asks};
 ghost use Rattle.keymanager_api.specs.Plans.{answer_plan, asked_plan, checked_plan};
 ghost use Rattle.keymanager_api.specs.Serving.{IsBare, reply_in};
@@ -39,8 +39,8 @@ pub fn answer<K: DeskCalls, S: Signer>(
     ensures ready { K.ready desk.new }
     ensures bare { IfOk result IsBare }
     ensures runs { Ran K.leads (answer_plan token.now now request.now)
-        (at_seat desk.old (record { told = S.told signer.old; faults = S.faults signer.old; denials = S.denials signer.old }))
-        (at_seat desk.new (record { told = S.told signer.new; faults = S.faults signer.new; denials = S.denials signer.new })) (option_map reply_in (result_ok result)) }
+        (at_seat desk.old (signer_seen S.told S.faults S.denials signer.old))
+        (at_seat desk.new (signer_seen S.told S.faults S.denials signer.new)) (option_map reply_in (result_ok result)) }
 {
     match reply_to(alloc, request, token, now, desk, signer) {
         Ok(reply) => Ok(response_of(alloc, reply)),
@@ -49,7 +49,7 @@ pub fn answer<K: DeskCalls, S: Signer>(
 }
 
 /// The response that a reply is. Takes no memory.
-pub(crate) fn response_of(alloc: Global, reply: Reply) -> Response
+pub fn response_of(alloc: Global, reply: Reply) -> Response
     requires { IsStatusCode reply.status }
     ensures bare { IsBare result }
     ensures same { reply_in result ≡ reply }
@@ -75,8 +75,8 @@ pub(crate) fn reply_to<K: DeskCalls, S: Signer>(
     ensures ready { K.ready desk.new }
     ensures status { IfOk result (λ r. IsStatusCode r.status) }
     ensures runs { Ran K.leads (answer_plan token.now now request.now)
-        (at_seat desk.old (record { told = S.told signer.old; faults = S.faults signer.old; denials = S.denials signer.old }))
-        (at_seat desk.new (record { told = S.told signer.new; faults = S.faults signer.new; denials = S.denials signer.new })) (result_ok result) }
+        (at_seat desk.old (signer_seen S.told S.faults S.denials signer.old))
+        (at_seat desk.new (signer_seen S.told S.faults S.denials signer.new)) (result_ok result) }
 {
     match read_asked(alloc, request, token.as_bytes()) {
         Ok(Ok(asked)) => do_asked(alloc, asked, now, desk, signer),
@@ -85,8 +85,9 @@ pub(crate) fn reply_to<K: DeskCalls, S: Signer>(
     }
 }
 
-/// The reply to a request whose head passes the checks and asks for this.
-pub(crate) fn reply_behind<K: DeskCalls, S: Signer>(
+/// The reply to a request whose head passes the checks and asks for this, at an epoch. The error is want of memory; the first few
+/// calls are done then, each whole.
+pub fn reply_behind<K: DeskCalls, S: Signer>(
     alloc: Global,
     action: Action,
     request: &Request,
@@ -99,8 +100,8 @@ pub(crate) fn reply_behind<K: DeskCalls, S: Signer>(
     ensures ready { K.ready desk.new }
     ensures status { IfOk result (λ r. IsStatusCode r.status) }
     ensures runs { Ran K.leads (checked_plan now (body_asks action request.now.body.items))
-        (at_seat desk.old (record { told = S.told signer.old; faults = S.faults signer.old; denials = S.denials signer.old }))
-        (at_seat desk.new (record { told = S.told signer.new; faults = S.faults signer.new; denials = S.denials signer.new })) (result_ok result) }
+        (at_seat desk.old (signer_seen S.told S.faults S.denials signer.old))
+        (at_seat desk.new (signer_seen S.told S.faults S.denials signer.new)) (result_ok result) }
 {
     match asked_in(alloc, action, request.body.as_slice()) {
         Ok(Ok(asked)) => do_asked(alloc, asked, now, desk, signer),
@@ -123,8 +124,8 @@ fn do_asked<K: DeskCalls, S: Signer>(
     ensures ready { K.ready desk.new }
     ensures status { IfOk result (λ r. IsStatusCode r.status) }
     ensures runs { Ran K.leads (asked_plan now asked)
-        (at_seat desk.old (record { told = S.told signer.old; faults = S.faults signer.old; denials = S.denials signer.old }))
-        (at_seat desk.new (record { told = S.told signer.new; faults = S.faults signer.new; denials = S.denials signer.new })) (result_ok result) }
+        (at_seat desk.old (signer_seen S.told S.faults S.denials signer.old))
+        (at_seat desk.new (signer_seen S.told S.faults S.denials signer.new)) (result_ok result) }
 {
     match asked {
         Asked::List => do_list(alloc, desk),
@@ -161,8 +162,8 @@ fn do_import<K: DeskCalls, S: Signer>(
     ensures ready { K.ready desk.new }
     ensures status { IfOk result (λ r. IsStatusCode r.status) }
     ensures runs { Ran K.leads (asked_plan now (Asked.Import file keystores.now))
-        (at_seat desk.old (record { told = S.told signer.old; faults = S.faults signer.old; denials = S.denials signer.old }))
-        (at_seat desk.new (record { told = S.told signer.new; faults = S.faults signer.new; denials = S.denials signer.new })) (result_ok result) }
+        (at_seat desk.old (signer_seen S.told S.faults S.denials signer.old))
+        (at_seat desk.new (signer_seen S.told S.faults S.denials signer.new)) (result_ok result) }
 {
     let (texts, passwords) = keystores.texts();
     match import_keys(alloc, file, texts, passwords, now, desk, signer) {
@@ -181,8 +182,8 @@ fn do_delete<K: DeskCalls, S: Signer>(
     ensures ready { K.ready desk.new }
     ensures status { IfOk result (λ r. IsStatusCode r.status) }
     ensures runs { (now : ℕ) → Ran K.leads (asked_plan now (Asked.Delete keys.now))
-        (at_seat desk.old (record { told = S.told signer.old; faults = S.faults signer.old; denials = S.denials signer.old }))
-        (at_seat desk.new (record { told = S.told signer.new; faults = S.faults signer.new; denials = S.denials signer.new })) (result_ok result) }
+        (at_seat desk.old (signer_seen S.told S.faults S.denials signer.old))
+        (at_seat desk.new (signer_seen S.told S.faults S.denials signer.new)) (result_ok result) }
 {
     match delete_keys(alloc, keys, desk, signer) {
         Ok(deletion) => deletion_reply(alloc, &deletion),

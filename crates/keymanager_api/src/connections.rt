@@ -1,9 +1,9 @@
 //! Connection after connection.
 ghost use Rattle.edge_kit.specs.Doors.{IsLent};
-ghost use Rattle.duty_plans.specs.Seats.{signer_seen};
 ghost use Rattle.keymanager_api.specs.Doors.{door_seen, hall, link_seen};
 ghost use Rattle.keymanager_api.specs.Handling.{Handles};
 ghost use Rattle.keymanager_api.specs.Visits.{ServesAll, asks_failed};
+ghost use Rattle.client_calls.specs.Seats.{signer_seen};
 
 use crate::serve::serve_connection;
 use desk_machine::{DeskCall, DeskCalls, DeskReply};
@@ -93,8 +93,8 @@ fn serve_one<K: DeskCalls, S: Signer, C: Clock, R: Door>(
     has_failed(desk)
 }
 
-/// Whether the desk's disk has failed.
-fn has_failed<K: DeskCalls>(desk: &mut K) -> bool
+/// Whether the desk's disk has failed, as the desk says.
+pub fn has_failed<K: DeskCalls>(desk: &mut K) -> bool
     requires ready { K.ready desk.old }
     ensures ready { K.ready desk.new }
     ensures asked { K.leads desk.old (asks_failed result) desk.new }

@@ -8,7 +8,10 @@ mod laws;
 mod send;
 mod serve;
 
-pub use answering::answer;
-pub use connections::{Connections, ConnectionsEnd, serve_connections};
+pub use answering::{answer, reply_behind, response_of};
+pub use connections::{Connections, ConnectionsEnd, has_failed, serve_connections};
 pub use laws::message_law;
-pub use serve::{Served, serve_connection};
+pub use send::send_all;
+pub use serve::{
+    Served, ask_for_body, drop_link, finish, finish_faulty, outcome, serve_connection,
+};

@@ -74,7 +74,7 @@ fn send_memory<L: Link>(link: &mut L) -> Result<u16, Failed>
 }
 
 /// Sends all the bytes. `Failed` only where the link's count of faults rose; a front of the bytes was sent then.
-fn send_all<L: Link>(link: &mut L, bytes: &[u8]) -> Result<(), Failed>
+pub fn send_all<L: Link>(link: &mut L, bytes: &[u8]) -> Result<(), Failed>
     ensures ok { OnOk result (Appends (L.held link.old) (L.held link.new) bytes.now) }
     ensures err { OnErr result (AppendsSome (L.held link.old) (L.held link.new) bytes.now) }
     ensures cause { HasCause (L.faults link.old) (L.faults link.new) result }

@@ -8,7 +8,7 @@ ghost use Rattle.http_wire.specs.Expects.{continue_text, expects_continue};
 ghost use Rattle.http_wire.specs.Listening.{AppendsFront, OnlySpeaks};
 ghost use Rattle.keymanager_routes.specs.Checks.{action_for};
 ghost use Rattle.desk_machine.specs.Machine.{moment_limit};
-ghost use Rattle.client_calls.specs.Seats.{at_seat};
+ghost use Rattle.client_calls.specs.Seats.{at_seat, signer_seen};
 ghost use Rattle.call_plans.specs.Plans.{Done};
 ghost use Rattle.keymanager_api.specs.Plans.{faulty_plan};
 ghost use Rattle.keymanager_api.specs.Readings.{Asks};
@@ -53,8 +53,8 @@ pub fn serve_connection<L: Link, K: DeskCalls, S: Signer>(
     ensures serves { Serves K.leads token.now now
         (record { left = L.left link.old; held = L.held link.old; faults = L.faults link.old })
         (record { left = L.left link.new; held = L.held link.new; faults = L.faults link.new })
-        (at_seat desk.old (record { told = S.told signer.old; faults = S.faults signer.old; denials = S.denials signer.old }))
-        (at_seat desk.new (record { told = S.told signer.new; faults = S.faults signer.new; denials = S.denials signer.new })) result }
+        (at_seat desk.old (signer_seen S.told S.faults S.denials signer.old))
+        (at_seat desk.new (signer_seen S.told S.faults S.denials signer.new)) result }
     ensures coming { Stays (L.coming link.old) (L.coming link.new) }
     ensures later { L.faults link.old ≤ L.faults link.new }
 {
@@ -81,8 +81,8 @@ fn serve_head<L: Link, K: DeskCalls, S: Signer>(
     ensures serves { (before : LinkSeen) → ReadsHead head before (record { left = L.left link.old; held = L.held link.old; faults = L.faults link.old })
         → Serves K.leads token.now now before
         (record { left = L.left link.new; held = L.held link.new; faults = L.faults link.new })
-        (at_seat desk.old (record { told = S.told signer.old; faults = S.faults signer.old; denials = S.denials signer.old }))
-        (at_seat desk.new (record { told = S.told signer.new; faults = S.faults signer.new; denials = S.denials signer.new })) result }
+        (at_seat desk.old (signer_seen S.told S.faults S.denials signer.old))
+        (at_seat desk.new (signer_seen S.told S.faults S.denials signer.new)) result }
     ensures coming { Stays (L.coming link.old) (L.coming link.new) }
     ensures later { L.faults link.old ≤ L.faults link.new }
 {
@@ -110,8 +110,8 @@ fn serve_body<L: Link, K: DeskCalls, S: Signer>(
     ensures serves { (token : List ℕ) (before : LinkSeen) → ReadsHead head before (record { left = L.left link.old; held = L.held link.old; faults = L.faults link.old }) → action_for token head ≡ Ok action
         → Serves K.leads token now before
         (record { left = L.left link.new; held = L.held link.new; faults = L.faults link.new })
-        (at_seat desk.old (record { told = S.told signer.old; faults = S.faults signer.old; denials = S.denials signer.old }))
-        (at_seat desk.new (record { told = S.told signer.new; faults = S.faults signer.new; denials = S.denials signer.new })) result }
+        (at_seat desk.old (signer_seen S.told S.faults S.denials signer.old))
+        (at_seat desk.new (signer_seen S.told S.faults S.denials signer.new)) result }
     ensures coming { Stays (L.coming link.old) (L.coming link.new) }
     ensures later { L.faults link.old ≤ L.faults link.new }
 {
@@ -130,7 +130,7 @@ fn serve_body<L: Link, K: DeskCalls, S: Signer>(
 
 /// Asks for the body after a head where its sender waits for that. `Failed` only where the link's count of faults rose; a
 /// front of what asks for it was sent then.
-fn ask_for_body<L: Link>(link: &mut L, head: &Request) -> Result<(), Failed>
+pub fn ask_for_body<L: Link>(link: &mut L, head: &Request) -> Result<(), Failed>
     ensures ok { OnOk result (Asks (expects_continue head.now) (L.held link.old) (L.held link.new)) }
     ensures err { OnErr result ((expects_continue head.now ≡ true) × AppendsFront (L.held link.old) (L.held link.new) continue_text) }
     ensures cause { HasCause (L.faults link.old) (L.faults link.new) result }
@@ -143,7 +143,7 @@ fn ask_for_body<L: Link>(link: &mut L, head: &Request) -> Result<(), Failed>
 }
 
 /// Ends a connection of which no request was read: hangs up where the link failed, else sends the reply of the fault.
-fn finish_faulty<L: Link>(alloc: Global, link: &mut L, fault: WireFault) -> Served
+pub fn finish_faulty<L: Link>(alloc: Global, link: &mut L, fault: WireFault) -> Served
     ensures ends { EndsFaulty fault (L.held link.old) (L.held link.new) (L.faults link.old) (L.faults link.new) result }
     ensures coming { Stays (L.coming link.old) (L.coming link.new) }
     ensures later { L.faults link.old ≤ L.faults link.new }
@@ -169,8 +169,9 @@ fn fault_reply(alloc: Global, fault: WireFault) -> Result<Reply, AllocError>
     }
 }
 
-/// Sends the reply, and hangs up.
-fn finish<L: Link>(alloc: Global, link: &mut L, reply: Result<Reply, AllocError>) -> Served
+/// Ends a connection with this reply, or where there is none the one of status 503 that says that memory ran out: sends it, and
+/// hangs up.
+pub fn finish<L: Link>(alloc: Global, link: &mut L, reply: Result<Reply, AllocError>) -> Served
     requires status { IfOk reply (λ r. IsStatusCode r.status) }
     ensures sends { Sends (L.held link.old) (L.held link.new) (L.faults link.old) (L.faults link.new) (result_ok reply) result }
     ensures coming { Stays (L.coming link.old) (L.coming link.new) }
@@ -182,7 +183,7 @@ fn finish<L: Link>(alloc: Global, link: &mut L, reply: Result<Reply, AllocError>
 }
 
 /// What became of a connection, of which the reply was sent so and the end was such.
-fn outcome(sent: Result<u16, Failed>, ended: Result<(), Failed>) -> Served
+pub fn outcome(sent: Result<u16, Failed>, ended: Result<(), Failed>) -> Served
     ensures { result ≡ served_by sent ended }
 {
     match (sent, ended) {
@@ -192,7 +193,7 @@ fn outcome(sent: Result<u16, Failed>, ended: Result<(), Failed>) -> Served
 }
 
 /// Hangs up after the link failed.
-fn drop_link<L: Link>(link: &mut L) -> Served
+pub fn drop_link<L: Link>(link: &mut L) -> Served
     ensures dropped { result ≡ Served.Dropped }
     ensures held { Stays (L.held link.old) (L.held link.new) }
     ensures coming { Stays (L.coming link.old) (L.coming link.new) }

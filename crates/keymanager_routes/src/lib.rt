@@ -13,4 +13,4 @@ pub use check::read_action;
 pub use member::Member;
 pub use refusal::{Refusal, Stop};
 pub use reply::Reply;
-pub use route::Action;
+pub use route::{Action, path_of};

@@ -38,8 +38,8 @@ pub(crate) fn route_of(alloc: Global, target: &[u8]) -> Result<Option<Route>, Al
     }
 }
 
-/// The target before its query.
-fn path_of(target: &[u8]) -> &[u8]
+/// The target before its query, which begins at the first `?` (RFC 3986, section 3.4).
+pub fn path_of(target: &[u8]) -> &[u8]
     ensures { result.now ≡ path_of target.now }
 {
     match query_at(target) {

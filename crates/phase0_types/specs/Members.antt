@@ -46,6 +46,10 @@ member_name member.WithdrawalCredentials = codes "withdrawal_credentials"
 member_name member.Amount = codes "amount"
 member_name member.ValidatorIndex = codes "validator_index"
 member_name member.Message = codes "message"
+member_name member.SubcommitteeIndex = codes "subcommittee_index"
+member_name member.AggregatorIndex = codes "aggregator_index"
+member_name member.Contribution = codes "contribution"
+member_name member.SelectionProof = codes "selection_proof"
 
 -- no fork, signing data, header or attestation data has it
 abbrev pub is_in_bodies : Member → Bool

@@ -2,7 +2,7 @@
 ghost use Rattle.std.specs.Prelude.{◌≡◌, IsTrue};
 ghost use Rattle.phase0_types.specs.Members.{member_name, is_in_bodies};
 
-/// A member of a container (Beacon API; consensus-specs, "Phase 0", "Containers").
+/// A member of a container (Beacon API; consensus-specs, "Phase 0" and "Altair", "Containers").
 #[derive(Clone, Copy, PartialEq, Eq, Debug)]
 pub enum Member {
     PreviousVersion,
@@ -48,6 +48,10 @@ pub enum Member {
     Amount,
     ValidatorIndex,
     Message,
+    SubcommitteeIndex,
+    AggregatorIndex,
+    Contribution,
+    SelectionProof,
 }
 
 impl Member {
@@ -107,6 +111,10 @@ impl Member {
             Member::Amount => "amount",
             Member::ValidatorIndex => "validator_index",
             Member::Message => "message",
+            Member::SubcommitteeIndex => "subcommittee_index",
+            Member::AggregatorIndex => "aggregator_index",
+            Member::Contribution => "contribution",
+            Member::SelectionProof => "selection_proof",
             _ => "",
         }
     }

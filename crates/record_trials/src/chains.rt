@@ -16,6 +16,9 @@ fn kind_of(word: &str) -> Option<DomainKind> {
         "voluntary-exit" => Some(DomainKind::VoluntaryExit),
         "selection-proof" => Some(DomainKind::SelectionProof),
         "aggregate-and-proof" => Some(DomainKind::AggregateAndProof),
+        "sync-committee" => Some(DomainKind::SyncCommittee),
+        "sync-committee-selection-proof" => Some(DomainKind::SyncCommitteeSelectionProof),
+        "contribution-and-proof" => Some(DomainKind::ContributionAndProof),
         _ => None,
     }
 }

@@ -6,6 +6,7 @@
 //! | `header JSON` | as above, of a block's header |
 //! | `bits JSON` | the bits of an attestation, or the fault of the JSON |
 use crate::{chains, merkle};
+use altair_types::{ContributionAndProof, SyncAggregatorSelectionData, SyncCommitteeContribution};
 use edge_kit::hex_text;
 use phase0_blocks::{Attestation, BeaconBlock, BeaconBlockBody, SignedBeaconBlock};
 use phase0_types::{
@@ -40,6 +41,16 @@ fn read_of_block(alloc: Global, kind: &str, json: &Value) -> Option<String> {
     }
 }
 
+/// As above, of what members of a sync committee sign.
+fn read_of_sync(alloc: Global, kind: &str, json: &Value) -> Option<String> {
+    match kind {
+        "sync_aggregator_selection_data" => read::<SyncAggregatorSelectionData>(alloc, json),
+        "sync_committee_contribution" => read::<SyncCommitteeContribution>(alloc, json),
+        "contribution_and_proof" => read::<ContributionAndProof>(alloc, json),
+        _ => read_of_block(alloc, kind, json),
+    }
+}
+
 fn root(alloc: Global, kind: &str, json: &Value) -> Option<String> {
     match kind {
         "checkpoint" => read::<Checkpoint>(alloc, json),
@@ -47,7 +58,7 @@ fn root(alloc: Global, kind: &str, json: &Value) -> Option<String> {
         "fork" => read::<Fork>(alloc, json),
         "fork_data" => read::<ForkData>(alloc, json),
         "signing_data" => read::<SigningData>(alloc, json),
-        _ => read_of_block(alloc, kind, json),
+        _ => read_of_sync(alloc, kind, json),
     }
 }
 

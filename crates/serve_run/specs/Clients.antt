@@ -2,11 +2,11 @@
 use Rattle.std.specs.Prelude.{ℕ, List, [], ◌∷◌, map, Option}
 use Rattle.signer_link.specs.declared.reply.Told.{Told}
 use Rattle.node_calls.specs.declared.told.NodeCall.{NodeCall}
-use Rattle.client_calls.specs.Seats.{SignerSeen}
+use Rattle.client_calls.specs.Seats.{SignerSeen, signer_seen}
 use Rattle.node_fallback.specs.Seen.{Seen}
 use Rattle.node_fallback.specs.declared.nodes.Nodes.{Nodes}
 use Rattle.duty_plans.specs.Hands.{Free}
-use Rattle.duty_plans.specs.Seats.{Seat, at_seat, nodes_seen, signer_seen}
+use Rattle.duty_plans.specs.Seats.{Seat, at_seat, nodes_seen}
 use Rattle.duty_turns.specs.TurnSteps.{House, SinkSeen}
 use Rattle.duty_work.specs.Houses.{house}
 use Rattle.keymanager_api.specs.Doors.{DoorSeen, Hall, door_seen, hall}

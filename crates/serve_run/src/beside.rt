@@ -1,12 +1,13 @@
 //! The two loops of a client, beside each other.
 ghost use Rattle.std.specs.Prelude.{◌≡◌, ◌<◌, All, IfSome, IsSome, length, vec_len};
-ghost use Rattle.duty_plans.specs.Seats.{nodes_seen, signer_seen};
+ghost use Rattle.duty_plans.specs.Seats.{nodes_seen};
 ghost use Rattle.duty_turns.specs.TurnSteps.{sink_seen};
 ghost use Rattle.duty_workers.specs.Working.{IsReady, lanes_seen};
 ghost use Rattle.duty_work.specs.Houses.{house};
 ghost use Rattle.keymanager_api.specs.Doors.{door_seen, hall, link_seen};
 ghost use Rattle.keymanager_api.specs.Visits.{ServesAll};
 ghost use Rattle.serve_run.specs.Serving.{DutiesRan, wanted_of};
+ghost use Rattle.client_calls.specs.Seats.{signer_seen};
 
 use crate::held::{Held, Holds};
 use desk_machine::DeskCalls;

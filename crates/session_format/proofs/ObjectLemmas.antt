@@ -10,6 +10,7 @@ use Rattle.phase0_types.specs.declared.attestation.AttestationData.{AttestationD
 use Rattle.phase0_types.specs.declared.fault.ReadFault.{ReadFault}
 use Rattle.sign_roots.specs.declared.domains.Domains.{Domains}
 use Rattle.signer_link.specs.declared.request.SignObject.TheVariants as object
+use Rattle.signer_link.specs.declared.version.BlockVersion.TheVariants as version
 use Rattle.session_format.specs.declared.request.Op.TheVariants as op
 use Rattle.signer_link.specs.Objects.{header_from, checkpoint_from, details_from, block_message, vote_message}
 use Rattle.session_format.specs.Requests.{header_block, details_vote}
@@ -24,9 +25,9 @@ details_from-value details = refl
 
 -- what is read of a header is the block of that header
 pub header_block-read : (domains : Domains) (key : PubKey) (header : BeaconBlockHeader) (read : Result (ValueOf beacon_block_header) ReadFault) → Ok (beacon_block_header_value header) ≡ read
-    → header_block domains key read ≡ Ok (op.Propose key (block_message domains header) (Some (object.Header header)))
+    → header_block domains key read ≡ Ok (op.Propose key (block_message domains header) (Some (object.Header version.Phase0 header)))
 header_block-read domains key header read is =
-    ap (header_block domains key) (sym is) ∙ ap (λ h. Ok (op.Propose key (block_message domains h) (Some (object.Header h)))) (header_from-value header)
+    ap (header_block domains key) (sym is) ∙ ap (λ h. Ok (op.Propose key (block_message domains h) (Some (object.Header version.Phase0 h)))) (header_from-value header)
 
 -- what is read of attestation data is the vote of that data
 pub details_vote-read : (domains : Domains) (key : PubKey) (details : AttestationData) (read : Result (ValueOf attestation_data) ReadFault) → Ok (attestation_data_value details) ≡ read

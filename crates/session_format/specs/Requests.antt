@@ -17,6 +17,7 @@ use Rattle.phase0_types.specs.Containers.{attestation_data, beacon_block_header}
 use Rattle.phase0_types.specs.declared.fault.ReadFault.{ReadFault as ShapeFault}
 use Rattle.sign_roots.specs.declared.domains.Domains.{Domains}
 use Rattle.signer_link.specs.declared.request.SignObject.TheVariants as object
+use Rattle.signer_link.specs.declared.version.BlockVersion.TheVariants as version
 use Rattle.desk_machine.specs.Machine.{moment_limit}
 use Rattle.custody_format.specs.Lists.{keys_of}
 use Rattle.custody_format.specs.Imports.{import_in}
@@ -98,7 +99,7 @@ plain_block key d = do
 
 -- a block of its header
 abbrev pub header_block : Domains → PubKey → Result (ValueOf beacon_block_header) ShapeFault → Result Op Member
-header_block domains key (Ok value) = Ok (op.Propose key (block_message domains (header_from value)) (Some (object.Header (header_from value))))
+header_block domains key (Ok value) = Ok (op.Propose key (block_message domains (header_from value)) (Some (object.Header version.Phase0 (header_from value))))
 header_block domains key (Err fault) = Err (inside member.Header fault)
 
 -- where the header is there, the plain members are ignored

@@ -15,7 +15,7 @@ use edge_kit::PubKey;
 use phase0_types::{AttestationData, BeaconBlockHeader, Shaped};
 use serde_json::Value;
 use sign_roots::Domains;
-use signer_link::SignObject;
+use signer_link::{BlockVersion, SignObject};
 use slash_defs::Message;
 use std::alloc::Global;
 
@@ -55,7 +55,10 @@ fn block_of_header(
         Ok(header) => Ok(Op::Propose {
             key,
             message: block_message_of(domains, &header),
-            object: Some(SignObject::Header(header)),
+            object: Some(SignObject::Header {
+                version: BlockVersion::Phase0,
+                header,
+            }),
         }),
         Err(fault) => Err(Unread::Member(member_of(Member::Header, fault))),
     }

@@ -100,7 +100,7 @@ ends_granted leads d e s b c g under x led kind rest =
 
 -- ---- calls of the signer
 
--- what is told of the message of a grant
+-- what the signer tells of the message of a grant
 told_message : (g : OpenGrant) (q : SignRequest) (r : SignReply) (o : Option Message) (a b : Option (List Told)) → IsSome o → IfSome o (λ m. Tells a b (told_sign (asked g.key m q) r)) → Tells a b (told_under g q o r)
 told_message g q r None a b is h = absurd (let bad : false ≡ true = is in cc)
 told_message g q r (Some m) a b is h = h

@@ -1,5 +1,6 @@
 -- A request for a signature, as it was answered over a desk and a signer.
 use Rattle.std.specs.Prelude.{◌≡◌, ℕ, List, Option, Some, None, Result, Ok, Err}
+use Rattle.http.specs.StatusCode.{IsStatusCode}
 use Rattle.edge_kit.specs.declared.bytes.PubKey.{PubKey}
 use Rattle.edge_kit.specs.declared.bytes.Root.{Root}
 use Rattle.slash_defs.specs.declared.message.Message.{Message}
@@ -43,6 +44,12 @@ EndsUnsigned r (ending.Signed given under) = ⊥
 abbrev pub CanSettle : {K : Type 0} → (K → DeskCall → Type 0) → K → SignEnd → Type 0
 CanSettle allows desk (ending.Signed given under) = MaySettle (allows desk) (reply.Granted under)
 CanSettle allows desk e = Unit {0}
+
+-- its reply, if it has one, has a status of three digits (RFC 9110, section 15)
+abbrev pub HasStatus : SignEnd → Type 0
+HasStatus (ending.Refused given) = IsStatusCode given.status
+HasStatus (ending.Signed given under) = IsStatusCode given.status
+HasStatus ending.OutOfMemory = Unit {0}
 
 -- How it ends after a plan came to this: with its reply; with its signature, whose grant is open; or, where memory ran out, with neither,
 -- and then the grant of a signature is dropped.

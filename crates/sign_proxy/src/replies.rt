@@ -1,10 +1,11 @@
 //! The replies to requests that are not signed, and to those that are.
 ghost use Rattle.std.specs.Prelude.{◌≡◌, IfOk, Some, option_map};
+ghost use Rattle.http.specs.StatusCode.{IsStatusCode};
 ghost use Rattle.serde_json.specs.View.{view};
 ghost use Rattle.keymanager_routes.specs.Replies.{message_reply};
 ghost use Rattle.sign_proxy.specs.Kinds.{IsRefusal};
 ghost use Rattle.sign_proxy.specs.Replies.{desk_reply, signature_data, signature_reply, signer_reply, verdict_word, worded};
-ghost use Rattle.sign_proxy.specs.Signing.{EndsUnsigned};
+ghost use Rattle.sign_proxy.specs.Signing.{EndsUnsigned, HasStatus};
 
 use crate::signing::SignEnd;
 use desk_machine::DeskReply;
@@ -19,7 +20,8 @@ use std::alloc::{AllocError, Global};
 /// The end where the desk gave no grant.
 pub(crate) fn without_grant(alloc: Global, reply: DeskReply) -> SignEnd
     requires { IsRefusal reply }
-    ensures { EndsUnsigned (desk_reply reply) result }
+    ensures unsigned { EndsUnsigned (desk_reply reply) result }
+    ensures status { HasStatus result }
 {
     match reply {
         DeskReply::Unknown => with_message(alloc, 404, "unknown"),
@@ -40,7 +42,8 @@ pub(crate) fn without_grant(alloc: Global, reply: DeskReply) -> SignEnd
 
 /// Refused by the past of a key.
 fn with_verdict(alloc: Global, verdict: &Verdict) -> SignEnd
-    ensures { EndsUnsigned (worded 412 (verdict_word verdict.now)) result }
+    ensures unsigned { EndsUnsigned (worded 412 (verdict_word verdict.now)) result }
+    ensures status { HasStatus result }
 {
     match verdict_word(verdict) {
         Some(word) => with_message(alloc, 412, word),
@@ -66,7 +69,8 @@ fn verdict_word(verdict: &Verdict) -> Option<&'static str>
 
 /// The end where the signing service gave no signature.
 pub(crate) fn without_signature(alloc: Global, reply: &SignReply) -> SignEnd
-    ensures { EndsUnsigned (signer_reply reply.now) result }
+    ensures unsigned { EndsUnsigned (signer_reply reply.now) result }
+    ensures status { HasStatus result }
 {
     match reply {
         SignReply::NoKey(_) => with_message(alloc, 404, "signer: no_key"),
@@ -79,7 +83,8 @@ pub(crate) fn without_signature(alloc: Global, reply: &SignReply) -> SignEnd
 
 /// The service refused with this HTTP status.
 fn denied(alloc: Global, status: u16) -> SignEnd
-    ensures { EndsUnsigned (signer_reply (SignReply.Denied status)) result }
+    ensures unsigned { EndsUnsigned (signer_reply (SignReply.Denied status)) result }
+    ensures status { HasStatus result }
 {
     let Ok(digits) = status.to_string(alloc) else {
         return SignEnd::OutOfMemory;
@@ -92,7 +97,9 @@ fn denied(alloc: Global, status: u16) -> SignEnd
 
 /// The reply of this status with a message.
 pub(crate) fn with_message(alloc: Global, status: u16, text: &str) -> SignEnd
-    ensures { EndsUnsigned (Some (message_reply status text.now)) result }
+    requires { IsStatusCode status }
+    ensures unsigned { EndsUnsigned (Some (message_reply status text.now)) result }
+    ensures status { HasStatus result }
 {
     match Reply::of_message(alloc, status, text) {
         Ok(reply) => SignEnd::Refused(reply),

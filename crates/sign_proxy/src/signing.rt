@@ -2,11 +2,11 @@
 ghost use Rattle.std.specs.Prelude.{◌≡◌, ◌≤◌, ◌∷◌, [], Ok, IsSome, None, Some};
 ghost use Rattle.desk_machine.specs.Machine.{moment_limit};
 ghost use Rattle.desk_machine.specs.Making.{MaySettle};
-ghost use Rattle.client_calls.specs.Seats.{SignerSeen, at_seat};
+ghost use Rattle.client_calls.specs.Seats.{SignerSeen, at_seat, signer_seen};
 ghost use Rattle.signing_requests.specs.Objects.{wanted_of};
 ghost use Rattle.signing_requests.specs.Refusals.{refusal_reply};
 ghost use Rattle.sign_proxy.specs.Plans.{WithSignature, answered, message_in, signing_plan, signs, signs_plain, wanted_plan};
-ghost use Rattle.sign_proxy.specs.Signing.{Answers, CanSettle, Ends, EndsUnsigned, EndsWith, GrantedFor};
+ghost use Rattle.sign_proxy.specs.Signing.{Answers, CanSettle, Ends, EndsUnsigned, EndsWith, GrantedFor, HasStatus};
 
 use crate::replies::{signature_reply, without_grant, without_signature};
 use desk_machine::{DeskCall, DeskCalls, DeskReply, Grant, Outcome};
@@ -54,9 +54,10 @@ pub fn sign_reply<K: DeskCalls, S: Signer>(
     requires moment { now ≤ moment_limit }
     ensures ready { K.ready desk.new }
     ensures settles { CanSettle K.allows desk.new result }
+    ensures status { HasStatus result }
     ensures answers { Answers K.leads identifier.now genesis.now body.now now
-        (at_seat desk.old (record { told = S.told signer.old; faults = S.faults signer.old; denials = S.denials signer.old }))
-        (at_seat desk.new (record { told = S.told signer.new; faults = S.faults signer.new; denials = S.denials signer.new })) result }
+        (at_seat desk.old (signer_seen S.told S.faults S.denials signer.old))
+        (at_seat desk.new (signer_seen S.told S.faults S.denials signer.new)) result }
 {
     match read_signing_request(alloc, identifier, genesis, body) {
         Ok(asked) => sign_asked(alloc, asked, now, desk, signer),
@@ -67,7 +68,8 @@ pub fn sign_reply<K: DeskCalls, S: Signer>(
 
 /// Refuses a request, and calls nothing.
 fn refuse(alloc: Global, refusal: &SigningRefusal) -> SignEnd
-    ensures { EndsUnsigned (Some (refusal_reply refusal.now)) result }
+    ensures unsigned { EndsUnsigned (Some (refusal_reply refusal.now)) result }
+    ensures status { HasStatus result }
 {
     match refusal.reply(alloc) {
         Ok(reply) => SignEnd::Refused(reply),
@@ -87,10 +89,11 @@ fn sign_asked<K: DeskCalls, S: Signer>(
     requires moment { now ≤ moment_limit }
     ensures ready { K.ready desk.new }
     ensures settles { CanSettle K.allows desk.new result }
+    ensures status { HasStatus result }
     ensures granted { GrantedFor asked.key (message_in (wanted_of asked.domains asked.object)) result }
     ensures ends { Ends K.leads (signing_plan now (Ok asked))
-        (at_seat desk.old (record { told = S.told signer.old; faults = S.faults signer.old; denials = S.denials signer.old }))
-        (at_seat desk.new (record { told = S.told signer.new; faults = S.faults signer.new; denials = S.denials signer.new })) result }
+        (at_seat desk.old (signer_seen S.told S.faults S.denials signer.old))
+        (at_seat desk.new (signer_seen S.told S.faults S.denials signer.new)) result }
 {
     let key = asked.key;
     match asked.wanted() {
@@ -115,10 +118,11 @@ fn propose<K: DeskCalls, S: Signer>(
     requires moment { now ≤ moment_limit }
     ensures ready { K.ready desk.new }
     ensures settles { CanSettle K.allows desk.new result }
+    ensures status { HasStatus result }
     ensures granted { GrantedFor key (Some message) result }
     ensures ends { Ends K.leads (wanted_plan key now (Wanted.Propose message request.now))
-        (at_seat desk.old (record { told = S.told signer.old; faults = S.faults signer.old; denials = S.denials signer.old }))
-        (at_seat desk.new (record { told = S.told signer.new; faults = S.faults signer.new; denials = S.denials signer.new })) result }
+        (at_seat desk.old (signer_seen S.told S.faults S.denials signer.old))
+        (at_seat desk.new (signer_seen S.told S.faults S.denials signer.new)) result }
 {
     match desk.call(DeskCall::Propose { key, message, now }) {
         DeskReply::Granted(grant) => sign(alloc, request, grant, desk, signer),
@@ -139,10 +143,11 @@ fn sign<K: DeskCalls, S: Signer>(
     requires settles { MaySettle (λ c. K.allows desk.old c) (DeskReply.Granted grant) }
     ensures ready { K.ready desk.new }
     ensures settles { CanSettle K.allows desk.new result }
+    ensures status { HasStatus result }
     ensures granted { GrantedFor grant.key grant.message result }
     ensures ends { Ends K.leads (signs request.now grant)
-        (at_seat desk.old (record { told = S.told signer.old; faults = S.faults signer.old; denials = S.denials signer.old }))
-        (at_seat desk.new (record { told = S.told signer.new; faults = S.faults signer.new; denials = S.denials signer.new })) result }
+        (at_seat desk.old (signer_seen S.told S.faults S.denials signer.old))
+        (at_seat desk.new (signer_seen S.told S.faults S.denials signer.new)) result }
 {
     let reply = signer.sign(request, &grant);
     end_signing(alloc, reply, grant, desk)
@@ -161,10 +166,11 @@ fn allow<K: DeskCalls, S: Signer>(
     requires moment { now ≤ moment_limit }
     ensures ready { K.ready desk.new }
     ensures settles { CanSettle K.allows desk.new result }
+    ensures status { HasStatus result }
     ensures granted { GrantedFor key None result }
     ensures ends { Ends K.leads (wanted_plan key now (Wanted.Allow request.now))
-        (at_seat desk.old (record { told = S.told signer.old; faults = S.faults signer.old; denials = S.denials signer.old }))
-        (at_seat desk.new (record { told = S.told signer.new; faults = S.faults signer.new; denials = S.denials signer.new })) result }
+        (at_seat desk.old (signer_seen S.told S.faults S.denials signer.old))
+        (at_seat desk.new (signer_seen S.told S.faults S.denials signer.new)) result }
 {
     match desk.call(DeskCall::Allow { key, now }) {
         DeskReply::Granted(grant) => sign_plain(alloc, request, grant, desk, signer),
@@ -184,10 +190,11 @@ fn sign_plain<K: DeskCalls, S: Signer>(
     requires settles { MaySettle (λ c. K.allows desk.old c) (DeskReply.Granted grant) }
     ensures ready { K.ready desk.new }
     ensures settles { CanSettle K.allows desk.new result }
+    ensures status { HasStatus result }
     ensures granted { GrantedFor grant.key grant.message result }
     ensures ends { Ends K.leads (signs_plain request.now grant)
-        (at_seat desk.old (record { told = S.told signer.old; faults = S.faults signer.old; denials = S.denials signer.old }))
-        (at_seat desk.new (record { told = S.told signer.new; faults = S.faults signer.new; denials = S.denials signer.new })) result }
+        (at_seat desk.old (signer_seen S.told S.faults S.denials signer.old))
+        (at_seat desk.new (signer_seen S.told S.faults S.denials signer.new)) result }
 {
     let reply = signer.sign_plain(request, &grant);
     end_signing(alloc, reply, grant, desk)
@@ -199,6 +206,7 @@ fn end_signing<K: DeskCalls>(alloc: Global, reply: SignReply, grant: Grant, desk
     requires settles { MaySettle (λ c. K.allows desk.old c) (DeskReply.Granted grant) }
     ensures ready { K.ready desk.new }
     ensures settles { CanSettle K.allows desk.new result }
+    ensures status { HasStatus result }
     ensures granted { GrantedFor grant.key grant.message result }
     ensures ends { (s : SignerSeen) → Ends K.leads (answered grant reply) (at_seat desk.old s) (at_seat desk.new s) result }
 {
@@ -217,6 +225,7 @@ fn end_signed<K: DeskCalls>(alloc: Global, signature: &Sig, grant: Grant, desk: 
     requires settles { MaySettle (λ c. K.allows desk.old c) (DeskReply.Granted grant) }
     ensures ready { K.ready desk.new }
     ensures settles { CanSettle K.allows desk.new result }
+    ensures status { HasStatus result }
     ensures granted { GrantedFor grant.key grant.message result }
     ensures ends { (s : SignerSeen) → EndsWith K.leads (WithSignature signature.now grant) (at_seat desk.old s) (at_seat desk.new s) result }
 {

@@ -18,6 +18,9 @@ domain_type kind.Deposit = 3 ∷ 0 ∷ 0 ∷ 0 ∷ []
 domain_type kind.VoluntaryExit = 4 ∷ 0 ∷ 0 ∷ 0 ∷ []
 domain_type kind.SelectionProof = 5 ∷ 0 ∷ 0 ∷ 0 ∷ []
 domain_type kind.AggregateAndProof = 6 ∷ 0 ∷ 0 ∷ 0 ∷ []
+domain_type kind.SyncCommittee = 7 ∷ 0 ∷ 0 ∷ 0 ∷ []
+domain_type kind.SyncCommitteeSelectionProof = 8 ∷ 0 ∷ 0 ∷ 0 ∷ []
+domain_type kind.ContributionAndProof = 9 ∷ 0 ∷ 0 ∷ 0 ∷ []
 
 -- the fork's previous version before its epoch, and its current one from there on (`get_domain`)
 abbrev pub version_at : Fork → ℕ → List ℕ

@@ -2,7 +2,7 @@
 ghost use Rattle.std.specs.Prelude.{◌≡◌};
 ghost use Rattle.sign_roots.specs.Domains.{domain_type};
 
-/// What a signature is for (consensus-specs, "Domain types").
+/// What a signature is for (consensus-specs, "Domain types" of phase 0 and of Altair).
 #[derive(Clone, Copy, PartialEq, Eq, Debug)]
 pub enum DomainKind {
     /// A block, or its header.
@@ -20,6 +20,12 @@ pub enum DomainKind {
     SelectionProof,
     /// An aggregate, with its aggregator and the proof of its choice.
     AggregateAndProof,
+    /// The root of a block that a member of a sync committee votes for.
+    SyncCommittee,
+    /// The slot and the subcommittee that an aggregator of a sync committee is chosen for.
+    SyncCommitteeSelectionProof,
+    /// The contribution of a sync subcommittee, with its aggregator and the proof of its choice.
+    ContributionAndProof,
 }
 
 impl DomainKind {
@@ -35,6 +41,9 @@ impl DomainKind {
             DomainKind::VoluntaryExit => [4, 0, 0, 0],
             DomainKind::SelectionProof => [5, 0, 0, 0],
             DomainKind::AggregateAndProof => [6, 0, 0, 0],
+            DomainKind::SyncCommittee => [7, 0, 0, 0],
+            DomainKind::SyncCommitteeSelectionProof => [8, 0, 0, 0],
+            DomainKind::ContributionAndProof => [9, 0, 0, 0],
         }
     }
 }

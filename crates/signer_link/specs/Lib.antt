@@ -4,3 +4,4 @@ pub mod Keeping
 pub mod Plain
 pub mod InMemory
 pub mod Objects
+pub mod Versions

@@ -4,6 +4,8 @@ use Rattle.phase0_types.specs.Roots.{root_of}
 use Rattle.phase0_types.specs.Shapes.{uint64}
 use Rattle.phase0_types.specs.Containers.{voluntary_exit}
 use Rattle.phase0_blocks.specs.Operations.{voluntary_exit_value}
+use Rattle.altair_types.specs.Containers.{sync_aggregator_selection_data, contribution_and_proof}
+use Rattle.altair_types.specs.SyncCommittees.{sync_aggregator_selection_data_value, contribution_and_proof_value}
 use Rattle.sign_roots.specs.Domains.{domain_of}
 use Rattle.sign_roots.specs.SigningRoots.{signing_root_of, slots_per_epoch}
 use Rattle.sign_roots.specs.declared.kind.DomainKind.{DomainKind}
@@ -17,18 +19,27 @@ abbrev pub plain_kind : PlainObject → DomainKind
 plain_kind (object.RandaoReveal epoch) = kind.Randao
 plain_kind (object.AggregationSlot slot) = kind.SelectionProof
 plain_kind (object.VoluntaryExit exit) = kind.VoluntaryExit
+plain_kind (object.SyncCommitteeMessage slot block) = kind.SyncCommittee
+plain_kind (object.SyncCommitteeSelectionProof choice) = kind.SyncCommitteeSelectionProof
+plain_kind (object.SyncCommitteeContributionAndProof given) = kind.ContributionAndProof
 
 -- the epoch of the domain
 abbrev pub plain_epoch : PlainObject → ℕ
 plain_epoch (object.RandaoReveal epoch) = epoch
 plain_epoch (object.AggregationSlot slot) = slot / slots_per_epoch
 plain_epoch (object.VoluntaryExit exit) = exit.epoch
+plain_epoch (object.SyncCommitteeMessage slot block) = slot / slots_per_epoch
+plain_epoch (object.SyncCommitteeSelectionProof choice) = choice.slot / slots_per_epoch
+plain_epoch (object.SyncCommitteeContributionAndProof given) = given.contribution.slot / slots_per_epoch
 
--- the object's own root
+-- the object's own root; of a sync committee's vote for a block, the block's
 abbrev pub plain_object_root : PlainObject → List ℕ
 plain_object_root (object.RandaoReveal epoch) = root_of uint64 epoch
 plain_object_root (object.AggregationSlot slot) = root_of uint64 slot
 plain_object_root (object.VoluntaryExit exit) = root_of voluntary_exit (voluntary_exit_value exit)
+plain_object_root (object.SyncCommitteeMessage slot block) = block.0
+plain_object_root (object.SyncCommitteeSelectionProof choice) = root_of sync_aggregator_selection_data (sync_aggregator_selection_data_value choice)
+plain_object_root (object.SyncCommitteeContributionAndProof given) = root_of contribution_and_proof (contribution_and_proof_value given)
 
 -- the domain (consensus-specs, `get_domain`)
 abbrev pub plain_domain : PlainRequest → List ℕ

@@ -18,7 +18,7 @@ use Rattle.signer_link.specs.declared.reply.Told.TheVariants as told
 
 -- a whole block: the one object whose copy takes memory
 abbrev pub is_block : SignObject → Bool
-is_block (made_of.Header header) = false
+is_block (made_of.Header version header) = false
 is_block (made_of.Block block) = true
 is_block (made_of.Attestation details) = false
 

@@ -7,6 +7,7 @@ mod mem_signer;
 mod reply;
 mod request;
 mod signer;
+mod version;
 
 pub use laws::plain_law;
 pub use mem_signer::MemSigner;
@@ -15,3 +16,4 @@ pub use request::{
     ImportCall, PlainCall, PlainObject, PlainRequest, SignCall, SignObject, SignRequest,
 };
 pub use signer::Signer;
+pub use version::BlockVersion;

@@ -3,6 +3,8 @@ ghost use Rattle.std.specs.Prelude.{◌≡◌, true, IfOk, OnErr};
 ghost use Rattle.signer_link.specs.Signing.{has_block, is_block};
 ghost use Rattle.signer_link.specs.Plain.{plain_domain, plain_epoch, plain_kind, plain_object_root, plain_root};
 
+use crate::version::BlockVersion;
+use altair_types::{ContributionAndProof, SyncAggregatorSelectionData};
 use block_copies::block_copy;
 use edge_kit::{Items, PubKey, Root};
 use phase0_blocks::{BeaconBlock, VoluntaryExit};
@@ -18,8 +20,11 @@ const SLOTS_PER_EPOCH: u64 = 32;
 /// `attestation`).
 #[derive(Drop, Debug)]
 pub enum SignObject {
-    /// The header of a block.
-    Header(BeaconBlockHeader),
+    /// The header of a block, and the version that the block is of.
+    Header {
+        version: BlockVersion,
+        header: BeaconBlockHeader,
+    },
     /// A whole block.
     Block(BeaconBlock),
     /// The data of a vote.
@@ -33,7 +38,10 @@ impl SignObject {
         ensures memory { OnErr result (is_block self.now ≡ true) }
     {
         match self {
-            SignObject::Header(header) => Ok(SignObject::Header(*header)),
+            SignObject::Header { version, header } => Ok(SignObject::Header {
+                version: *version,
+                header: *header,
+            }),
             SignObject::Block(block) => Ok(SignObject::Block(block_copy(alloc, block)?)),
             SignObject::Attestation(details) => Ok(SignObject::Attestation(*details)),
         }
@@ -79,6 +87,13 @@ pub enum PlainObject {
     AggregationSlot { slot: u64 },
     /// An exit (`VOLUNTARY_EXIT`).
     VoluntaryExit(VoluntaryExit),
+    /// The block that a member of a sync committee votes for at a slot (`SYNC_COMMITTEE_MESSAGE`).
+    SyncCommitteeMessage { slot: u64, beacon_block_root: Root },
+    /// The slot and the subcommittee that an aggregator of a sync committee is chosen for
+    /// (`SYNC_COMMITTEE_SELECTION_PROOF`).
+    SyncCommitteeSelectionProof(SyncAggregatorSelectionData),
+    /// The contribution of a sync subcommittee (`SYNC_COMMITTEE_CONTRIBUTION_AND_PROOF`).
+    SyncCommitteeContributionAndProof(ContributionAndProof),
 }
 
 impl PlainObject {
@@ -90,6 +105,9 @@ impl PlainObject {
             PlainObject::RandaoReveal { .. } => DomainKind::Randao,
             PlainObject::AggregationSlot { .. } => DomainKind::SelectionProof,
             PlainObject::VoluntaryExit(_) => DomainKind::VoluntaryExit,
+            PlainObject::SyncCommitteeMessage { .. } => DomainKind::SyncCommittee,
+            PlainObject::SyncCommitteeSelectionProof(_) => DomainKind::SyncCommitteeSelectionProof,
+            PlainObject::SyncCommitteeContributionAndProof(_) => DomainKind::ContributionAndProof,
         }
     }
 
@@ -101,6 +119,11 @@ impl PlainObject {
             PlainObject::RandaoReveal { epoch } => *epoch,
             PlainObject::AggregationSlot { slot } => *slot / SLOTS_PER_EPOCH,
             PlainObject::VoluntaryExit(exit) => exit.epoch,
+            PlainObject::SyncCommitteeMessage { slot, .. } => *slot / SLOTS_PER_EPOCH,
+            PlainObject::SyncCommitteeSelectionProof(choice) => choice.slot / SLOTS_PER_EPOCH,
+            PlainObject::SyncCommitteeContributionAndProof(given) => {
+                given.contribution.slot / SLOTS_PER_EPOCH
+            }
         }
     }
 
@@ -113,6 +136,12 @@ impl PlainObject {
             PlainObject::RandaoReveal { epoch } => epoch.root(),
             PlainObject::AggregationSlot { slot } => slot.root(),
             PlainObject::VoluntaryExit(exit) => exit.root(),
+            PlainObject::SyncCommitteeMessage {
+                beacon_block_root,
+                ..
+            } => *beacon_block_root,
+            PlainObject::SyncCommitteeSelectionProof(choice) => choice.root(),
+            PlainObject::SyncCommitteeContributionAndProof(given) => given.root(),
         }
     }
 }
@@ -130,7 +159,8 @@ pub struct PlainRequest {
 
 impl PlainRequest {
     /// The root that is to be signed: the object's, under the domain of its kind and epoch
-    /// (consensus-specs, `get_epoch_signature`, `get_slot_signature`, `VoluntaryExit`).
+    /// (consensus-specs, `get_epoch_signature`, `get_slot_signature`, `VoluntaryExit`, `get_sync_committee_message`,
+    /// `get_sync_committee_selection_proof`, `get_contribution_and_proof_signature`).
     pub fn signing_root(&self) -> Root
         ensures { result.0 ≡ plain_root self.now }
     {

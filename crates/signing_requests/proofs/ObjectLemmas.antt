@@ -1,20 +1,24 @@
 -- Objects by their values, and the roots that are signed for them.
-use Rattle.std.proofs.Common.{◌≡◌, Result, Ok, Err, refl, sym, ap}
+use Rattle.std.proofs.Common.{◌≡◌, ◌/◌, Result, Ok, Err, refl, sym, ap}
 use Rattle.phase0_types.specs.Containers.{fork, voluntary_exit}
 use Rattle.phase0_types.specs.Forks.{fork_value}
 use Rattle.phase0_types.specs.declared.fault.ReadFault.{ReadFault as ShapeFault}
 use Rattle.phase0_types.specs.declared.fork.Fork.{Fork}
 use Rattle.phase0_blocks.specs.Operations.{voluntary_exit_value}
 use Rattle.phase0_blocks.specs.declared.operation.VoluntaryExit.{VoluntaryExit}
+use Rattle.altair_types.specs.Containers.{sync_aggregator_selection_data, sync_committee_contribution, contribution_and_proof}
+use Rattle.altair_types.specs.SyncCommittees.{sync_aggregator_selection_data_value, sync_committee_contribution_value, contribution_and_proof_value}
+use Rattle.altair_types.specs.declared.sync_committee.SyncAggregatorSelectionData.{SyncAggregatorSelectionData}
+use Rattle.altair_types.specs.declared.sync_committee.ContributionAndProof.{ContributionAndProof}
 use Rattle.sign_roots.specs.Domains.{domain_of}
-use Rattle.sign_roots.specs.SigningRoots.{signing_root_of}
+use Rattle.sign_roots.specs.SigningRoots.{signing_root_of, slots_per_epoch}
 use Rattle.sign_roots.specs.declared.domains.Domains.{Domains}
 use Rattle.sign_roots.specs.declared.kind.DomainKind.TheVariants as kind
 use Rattle.signer_link.specs.Plain.{plain_root, plain_object_root}
 use Rattle.signer_link.specs.declared.request.PlainObject.{PlainObject}
 use Rattle.signer_link.specs.declared.request.PlainObject.TheVariants as plain
 use Rattle.signing_requests.specs.Members.{inside}
-use Rattle.signing_requests.specs.Objects.{exit_epoch, fork_from, said_plain, signed_root}
+use Rattle.signing_requests.specs.Objects.{choice_slot, contribution_slot, exit_epoch, fork_from, said_plain, signed_root}
 use Rattle.signing_requests.specs.Requests.{shaped}
 use Rattle.signing_requests.specs.declared.member.SigningMember.{SigningMember}
 use Rattle.signing_requests.specs.declared.refusal.SigningRefusal.TheVariants as refusal
@@ -27,12 +31,25 @@ pub exit_epoch-value : (e : VoluntaryExit) → exit_epoch (voluntary_exit_value 
 unfolding exit_epoch voluntary_exit_value voluntary_exit
 exit_epoch-value e = refl
 
+pub choice_slot-value : (c : SyncAggregatorSelectionData) → choice_slot (sync_aggregator_selection_data_value c) ≡ c.slot
+unfolding choice_slot sync_aggregator_selection_data_value sync_aggregator_selection_data
+choice_slot-value c = refl
+
+pub contribution_slot-value : (c : ContributionAndProof) → contribution_slot (contribution_and_proof_value c) ≡ c.contribution.slot
+unfolding contribution_slot contribution_and_proof_value sync_committee_contribution_value contribution_and_proof sync_committee_contribution
+contribution_slot-value c = refl
+
 -- what is no block and no vote has one root, by its value and by the request for it
 pub plain_root-said : (domains : Domains) (p : PlainObject) → plain_root (record { fork = domains.fork; genesis = domains.genesis; object = p }) ≡ signed_root domains (said_plain p)
 plain_root-said domains (plain.RandaoReveal epoch) = refl
 plain_root-said domains (plain.AggregationSlot slot) = refl
 plain_root-said domains (plain.VoluntaryExit e) =
     ap (λ n. signing_root_of (plain_object_root (plain.VoluntaryExit e)) (domain_of domains kind.VoluntaryExit n)) (sym (exit_epoch-value e))
+plain_root-said domains (plain.SyncCommitteeMessage slot block) = refl
+plain_root-said domains (plain.SyncCommitteeSelectionProof c) =
+    ap (λ n. signing_root_of (plain_object_root (plain.SyncCommitteeSelectionProof c)) (domain_of domains kind.SyncCommitteeSelectionProof (n / slots_per_epoch))) (sym (choice_slot-value c))
+plain_root-said domains (plain.SyncCommitteeContributionAndProof c) =
+    ap (λ n. signing_root_of (plain_object_root (plain.SyncCommitteeContributionAndProof c)) (domain_of domains kind.ContributionAndProof (n / slots_per_epoch))) (sym (contribution_slot-value c))
 
 -- what was read of a container is its value, and what of it cannot be read the member that is named
 pub shaped-read : {A B : Type 0} (whole : SigningMember) (value : A → B) (v : A) (read : Result A ShapeFault) → Ok v ≡ read → shaped whole value read ≡ Ok (value v)

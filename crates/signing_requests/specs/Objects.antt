@@ -10,12 +10,16 @@ use Rattle.phase0_types.specs.Headers.{beacon_block_header_value}
 use Rattle.phase0_types.specs.declared.fork.Fork.{Fork}
 use Rattle.phase0_blocks.specs.Blocks.{beacon_block_value}
 use Rattle.phase0_blocks.specs.Operations.{voluntary_exit_value}
+use Rattle.altair_types.specs.Containers.{sync_aggregator_selection_data, sync_committee_contribution, contribution_and_proof}
+use Rattle.altair_types.specs.SyncCommittees.{sync_aggregator_selection_data_value, contribution_and_proof_value}
+use Rattle.edge_kit.specs.declared.bytes.Root.{Root}
 use Rattle.sign_roots.specs.Domains.{domain_of}
 use Rattle.sign_roots.specs.SigningRoots.{signing_root_of, slots_per_epoch}
 use Rattle.sign_roots.specs.declared.domains.Domains.{Domains}
 use Rattle.sign_roots.specs.declared.kind.DomainKind.{DomainKind}
 use Rattle.sign_roots.specs.declared.kind.DomainKind.TheVariants as kind
 use Rattle.signer_link.specs.Objects.{root, block_message, vote_message}
+use Rattle.signer_link.specs.declared.version.BlockVersion.{BlockVersion}
 use Rattle.signer_link.specs.declared.request.SignObject.{SignObject}
 use Rattle.signer_link.specs.declared.request.SignObject.TheVariants as made_of
 use Rattle.signer_link.specs.declared.request.SignRequest.{SignRequest}
@@ -29,20 +33,26 @@ use Rattle.signing_requests.specs.declared.request.Wanted.TheVariants as wanted
 -- what is to be signed, by its value
 pub data ObjectValue : Type 0 where
   block_is : ValueOf beacon_block → ObjectValue
-  header_is : ValueOf beacon_block_header → ObjectValue
+  header_is : BlockVersion → ValueOf beacon_block_header → ObjectValue
   vote_is : ValueOf attestation_data → ObjectValue
   reveal_is : ℕ → ObjectValue
   slot_is : ℕ → ObjectValue
   exit_is : ValueOf voluntary_exit → ObjectValue
+  sync_message_is : Root → ℕ → ObjectValue
+  sync_choice_is : ValueOf sync_aggregator_selection_data → ObjectValue
+  contribution_is : ValueOf contribution_and_proof → ObjectValue
 
 abbrev pub said_plain : PlainObject → ObjectValue
 said_plain (plain.RandaoReveal epoch) = reveal_is epoch
 said_plain (plain.AggregationSlot slot) = slot_is slot
 said_plain (plain.VoluntaryExit exit) = exit_is (voluntary_exit_value exit)
+said_plain (plain.SyncCommitteeMessage slot block) = sync_message_is block slot
+said_plain (plain.SyncCommitteeSelectionProof choice) = sync_choice_is (sync_aggregator_selection_data_value choice)
+said_plain (plain.SyncCommitteeContributionAndProof given) = contribution_is (contribution_and_proof_value given)
 
 abbrev pub said : SigningObject → ObjectValue
 said (object.Block block) = block_is (beacon_block_value block)
-said (object.Header header) = header_is (beacon_block_header_value header)
+said (object.Header version header) = header_is version (beacon_block_header_value header)
 said (object.Vote details) = vote_is (attestation_data_value details)
 said (object.Plain p) = said_plain p
 
@@ -70,32 +80,50 @@ unfoldable pub exit_epoch : ValueOf voluntary_exit → ℕ
 unfolding voluntary_exit
 exit_epoch v = v.0
 
--- the object's own root
+-- the slot that an aggregator of a sync committee is chosen for, and the slot of a contribution
+unfoldable pub choice_slot : ValueOf sync_aggregator_selection_data → ℕ
+unfolding sync_aggregator_selection_data
+choice_slot v = v.0
+
+unfoldable pub contribution_slot : ValueOf contribution_and_proof → ℕ
+unfolding contribution_and_proof sync_committee_contribution
+contribution_slot v = v.1.0.0
+
+-- the object's own root; of a sync committee's vote for a block, the block's
 abbrev pub object_root : ObjectValue → List ℕ
 object_root (block_is v) = root_of beacon_block v
-object_root (header_is v) = root_of beacon_block_header v
+object_root (header_is version v) = root_of beacon_block_header v
 object_root (vote_is v) = root_of attestation_data v
 object_root (reveal_is epoch) = root_of uint64 epoch
 object_root (slot_is slot) = root_of uint64 slot
 object_root (exit_is v) = root_of voluntary_exit v
+object_root (sync_message_is block slot) = block.0
+object_root (sync_choice_is v) = root_of sync_aggregator_selection_data v
+object_root (contribution_is v) = root_of contribution_and_proof v
 
 -- the kind of its domain (consensus-specs, "Domain types")
 abbrev pub kind_of : ObjectValue → DomainKind
 kind_of (block_is v) = kind.BeaconProposer
-kind_of (header_is v) = kind.BeaconProposer
+kind_of (header_is version v) = kind.BeaconProposer
 kind_of (vote_is v) = kind.BeaconAttester
 kind_of (reveal_is epoch) = kind.Randao
 kind_of (slot_is slot) = kind.SelectionProof
 kind_of (exit_is v) = kind.VoluntaryExit
+kind_of (sync_message_is block slot) = kind.SyncCommittee
+kind_of (sync_choice_is v) = kind.SyncCommitteeSelectionProof
+kind_of (contribution_is v) = kind.ContributionAndProof
 
 -- the epoch of its domain
 abbrev pub epoch_of : ObjectValue → ℕ
 epoch_of (block_is v) = block_slot v / slots_per_epoch
-epoch_of (header_is v) = header_slot v / slots_per_epoch
+epoch_of (header_is version v) = header_slot v / slots_per_epoch
 epoch_of (vote_is v) = target_epoch v
 epoch_of (reveal_is epoch) = epoch
 epoch_of (slot_is slot) = slot / slots_per_epoch
 epoch_of (exit_is v) = exit_epoch v
+epoch_of (sync_message_is block slot) = slot / slots_per_epoch
+epoch_of (sync_choice_is v) = choice_slot v / slots_per_epoch
+epoch_of (contribution_is v) = contribution_slot v / slots_per_epoch
 
 -- the root that is signed: the object's, under the domain of its kind and epoch
 abbrev pub signed_root : Domains → ObjectValue → List ℕ
@@ -111,8 +139,8 @@ with_object domains o = record { fork = domains.fork; genesis = domains.genesis;
 abbrev pub wanted_of : Domains → SigningObject → Wanted
 wanted_of domains (object.Block block) =
     wanted.Propose (message.Block block.slot (root (signed_root domains (said (object.Block block))))) (with_object domains (made_of.Block block))
-wanted_of domains (object.Header header) =
-    wanted.Propose (block_message domains header) (with_object domains (made_of.Header header))
+wanted_of domains (object.Header version header) =
+    wanted.Propose (block_message domains header) (with_object domains (made_of.Header version header))
 wanted_of domains (object.Vote details) =
     wanted.Propose (vote_message domains details) (with_object domains (made_of.Attestation details))
 wanted_of domains (object.Plain p) = wanted.Allow (record { fork = domains.fork; genesis = domains.genesis; object = p })

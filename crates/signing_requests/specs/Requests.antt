@@ -1,5 +1,5 @@
 -- The request for a signature that a body is, or the first check that it fails (Web3Signer API, `eth2/sign`).
-use Rattle.std.specs.Prelude.{ℕ, Bool, false, not, List, Option, Some, None, option_map, option_and_then, is_some, ok_or, Result, Ok, Err, if◌then◌else◌, codes}
+use Rattle.std.specs.Prelude.{ℕ, Bool, false, not, List, [], unwrap_or, Option, Some, None, option_map, option_and_then, is_some, ok_or, Result, Ok, Err, if◌then◌else◌, codes}
 use Rattle.std.specs.Str.{bytes_eq}
 use Rattle.edge_kit.specs.Texts.{hex_bytes}
 use Rattle.edge_kit.specs.declared.bytes.PubKey.{PubKey}
@@ -12,11 +12,14 @@ use Rattle.phase0_types.specs.Containers.{fork, attestation_data, beacon_block, 
 use Rattle.phase0_types.specs.declared.fault.ReadFault.{ReadFault as ShapeFault}
 use Rattle.phase0_types.specs.declared.fork.Fork.{Fork}
 use Rattle.phase0_types.specs.declared.member.Member.TheVariants as shape
+use Rattle.altair_types.specs.Containers.{sync_aggregator_selection_data, contribution_and_proof}
 use Rattle.sign_roots.specs.declared.domains.Domains.{Domains}
 use Rattle.signer_link.specs.Objects.{root}
+use Rattle.signer_link.specs.Versions.{version_of}
+use Rattle.signer_link.specs.declared.version.BlockVersion.{BlockVersion}
 use Rattle.signing_requests.specs.Members.{inside}
 use Rattle.signing_requests.specs.Steps.{◌>>=◌}
-use Rattle.signing_requests.specs.Objects.{ObjectValue, block_is, header_is, vote_is, reveal_is, slot_is, exit_is, said, fork_from, signed_root}
+use Rattle.signing_requests.specs.Objects.{ObjectValue, block_is, header_is, vote_is, reveal_is, slot_is, exit_is, sync_message_is, sync_choice_is, contribution_is, said, fork_from, signed_root}
 use Rattle.signing_requests.specs.declared.member.SigningMember.{SigningMember}
 use Rattle.signing_requests.specs.declared.member.SigningMember.TheVariants as member
 use Rattle.signing_requests.specs.declared.refusal.SigningRefusal.{SigningRefusal}
@@ -58,6 +61,9 @@ type_named name = if bytes_eq name (codes "ATTESTATION") then Some type.Attestat
     else if bytes_eq name (codes "RANDAO_REVEAL") then Some type.RandaoReveal
     else if bytes_eq name (codes "AGGREGATION_SLOT") then Some type.AggregationSlot
     else if bytes_eq name (codes "VOLUNTARY_EXIT") then Some type.VoluntaryExit
+    else if bytes_eq name (codes "SYNC_COMMITTEE_MESSAGE") then Some type.SyncCommitteeMessage
+    else if bytes_eq name (codes "SYNC_COMMITTEE_SELECTION_PROOF") then Some type.SyncCommitteeSelectionProof
+    else if bytes_eq name (codes "SYNC_COMMITTEE_CONTRIBUTION_AND_PROOF") then Some type.SyncCommitteeContributionAndProof
     else None
 
 abbrev pub type_at : Data → Result SigningType SigningRefusal
@@ -97,10 +103,14 @@ whole_block b = do
   if bytes_eq version (codes "PHASE0") then found member.Block (get (codes "block") b) >>= (λ w. shaped member.Block block_is (read_at beacon_block None w))
       else Err (refusal.BadMember member.Version)
 
--- where the header is there, neither the version nor a whole block is looked at: it has the same root in each fork
+-- the version that a block names next to its header; the newest where there is none
+abbrev pub version_in : Data → BlockVersion
+version_in b = version_of (unwrap_or (text_in (codes "version") b) [])
+
+-- where the header is there a whole block is not looked at, nor is any version refused: a header has the same root in each fork
 abbrev pub block_by : Data → Option Data → Result ObjectValue SigningRefusal
 block_by b None = whole_block b
-block_by b (Some h) = shaped member.BlockHeader header_is (read_at beacon_block_header None h)
+block_by b (Some h) = shaped member.BlockHeader (header_is (version_in b)) (read_at beacon_block_header None h)
 
 abbrev pub block_in : Data → Result ObjectValue SigningRefusal
 block_in b = block_by b (get (codes "block_header") b)
@@ -123,12 +133,31 @@ slot_at d = object_in member.AggregationSlot (get (codes "aggregation_slot") d) 
 abbrev pub exit_at : Data → Result ObjectValue SigningRefusal
 exit_at d = found member.VoluntaryExit (get (codes "voluntary_exit") d) >>= (λ e. shaped member.VoluntaryExit exit_is (read_at voluntary_exit None e))
 
+abbrev pub sync_message_in : Data → Result ObjectValue SigningRefusal
+sync_message_in m = do
+  block ← found (member.Inside shape.BeaconBlockRoot) (option_map root (bytes_in 32 (codes "beacon_block_root") m))
+  found (member.Inside shape.Slot) (option_map (sync_message_is block) (number_in (codes "slot") m))
+
+abbrev pub sync_message_at : Data → Result ObjectValue SigningRefusal
+sync_message_at d = object_in member.SyncCommitteeMessage (get (codes "sync_committee_message") d) >>= sync_message_in
+
+abbrev pub sync_choice_at : Data → Result ObjectValue SigningRefusal
+sync_choice_at d = found member.SyncAggregatorSelectionData (get (codes "sync_aggregator_selection_data") d)
+    >>= (λ c. shaped member.SyncAggregatorSelectionData sync_choice_is (read_at sync_aggregator_selection_data None c))
+
+abbrev pub contribution_at : Data → Result ObjectValue SigningRefusal
+contribution_at d = found member.ContributionAndProof (get (codes "contribution_and_proof") d)
+    >>= (λ c. shaped member.ContributionAndProof contribution_is (read_at contribution_and_proof None c))
+
 abbrev pub said_by : SigningType → Data → Result ObjectValue SigningRefusal
 said_by type.Attestation d = vote_at d
 said_by type.BlockV2 d = block_at d
 said_by type.RandaoReveal d = reveal_at d
 said_by type.AggregationSlot d = slot_at d
 said_by type.VoluntaryExit d = exit_at d
+said_by type.SyncCommitteeMessage d = sync_message_at d
+said_by type.SyncCommitteeSelectionProof d = sync_choice_at d
+said_by type.SyncCommitteeContributionAndProof d = contribution_at d
 
 -- ---- the root that the request names
 

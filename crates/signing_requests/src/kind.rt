@@ -21,6 +21,12 @@ pub(crate) enum SigningType {
     AggregationSlot,
     /// An exit.
     VoluntaryExit,
+    /// The vote of a sync committee's member for a block.
+    SyncCommitteeMessage,
+    /// The slot and the subcommittee that an aggregator of a sync committee is chosen for.
+    SyncCommitteeSelectionProof,
+    /// The contribution of a sync subcommittee.
+    SyncCommitteeContributionAndProof,
 }
 
 /// The type that a name means, if it is one.
@@ -33,6 +39,11 @@ fn type_named(name: &str) -> Option<SigningType>
         "RANDAO_REVEAL" => Some(SigningType::RandaoReveal),
         "AGGREGATION_SLOT" => Some(SigningType::AggregationSlot),
         "VOLUNTARY_EXIT" => Some(SigningType::VoluntaryExit),
+        "SYNC_COMMITTEE_MESSAGE" => Some(SigningType::SyncCommitteeMessage),
+        "SYNC_COMMITTEE_SELECTION_PROOF" => Some(SigningType::SyncCommitteeSelectionProof),
+        "SYNC_COMMITTEE_CONTRIBUTION_AND_PROOF" => {
+            Some(SigningType::SyncCommitteeContributionAndProof)
+        }
         _ => None,
     }
 }

@@ -11,8 +11,9 @@ pub enum SigningMember {
     Identifier,
     /// The body, which is a JSON object.
     Body,
-    /// What kind of thing is to be signed: one of `ATTESTATION`, `BLOCK_V2`, `RANDAO_REVEAL`, `AGGREGATION_SLOT` and
-    /// `VOLUNTARY_EXIT`.
+    /// What kind of thing is to be signed: one of `ATTESTATION`, `BLOCK_V2`, `RANDAO_REVEAL`, `AGGREGATION_SLOT`,
+    /// `VOLUNTARY_EXIT`, `SYNC_COMMITTEE_MESSAGE`, `SYNC_COMMITTEE_SELECTION_PROOF` and
+    /// `SYNC_COMMITTEE_CONTRIBUTION_AND_PROOF`.
     Type,
     /// The object with the fork and the chain.
     ForkInfo,
@@ -24,7 +25,7 @@ pub enum SigningMember {
     Attestation,
     /// The object with the block or its header.
     BeaconBlock,
-    /// The fork whose container the block is: `PHASE0`.
+    /// The fork whose container a whole block is: `PHASE0`. Next to a header every name is taken.
     Version,
     /// The whole block (consensus-specs, `BeaconBlock`).
     Block,
@@ -36,6 +37,13 @@ pub enum SigningMember {
     AggregationSlot,
     /// The exit (consensus-specs, `VoluntaryExit`).
     VoluntaryExit,
+    /// The object with the block that a sync committee's member votes for, and the slot.
+    SyncCommitteeMessage,
+    /// The slot and the subcommittee that an aggregator of a sync committee is chosen for (consensus-specs,
+    /// `SyncAggregatorSelectionData`).
+    SyncAggregatorSelectionData,
+    /// The contribution of a sync subcommittee (consensus-specs, `ContributionAndProof`).
+    ContributionAndProof,
     /// A member inside one of the containers.
     Inside(phase0_types::Member),
     /// The root that is to be signed, 32 bytes.
@@ -64,6 +72,9 @@ impl SigningMember {
             SigningMember::RandaoReveal => "randao_reveal",
             SigningMember::AggregationSlot => "aggregation_slot",
             SigningMember::VoluntaryExit => "voluntary_exit",
+            SigningMember::SyncCommitteeMessage => "sync_committee_message",
+            SigningMember::SyncAggregatorSelectionData => "sync_aggregator_selection_data",
+            SigningMember::ContributionAndProof => "contribution_and_proof",
             SigningMember::Inside(member) => member.name(),
             SigningMember::SigningRoot => "signingRoot",
             SigningMember::SigningRootInSnakeCase => "signing_root",

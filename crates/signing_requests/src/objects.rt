@@ -3,9 +3,10 @@ ghost use Rattle.std.specs.Prelude.{◌≡◌};
 ghost use Rattle.serde_json.specs.View.{view};
 ghost use Rattle.phase0_types.specs.Reading.{read_at};
 ghost use Rattle.phase0_types.specs.Containers.{attestation_data, beacon_block, beacon_block_header, voluntary_exit};
+ghost use Rattle.altair_types.specs.Containers.{contribution_and_proof, sync_aggregator_selection_data};
 ghost use Rattle.std.specs.Prelude.{None};
-ghost use Rattle.signing_requests.specs.Objects.{said, block_is, exit_is, header_is, vote_is};
-ghost use Rattle.signing_requests.specs.Requests.{block_at, block_in, exit_at, reveal_at, reveal_in, said_by, shaped, slot_at, slot_in, vote_at, whole_block};
+ghost use Rattle.signing_requests.specs.Objects.{said, block_is, contribution_is, exit_is, header_is, sync_choice_is, vote_is};
+ghost use Rattle.signing_requests.specs.Requests.{block_at, block_in, contribution_at, exit_at, reveal_at, reveal_in, said_by, shaped, slot_at, slot_in, sync_choice_at, sync_message_at, sync_message_in, version_in, vote_at, whole_block};
 ghost use Rattle.signing_requests.specs.Steps.{GivesAs, ReadsAs};
 
 use crate::kind::SigningType;
@@ -13,11 +14,13 @@ use crate::member::{SigningMember, member_of};
 use crate::refusal::{SigningRefusal, SigningStop};
 use crate::request::SigningObject;
 use crate::texts::object_of;
-use json_members::{number_in, text_in};
+use altair_types::{ContributionAndProof, SyncAggregatorSelectionData};
+use edge_kit::Root;
+use json_members::{bytes_in, number_in, text_in};
 use phase0_blocks::{BeaconBlock, VoluntaryExit};
 use phase0_types::{AttestationData, BeaconBlockHeader, Shaped};
 use serde_json::Value;
-use signer_link::PlainObject;
+use signer_link::{BlockVersion, PlainObject};
 use std::alloc::Global;
 
 /// What is to be signed, of this type.
@@ -34,6 +37,9 @@ pub(crate) fn object_in(
         SigningType::RandaoReveal => Ok(reveal_in(value)?),
         SigningType::AggregationSlot => Ok(slot_in(value)?),
         SigningType::VoluntaryExit => exit_in(alloc, value),
+        SigningType::SyncCommitteeMessage => Ok(sync_message_of(value)?),
+        SigningType::SyncCommitteeSelectionProof => sync_choice_in(alloc, value),
+        SigningType::SyncCommitteeContributionAndProof => contribution_in(alloc, value),
     }
 }
 
@@ -65,16 +71,27 @@ fn block_in(alloc: Global, value: &Value) -> Result<SigningObject, SigningStop>
 {
     let block = object_of(SigningMember::BeaconBlock, value.get("beacon_block"))?;
     match block.get("block_header") {
-        Some(header) => read_header(alloc, header),
+        Some(header) => read_header(alloc, version_of(block), header),
         None => whole_block(alloc, block),
     }
 }
 
-fn read_header(alloc: Global, json: &Value) -> Result<SigningObject, SigningStop>
-    ensures { GivesAs said result (shaped SigningMember.BlockHeader header_is (read_at beacon_block_header None (view json.now))) }
+/// The version that a block names next to its header; the newest where there is none.
+fn version_of(block: &Value) -> BlockVersion
+    ensures { result ≡ version_in (view block.now) }
+{
+    BlockVersion::of_name(text_in(block, "version").unwrap_or(""))
+}
+
+fn read_header(
+    alloc: Global,
+    version: BlockVersion,
+    json: &Value,
+) -> Result<SigningObject, SigningStop>
+    ensures { GivesAs said result (shaped SigningMember.BlockHeader (header_is version) (read_at beacon_block_header None (view json.now))) }
 {
     match BeaconBlockHeader::read_value(alloc, json)? {
-        Ok(header) => Ok(SigningObject::Header(header)),
+        Ok(header) => Ok(SigningObject::Header { version, header }),
         Err(fault) => Err(SigningStop::Refused(SigningRefusal::BadMember(member_of(
             SigningMember::BlockHeader,
             fault,
@@ -149,6 +166,93 @@ fn read_exit(alloc: Global, json: &Value) -> Result<SigningObject, SigningStop>
         Ok(exit) => Ok(SigningObject::Plain(PlainObject::VoluntaryExit(exit))),
         Err(fault) => Err(SigningStop::Refused(SigningRefusal::BadMember(member_of(
             SigningMember::VoluntaryExit,
+            fault,
+        )))),
+    }
+}
+
+/// The vote of a sync committee's member for a block.
+fn sync_message_of(value: &Value) -> Result<SigningObject, SigningRefusal>
+    ensures { ReadsAs said result (sync_message_at (view value.now)) }
+{
+    let message = object_of(
+        SigningMember::SyncCommitteeMessage,
+        value.get("sync_committee_message"),
+    )?;
+    read_sync_message(message)
+}
+
+fn read_sync_message(message: &Value) -> Result<SigningObject, SigningRefusal>
+    ensures { ReadsAs said result (sync_message_in (view message.now)) }
+{
+    let Some(block) = bytes_in::<32>(message, "beacon_block_root") else {
+        return Err(inside(phase0_types::Member::BeaconBlockRoot));
+    };
+    match number_in(message, "slot") {
+        Some(slot) => Ok(SigningObject::Plain(PlainObject::SyncCommitteeMessage {
+            slot,
+            beacon_block_root: Root(block),
+        })),
+        None => Err(inside(phase0_types::Member::Slot)),
+    }
+}
+
+/// The refusal of a member inside a container.
+fn inside(member: phase0_types::Member) -> SigningRefusal
+    ensures { result ≡ SigningRefusal.BadMember (SigningMember.Inside member) }
+{
+    SigningRefusal::BadMember(SigningMember::Inside(member))
+}
+
+/// The slot and the subcommittee that an aggregator of a sync committee is chosen for.
+fn sync_choice_in(alloc: Global, value: &Value) -> Result<SigningObject, SigningStop>
+    ensures { GivesAs said result (sync_choice_at (view value.now)) }
+{
+    match value.get("sync_aggregator_selection_data") {
+        Some(json) => read_sync_choice(alloc, json),
+        None => Err(SigningStop::Refused(SigningRefusal::BadMember(
+            SigningMember::SyncAggregatorSelectionData,
+        ))),
+    }
+}
+
+fn read_sync_choice(alloc: Global, json: &Value) -> Result<SigningObject, SigningStop>
+    ensures { GivesAs said result (shaped SigningMember.SyncAggregatorSelectionData sync_choice_is (read_at sync_aggregator_selection_data None (view json.now))) }
+{
+    match SyncAggregatorSelectionData::read_value(alloc, json)? {
+        Ok(choice) => {
+            let object = PlainObject::SyncCommitteeSelectionProof(choice);
+            Ok(SigningObject::Plain(object))
+        }
+        Err(fault) => Err(SigningStop::Refused(SigningRefusal::BadMember(member_of(
+            SigningMember::SyncAggregatorSelectionData,
+            fault,
+        )))),
+    }
+}
+
+/// The contribution of a sync subcommittee.
+fn contribution_in(alloc: Global, value: &Value) -> Result<SigningObject, SigningStop>
+    ensures { GivesAs said result (contribution_at (view value.now)) }
+{
+    match value.get("contribution_and_proof") {
+        Some(json) => read_contribution(alloc, json),
+        None => Err(SigningStop::Refused(SigningRefusal::BadMember(
+            SigningMember::ContributionAndProof,
+        ))),
+    }
+}
+
+fn read_contribution(alloc: Global, json: &Value) -> Result<SigningObject, SigningStop>
+    ensures { GivesAs said result (shaped SigningMember.ContributionAndProof contribution_is (read_at contribution_and_proof None (view json.now))) }
+{
+    match ContributionAndProof::read_value(alloc, json)? {
+        Ok(given) => {
+            let object = PlainObject::SyncCommitteeContributionAndProof(given);
+            Ok(SigningObject::Plain(object))
+        }
+        Err(fault) => Err(SigningStop::Refused(SigningRefusal::BadMember(member_of(
+            SigningMember::ContributionAndProof,
             fault,
         )))),
     }

@@ -25,8 +25,8 @@ use std::alloc::Global;
 /// that fails, in this order: that the identifier is a key; that the body is a JSON object in UTF-8, and of its members
 /// `type`, `fork_info` with `fork` and `genesis_validators_root`, the object of that type, and `signingRoot` or, where that is
 /// absent, `signing_root`, which both may be absent; that the request is of this chain; and that the root which it names is the
-/// one that is signed under the fork that it names. Of a `beacon_block` with a `block_header` neither `version` nor `block` is
-/// looked at. Members that the type does not name are ignored.
+/// one that is signed under the fork that it names. Of a `beacon_block` with a `block_header` no `block` is looked at, and every `version` is
+/// taken: one that is absent or unknown counts as the newest that is known. Members that the type does not name are ignored.
 ///
 /// # Errors
 ///

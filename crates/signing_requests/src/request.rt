@@ -6,7 +6,7 @@ use edge_kit::{PubKey, Root};
 use phase0_blocks::BeaconBlock;
 use phase0_types::{AttestationData, BeaconBlockHeader, Shaped};
 use sign_roots::{DomainKind, Domains, signing_root};
-use signer_link::{PlainObject, PlainRequest, SignObject, SignRequest};
+use signer_link::{BlockVersion, PlainObject, PlainRequest, SignObject, SignRequest};
 use slash_defs::Message;
 
 /// How many slots an epoch has (consensus-specs, `SLOTS_PER_EPOCH`).
@@ -17,8 +17,11 @@ const SLOTS_PER_EPOCH: u64 = 32;
 pub enum SigningObject {
     /// A whole block.
     Block(BeaconBlock),
-    /// A block by its header.
-    Header(BeaconBlockHeader),
+    /// A block by its header, and the version that it names.
+    Header {
+        version: BlockVersion,
+        header: BeaconBlockHeader,
+    },
     /// A vote.
     Vote(AttestationData),
     /// What is no block and no vote.
@@ -33,7 +36,7 @@ impl SigningObject {
     {
         match self {
             SigningObject::Block(block) => block_root(domains, block),
-            SigningObject::Header(header) => header_root(domains, header),
+            SigningObject::Header { version, header } => header_root(domains, *version, header),
             SigningObject::Vote(details) => vote_root(domains, details),
             SigningObject::Plain(object) => plain_root(domains, *object),
         }
@@ -51,8 +54,8 @@ fn block_root(domains: &Domains, block: &BeaconBlock) -> Root
 
 /// And for a header.
 #[tactic(auto, unfolding(crate::specs::Objects::header_slot, phase0_types::specs::Containers::beacon_block_header, phase0_types::specs::Headers::beacon_block_header_value))]
-fn header_root(domains: &Domains, header: &BeaconBlockHeader) -> Root
-    ensures { result.0 ≡ signed_root domains.now (said (SigningObject.Header header.now)) }
+fn header_root(domains: &Domains, version: BlockVersion, header: &BeaconBlockHeader) -> Root
+    ensures { result.0 ≡ signed_root domains.now (said (SigningObject.Header version header.now)) }
 {
     let domain = domains.domain(DomainKind::BeaconProposer, header.slot / SLOTS_PER_EPOCH);
     signing_root(header.root(), domain)
@@ -109,7 +112,9 @@ impl SigningRequest {
         let root = object.signing_root(&domains);
         match object {
             SigningObject::Block(block) => block_wanted(root, &domains, block),
-            SigningObject::Header(header) => header_wanted(root, &domains, header),
+            SigningObject::Header { version, header } => {
+                header_wanted(root, &domains, version, header)
+            }
             SigningObject::Vote(details) => vote_wanted(root, &domains, details),
             SigningObject::Plain(object) => Wanted::Allow(plain_request(&domains, object)),
         }
@@ -130,14 +135,19 @@ fn block_wanted(root: Root, domains: &Domains, block: BeaconBlock) -> Wanted
 
 /// And a header.
 #[tactic(auto, unfolding(sign_roots::specs::SigningRoots::block_root_of, crate::specs::Objects::header_slot, phase0_types::specs::Containers::beacon_block_header, phase0_types::specs::Headers::beacon_block_header_value))]
-fn header_wanted(root: Root, domains: &Domains, header: BeaconBlockHeader) -> Wanted
-    ensures { root.0 ≡ signed_root domains.now (said (SigningObject.Header header)) → result ≡ wanted_of domains.now (SigningObject.Header header) }
+fn header_wanted(
+    root: Root,
+    domains: &Domains,
+    version: BlockVersion,
+    header: BeaconBlockHeader,
+) -> Wanted
+    ensures { root.0 ≡ signed_root domains.now (said (SigningObject.Header version header)) → result ≡ wanted_of domains.now (SigningObject.Header version header) }
 {
     let slot = header.slot;
     proposal(
         Message::Block { slot, root },
         domains,
-        SignObject::Header(header),
+        SignObject::Header { version, header },
     )
 }
 

@@ -4,7 +4,6 @@ use Rattle.edge_kit.specs.declared.disk.Disks.{Disks}
 use Rattle.signer_link.specs.declared.reply.Told.{Told}
 use Rattle.node_calls.specs.declared.told.NodeCall.{NodeCall}
 use Rattle.node_fallback.specs.Seen.{seen_of}
-use Rattle.duty_plans.specs.Seats.{signer_seen}
 use Rattle.desk_machine.specs.declared.event.DeskEvent.{DeskEvent}
 use Rattle.program_end.specs.declared.status.Status.{Status}
 use Rattle.program_end.specs.declared.status.Status.TheVariants as status
@@ -15,6 +14,7 @@ use Rattle.journal_commands.specs.Views.{output_of}
 use Rattle.serve_run.specs.Clients.{Parts, lane_ends_seen}
 use Rattle.serve_run.specs.declared.lanes.LaneEnd.{LaneEnd}
 use Rattle.serve_run.specs.Ends.{ServeEnds}
+use Rattle.client_calls.specs.Seats.{signer_seen}
 
 -- what the parts of a client tell that are handed in and out; none of its nodes counts as syncing but by these flags
 abbrev pub parts_of : {S N R C O : Type 0} → (S → Option (List Told)) → (S → ℕ) → (S → ℕ) → (N → Option (List NodeCall)) → (N → ℕ) → (R → Option (List C)) → (R → Option (List C)) → (R → ℕ) → (O → Option (List ℕ)) → (O → ℕ)

@@ -12,6 +12,8 @@ use Rattle.phase0_blocks.specs.declared.block.BeaconBlock.{BeaconBlock}
 use Rattle.block_copies.proofs.PlainLemmas.{neither, write_plain}
 use Rattle.slash_defs.specs.declared.message.Message.{Message}
 use Rattle.web3_signer.specs.Web3.{sign_data, plain_data, versioned}
+use Rattle.altair_types.specs.Containers.{sync_aggregator_selection_data, sync_committee_contribution, contribution_and_proof}
+use Rattle.altair_types.specs.SyncCommittees.{sync_aggregator_selection_data_value, sync_committee_contribution_value, contribution_and_proof_value}
 use Rattle.signer_link.specs.declared.request.SignObject.TheVariants as made_of
 use Rattle.signer_link.specs.declared.request.SignObject.{SignObject}
 use Rattle.signer_link.specs.declared.request.SignRequest.{SignRequest}
@@ -20,7 +22,7 @@ use Rattle.signer_link.specs.declared.request.PlainObject.TheVariants as plain
 use Rattle.signer_link.specs.declared.request.PlainRequest.{PlainRequest}
 
 -- nor does a whole block
-block_plain : (block : BeaconBlock) → has_float (versioned (codes "block") (write beacon_block (beacon_block_value block))) ≡ false
+block_plain : (block : BeaconBlock) → has_float (versioned (codes "block") (codes "PHASE0") (write beacon_block (beacon_block_value block))) ≡ false
 block_plain block = neither (has_float (write beacon_block (beacon_block_value block))) false (write_plain beacon_block (beacon_block_value block)) refl
 
 pub sign_plain_numbers : (request : SignRequest) (m : Message) → has_float (sign_data request m) ≡ false
@@ -28,14 +30,17 @@ unfolding write fork fork_value attestation_data attestation_data_value checkpoi
 sign_plain_numbers request m = at request.object where
   at : (object : Option SignObject) → has_float (sign_data (record request { object = object }) m) ≡ false
   at None = refl
-  at (Some (made_of.Header header)) = refl
-  at (Some (made_of.Block block)) = neither (has_float (versioned (codes "block") (write beacon_block (beacon_block_value block)))) false (block_plain block) refl
+  at (Some (made_of.Header v header)) = refl
+  at (Some (made_of.Block block)) = neither (has_float (versioned (codes "block") (codes "PHASE0") (write beacon_block (beacon_block_value block)))) false (block_plain block) refl
   at (Some (made_of.Attestation details)) = refl
 
 pub plain_plain_numbers : (request : PlainRequest) → has_float (plain_data request) ≡ false
-unfolding write fork fork_value voluntary_exit voluntary_exit_value
+unfolding write fork fork_value voluntary_exit voluntary_exit_value sync_aggregator_selection_data sync_aggregator_selection_data_value sync_committee_contribution sync_committee_contribution_value contribution_and_proof contribution_and_proof_value
 plain_plain_numbers request = at request.object where
   at : (object : PlainObject) → has_float (plain_data (record request { object = object })) ≡ false
   at (plain.RandaoReveal epoch) = refl
   at (plain.AggregationSlot slot) = refl
   at (plain.VoluntaryExit exit) = refl
+  at (plain.SyncCommitteeMessage slot block) = refl
+  at (plain.SyncCommitteeSelectionProof choice) = refl
+  at (plain.SyncCommitteeContributionAndProof given) = refl

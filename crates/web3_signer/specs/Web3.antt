@@ -1,10 +1,10 @@
 -- What Web3Signer is asked: the paths and the JSON bodies of its calls (Web3Signer API, `eth2/sign`; Keymanager API,
 -- `keystores`). Bodies are compact JSON, members in byte order of their names.
-use Rattle.std.specs.Prelude.{ℕ, List, ◌++◌, Option, Some, None, codes, decimal}
+use Rattle.std.specs.Prelude.{ℕ, Bool, true, false, List, ◌++◌, Option, Some, None, codes, decimal}
 use Rattle.edge_kit.specs.Texts.{hex_text}
 use Rattle.edge_kit.specs.declared.bytes.PubKey.{PubKey}
 use Rattle.edge_kit.specs.declared.bytes.Root.{Root}
-use Rattle.serde_json.specs.Data.{Data, string, array, object, item, no_items, Members, member, no_members}
+use Rattle.serde_json.specs.Data.{Data, string, array, object, item, no_items, Members, member, no_members, put}
 use Rattle.serde_json.specs.Written.{compact_text}
 use Rattle.slash_defs.specs.declared.message.Message.{Message}
 use Rattle.slash_defs.specs.declared.message.Message.TheVariants as message
@@ -17,7 +17,10 @@ use Rattle.phase0_types.specs.Headers.{beacon_block_header_value}
 use Rattle.phase0_types.specs.declared.fork.Fork.{Fork}
 use Rattle.phase0_blocks.specs.Blocks.{beacon_block_value}
 use Rattle.phase0_blocks.specs.Operations.{voluntary_exit_value}
+use Rattle.altair_types.specs.Containers.{sync_aggregator_selection_data, contribution_and_proof}
+use Rattle.altair_types.specs.SyncCommittees.{sync_aggregator_selection_data_value, contribution_and_proof_value}
 use Rattle.signer_link.specs.Plain.{plain_root}
+use Rattle.signer_link.specs.Versions.{version_name}
 use Rattle.signer_link.specs.declared.request.SignObject.{SignObject}
 use Rattle.signer_link.specs.declared.request.SignObject.TheVariants as made_of
 use Rattle.signer_link.specs.declared.request.SignRequest.{SignRequest}
@@ -45,11 +48,11 @@ fork_info f genesis =
     object (member (codes "fork") (write fork (fork_value f))
     (member (codes "genesis_validators_root") (string (hex_text genesis.0)) no_members))
 
--- `beacon_block` of a header or a whole block, under its name
-abbrev pub versioned : List ℕ → Data → Data
-versioned name value =
+-- `beacon_block` of a header or a whole block, under its name, and its version
+abbrev pub versioned : List ℕ → List ℕ → Data → Data
+versioned name version value =
     object (member name value
-    (member (codes "version") (string (codes "PHASE0")) no_members))
+    (member (codes "version") (string version) no_members))
 
 -- the type of a request for a message
 abbrev pub type_of : Message → List ℕ
@@ -70,27 +73,46 @@ root_data root = string (hex_text root)
 -- the object that a message was made of stands before them, where it is known
 abbrev pub with_object : Option SignObject → Members → Members
 with_object None others = others
-with_object (Some (made_of.Header header)) others = member (codes "beacon_block") (versioned (codes "block_header") (write beacon_block_header (beacon_block_header_value header))) others
-with_object (Some (made_of.Block block)) others = member (codes "beacon_block") (versioned (codes "block") (write beacon_block (beacon_block_value block))) others
+with_object (Some (made_of.Header version header)) others = member (codes "beacon_block") (versioned (codes "block_header") (version_name version) (write beacon_block_header (beacon_block_header_value header))) others
+with_object (Some (made_of.Block block)) others = member (codes "beacon_block") (versioned (codes "block") (codes "PHASE0") (write beacon_block (beacon_block_value block))) others
 with_object (Some (made_of.Attestation details)) others = member (codes "attestation") (write attestation_data (attestation_data_value details)) others
 
 -- the request for the signature of a message: of its root, under the fork and the genesis root of the chain
 abbrev pub sign_data : SignRequest → Message → Data
 sign_data request m = object (with_object request.object (with_root (fork_info request.fork request.genesis) (root_data (signing_root_of m).0) (type_of m) no_members))
 
--- the request for another signature, whose object stands by its name among the members
+-- what a sync committee's member says: the root of a block, and the slot
+abbrev pub sync_message_data : ℕ → Root → Data
+sync_message_data slot block = object (member (codes "beacon_block_root") (root_data block.0) (member (codes "slot") (string (decimal slot)) no_members))
+
+-- the object of another signature, its name in the request, and the request's type
+abbrev pub object_data : PlainObject → Data
+object_data (plain.RandaoReveal epoch) = one_member (codes "epoch") (string (decimal epoch))
+object_data (plain.AggregationSlot slot) = one_member (codes "slot") (string (decimal slot))
+object_data (plain.VoluntaryExit exit) = write voluntary_exit (voluntary_exit_value exit)
+object_data (plain.SyncCommitteeMessage slot block) = sync_message_data slot block
+object_data (plain.SyncCommitteeSelectionProof choice) = write sync_aggregator_selection_data (sync_aggregator_selection_data_value choice)
+object_data (plain.SyncCommitteeContributionAndProof given) = write contribution_and_proof (contribution_and_proof_value given)
+
+abbrev pub plain_name : PlainObject → List ℕ
+plain_name (plain.RandaoReveal epoch) = codes "randao_reveal"
+plain_name (plain.AggregationSlot slot) = codes "aggregation_slot"
+plain_name (plain.VoluntaryExit exit) = codes "voluntary_exit"
+plain_name (plain.SyncCommitteeMessage slot block) = codes "sync_committee_message"
+plain_name (plain.SyncCommitteeSelectionProof choice) = codes "sync_aggregator_selection_data"
+plain_name (plain.SyncCommitteeContributionAndProof given) = codes "contribution_and_proof"
+
+abbrev pub plain_type : PlainObject → List ℕ
+plain_type (plain.RandaoReveal epoch) = codes "RANDAO_REVEAL"
+plain_type (plain.AggregationSlot slot) = codes "AGGREGATION_SLOT"
+plain_type (plain.VoluntaryExit exit) = codes "VOLUNTARY_EXIT"
+plain_type (plain.SyncCommitteeMessage slot block) = codes "SYNC_COMMITTEE_MESSAGE"
+plain_type (plain.SyncCommitteeSelectionProof choice) = codes "SYNC_COMMITTEE_SELECTION_PROOF"
+plain_type (plain.SyncCommitteeContributionAndProof given) = codes "SYNC_COMMITTEE_CONTRIBUTION_AND_PROOF"
+
+-- the members of each request, and the object under its name
 abbrev pub plain_members : PlainObject → Data → Data → Members
-plain_members (plain.RandaoReveal epoch) info root =
-    member (codes "fork_info") info
-    (member (codes "randao_reveal") (one_member (codes "epoch") (string (decimal epoch)))
-    (member (codes "signingRoot") root
-    (member (codes "type") (string (codes "RANDAO_REVEAL")) no_members)))
-plain_members (plain.AggregationSlot slot) info root =
-    member (codes "aggregation_slot") (one_member (codes "slot") (string (decimal slot)))
-    (with_root info root (codes "AGGREGATION_SLOT") no_members)
-plain_members (plain.VoluntaryExit exit) info root =
-    with_root info root (codes "VOLUNTARY_EXIT")
-    (member (codes "voluntary_exit") (write voluntary_exit (voluntary_exit_value exit)) no_members)
+plain_members o info root = put (plain_name o) (object_data o) (with_root info root (plain_type o) no_members)
 
 abbrev pub plain_data : PlainRequest → Data
 plain_data request = object (plain_members request.object (fork_info request.fork request.genesis) (root_data (plain_root request)))

@@ -7,6 +7,7 @@ ghost use Rattle.phase0_types.specs.Headers.{beacon_block_header_value};
 ghost use Rattle.phase0_types.specs.Writing.{write};
 ghost use Rattle.serde_json.specs.Data.{no_members, object, put, string};
 ghost use Rattle.serde_json.specs.View.{view};
+ghost use Rattle.signer_link.specs.Versions.{version_name};
 ghost use Rattle.web3_signer.specs.Web3 as web3;
 
 use edge_kit::{PubKey, Root, hex_text, push_hex};
@@ -14,7 +15,7 @@ use json_members::Object;
 use phase0_blocks::BeaconBlock;
 use phase0_types::{BeaconBlockHeader, Fork, Shaped};
 use serde_json::{Value, json};
-use signer_link::{PlainObject, PlainRequest, SignObject, SignRequest};
+use signer_link::{BlockVersion, PlainObject, PlainRequest, SignObject, SignRequest};
 use slash_defs::Message;
 use std::alloc::{AllocError, Global};
 
@@ -62,8 +63,8 @@ fn object_value(
     ensures { IfOk result (λ v. view v ≡ object (web3.with_object (Some given.now) (web3.with_root (view info) (string root.now) kind.now no_members))) }
 {
     match given {
-        SignObject::Header(header) => {
-            let block = header_value(alloc, header)?;
+        SignObject::Header { version, header } => {
+            let block = header_value(alloc, *version, header)?;
             with_member(alloc, "beacon_block", block, info, root, kind)
         }
         SignObject::Block(block) => {
@@ -77,18 +78,22 @@ fn object_value(
     }
 }
 
-fn header_value(alloc: Global, header: &BeaconBlockHeader) -> Result<Value, AllocError>
-    ensures { IfOk result (λ v. view v ≡ web3.versioned (codes "block_header") (write beacon_block_header (beacon_block_header_value header.now))) }
+fn header_value(
+    alloc: Global,
+    version: BlockVersion,
+    header: &BeaconBlockHeader,
+) -> Result<Value, AllocError>
+    ensures { IfOk result (λ v. view v ≡ web3.versioned (codes "block_header") (version_name version) (write beacon_block_header (beacon_block_header_value header.now))) }
 {
     let header = header.to_value(alloc)?;
     let object = Object::new(alloc)
         .with_value(alloc, "block_header", header)?
-        .with_text(alloc, "version", "PHASE0")?;
+        .with_text(alloc, "version", version.name())?;
     Ok(object.value())
 }
 
 fn block_value(alloc: Global, block: &BeaconBlock) -> Result<Value, AllocError>
-    ensures { IfOk result (λ v. view v ≡ web3.versioned (codes "block") (write beacon_block (beacon_block_value block.now))) }
+    ensures { IfOk result (λ v. view v ≡ web3.versioned (codes "block") (codes "PHASE0") (write beacon_block (beacon_block_value block.now))) }
 {
     let block = block.to_value(alloc)?;
     let object = Object::new(alloc)
@@ -159,7 +164,7 @@ fn plain_value(alloc: Global, request: &PlainRequest) -> Result<Value, AllocErro
     plain_object_value(alloc, &request.object, info, root.as_str())
 }
 
-/// The request for another signature, by what its object is.
+/// The request for another signature: the members of each request, and the object under its name.
 fn plain_object_value(
     alloc: Global,
     given: &PlainObject,
@@ -168,27 +173,72 @@ fn plain_object_value(
 ) -> Result<Value, AllocError>
     ensures { IfOk result (λ v. view v ≡ object (web3.plain_members given.now (view info) (string root.now))) }
 {
+    let value = object_data(alloc, given)?;
+    with_member(
+        alloc,
+        plain_name(given),
+        value,
+        info,
+        root,
+        plain_type(given),
+    )
+}
+
+/// The name of the object in the request.
+fn plain_name(given: &PlainObject) -> &'static str
+    ensures { result.now ≡ web3.plain_name given.now }
+{
     match given {
-        PlainObject::RandaoReveal { epoch } => {
-            let epoch = number_value(alloc, "epoch", *epoch)?;
-            with_member(alloc, "randao_reveal", epoch, info, root, "RANDAO_REVEAL")
-        }
-        PlainObject::AggregationSlot { slot } => {
-            let slot = number_value(alloc, "slot", *slot)?;
-            with_member(
-                alloc,
-                "aggregation_slot",
-                slot,
-                info,
-                root,
-                "AGGREGATION_SLOT",
-            )
-        }
-        PlainObject::VoluntaryExit(exit) => {
-            let exit = exit.to_value(alloc)?;
-            with_member(alloc, "voluntary_exit", exit, info, root, "VOLUNTARY_EXIT")
+        PlainObject::RandaoReveal { .. } => "randao_reveal",
+        PlainObject::AggregationSlot { .. } => "aggregation_slot",
+        PlainObject::VoluntaryExit(_) => "voluntary_exit",
+        PlainObject::SyncCommitteeMessage { .. } => "sync_committee_message",
+        PlainObject::SyncCommitteeSelectionProof(_) => "sync_aggregator_selection_data",
+        PlainObject::SyncCommitteeContributionAndProof(_) => "contribution_and_proof",
+    }
+}
+
+/// The type of the request.
+fn plain_type(given: &PlainObject) -> &'static str
+    ensures { result.now ≡ web3.plain_type given.now }
+{
+    match given {
+        PlainObject::RandaoReveal { .. } => "RANDAO_REVEAL",
+        PlainObject::AggregationSlot { .. } => "AGGREGATION_SLOT",
+        PlainObject::VoluntaryExit(_) => "VOLUNTARY_EXIT",
+        PlainObject::SyncCommitteeMessage { .. } => "SYNC_COMMITTEE_MESSAGE",
+        PlainObject::SyncCommitteeSelectionProof(_) => "SYNC_COMMITTEE_SELECTION_PROOF",
+        PlainObject::SyncCommitteeContributionAndProof(_) => {
+            "SYNC_COMMITTEE_CONTRIBUTION_AND_PROOF"
         }
     }
+}
+
+/// The JSON of the object.
+fn object_data(alloc: Global, given: &PlainObject) -> Result<Value, AllocError>
+    ensures { IfOk result (λ v. view v ≡ web3.object_data given.now) }
+{
+    match given {
+        PlainObject::RandaoReveal { epoch } => number_value(alloc, "epoch", *epoch),
+        PlainObject::AggregationSlot { slot } => number_value(alloc, "slot", *slot),
+        PlainObject::VoluntaryExit(exit) => exit.to_value(alloc),
+        PlainObject::SyncCommitteeMessage {
+            slot,
+            beacon_block_root,
+        } => sync_message_value(alloc, *slot, beacon_block_root),
+        PlainObject::SyncCommitteeSelectionProof(choice) => choice.to_value(alloc),
+        PlainObject::SyncCommitteeContributionAndProof(given) => given.to_value(alloc),
+    }
+}
+
+/// What a sync committee's member says: the root of a block, and the slot.
+fn sync_message_value(alloc: Global, slot: u64, root: &Root) -> Result<Value, AllocError>
+    ensures { IfOk result (λ v. view v ≡ web3.sync_message_data slot root.now) }
+{
+    let object = Object::new(alloc)
+        .with_hex(alloc, "beacon_block_root", &root.0)?
+        .with_number(alloc, "slot", slot)?;
+    Ok(object.value())
 }
 
 /// An object of one number.

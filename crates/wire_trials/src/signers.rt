@@ -3,11 +3,13 @@ use crate::links::{link, sent};
 use crate::permits::{KEY, PERMIT};
 use crate::reading::{Stop, first_part, numbers_in, service_of, value_of, with_bytes};
 use crate::scenes::Scene;
-use edge_kit::{MemLink, Root, hex_text};
+use altair_types::{ContributionAndProof, SyncAggregatorSelectionData, SyncCommitteeContribution};
+use edge_kit::{MemLink, Root, Sig, hex_text};
 use phase0_blocks::VoluntaryExit;
 use phase0_types::Fork;
 use signer_link::{
-    DeleteReply, ImportReply, PlainObject, PlainRequest, SignObject, SignReply, SignRequest, Signer,
+    BlockVersion, DeleteReply, ImportReply, PlainObject, PlainRequest, SignObject, SignReply,
+    SignRequest, Signer,
 };
 use std::alloc::Global;
 use web3_signer::Web3Signer;
@@ -30,10 +32,23 @@ pub fn signer(alloc: Global, setting: &str, failing: &[u64]) -> Result<Web3Signe
 /// The object of a message.
 fn object(alloc: Global, words: &str) -> Result<SignObject, Stop> {
     match first_part(words, " ") {
-        ("header", json) => Ok(SignObject::Header(value_of(alloc, json)?)),
+        ("header", rest) => header(alloc, rest),
         ("block", json) => Ok(SignObject::Block(value_of(alloc, json)?)),
         _ => Err(Stop::Unread),
     }
+}
+
+/// A header, before which its version may stand; else it is of phase 0.
+fn header(alloc: Global, words: &str) -> Result<SignObject, Stop> {
+    let (name, json) = if words.starts_with('{') {
+        ("PHASE0", words)
+    } else {
+        first_part(words, " ")
+    };
+    Ok(SignObject::Header {
+        version: BlockVersion::of_name(name),
+        header: value_of(alloc, json)?,
+    })
 }
 
 /// Another object that is signed.
@@ -46,7 +61,35 @@ fn plain_object(alloc: Global, words: &str) -> Result<PlainObject, Stop> {
             epoch: *epoch,
             validator_index: *validator_index,
         })),
+        ("sync-message", [slot]) => Ok(PlainObject::SyncCommitteeMessage {
+            slot: *slot,
+            beacon_block_root: Root([7; 32]),
+        }),
+        ("sync-choice", [slot, subcommittee_index]) => {
+            Ok(PlainObject::SyncCommitteeSelectionProof(SyncAggregatorSelectionData {
+                slot: *slot,
+                subcommittee_index: *subcommittee_index,
+            }))
+        }
+        ("sync-contribution", [slot, aggregator_index]) => Ok(
+            PlainObject::SyncCommitteeContributionAndProof(contribution(*slot, *aggregator_index)),
+        ),
         _ => Err(Stop::Unread),
+    }
+}
+
+/// A contribution of subcommittee 3.
+fn contribution(slot: u64, aggregator_index: u64) -> ContributionAndProof {
+    ContributionAndProof {
+        aggregator_index,
+        contribution: SyncCommitteeContribution {
+            slot,
+            beacon_block_root: Root([7; 32]),
+            subcommittee_index: 3,
+            aggregation_bits: [1, 0, 0, 0, 0, 0, 0, 0, 0, 0, 0, 0, 0, 0, 0, 128],
+            signature: Sig([9; 96]),
+        },
+        selection_proof: Sig([11; 96]),
     }
 }
 

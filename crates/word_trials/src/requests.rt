@@ -87,7 +87,7 @@ fn push_proposal(
 fn object_words(object: Option<&SignObject>) -> &'static str {
     match object {
         None => "",
-        Some(SignObject::Header(_)) => " header",
+        Some(SignObject::Header { .. }) => " header",
         Some(SignObject::Block(_)) => " whole block",
         Some(SignObject::Attestation(_)) => " attestation",
     }

@@ -30,7 +30,7 @@ take_door-door-requires-clause-all g c =
     let V : Type 0 = g.row.V.Denot in
     let s : SharedDoor C = c.give_passes.new.owner.shared in
     let new = c.serve_seated-ended.new in
-    let r = c.serve_seated-ended.ensures in
+    let r = c.serve_seated-ended.ensures.ran in
     let before : List V = map (λ (lane : Lane (DoorPass C) V C). lane.servant) c.give_passes.new.lanes.items in
     let kept = map (λ list. list.items) new.kept.items in
     let long = as_many_passes g.V.Serves.serves s before new.servants.items new.passes.items kept c.serve_seated-ended.result r in
@@ -50,11 +50,11 @@ finish_all-requires g c =
     let kept : List (List C) = map (λ list. list.items) new.kept.items in
     record {
       lent = subst (λ (d : DoorSeen C). AreLent d.lent (length (joined kept))) (sym t.door)
-          (lent_all s (opening s) new.passes.items t.value t.closes g.V.Serves.serves before new.servants.items kept c.serve_seated-ended.result c.serve_seated-ended.ensures);
+          (lent_all s (opening s) new.passes.items t.value t.closes g.V.Serves.serves before new.servants.items kept c.serve_seated-ended.result c.serve_seated-ended.ensures.ran);
     }
 
-pub returns : goal.returns
-returns g c =
+pub returns-clause-served : goal.returns-clause-served
+returns-clause-served g c =
     let C : Type 0 = g.row.R-Conn.Denot in
     let V : Type 0 = g.row.V.Denot in
     let seen = door_seen g.R.Door.coming g.R.Door.finished g.R.Door.lent g.R.Door.faults in
@@ -76,5 +76,5 @@ returns g c =
     let counts : Counts now.lent t.value.door.lent (length (joined kept)) = subst (λ (d : DoorSeen C). Counts now.lent d.lent (length (joined kept))) t.door f.lent in
     let faults : now.faults ≡ t.value.door.faults = f.faults ∙ ap (λ (d : DoorSeen C). d.faults) t.door in
     let r : Ran serves c.args.wanted start now before left result =
-    ran s (opening s) new.passes.items t.value t.closes serves before left kept result c.serve_seated-ended.ensures start now c.args.wanted opened finished coming counts faults in
+    ran s (opening s) new.passes.items t.value t.closes serves before left kept result c.serve_seated-ended.ensures.ran start now c.args.wanted opened finished coming counts faults in
     inr (subst (λ (vs : List V). Ran serves c.args.wanted start now vs left result) c.give_passes.ensures.servants r)

@@ -11,7 +11,7 @@ use Rattle.door_lanes.specs.Runs.{AreNew, RanSeated}
 use Rattle.door_lanes.specs.Seats.{DoorPass, Grows, IsDoorPass, SharedDoor}
 use Rattle.door_lanes.proofs.Crosses.{seat_send}
 use Rattle.door_lanes.proofs.LaneLemmas.{went_long}
-use Rattle.door_lanes.proofs.ListLemmas.{all_same, are_passes, map_twice, whole_back}
+use Rattle.door_lanes.proofs.ListLemmas.{all_mapped, all_same, are_passes, map_twice, whole_back}
 use Rattle.door_lanes.proofs.RunLemmas.{ran_seated}
 use Rattle.door_lanes.proofs.run.serve_seated.Goals as goal
 
@@ -40,8 +40,8 @@ serve_lanes-ended-requires-clause-ready g c κs within =
     ) in
     subst (λ (l : List X). All (λ (lane : X). IsDoorPass lane.taker.shared.now lane.taker.pass × g.V.Serves.ready lane.servant) l) (sym c.as_mut_slice.ensures.value) ready
 
-pub returns : goal.returns
-returns g c =
+pub returns-clause-ran : goal.returns-clause-ran
+returns-clause-ran g c =
     let C : Type 0 = g.row.R-Conn.Denot in
     let V : Type 0 = g.row.V.Denot in
     let T : Type 0 = DoorSeat g.row.R.Denot g.row.X.Denot C in
@@ -78,3 +78,22 @@ returns g c =
     let r2 : R (map (λ (l : Y). l.servant) given) c.leave_seats.new.passes.items (kept now) (map (λ (l : X). l.servant) now) = subst (λ (ps : List (DoorPass C)). R (map (λ (l : Y). l.servant) given) ps (kept now) (map (λ (l : X). l.servant) now)) (sym passes_are) r1 in
     let r3 = subst (λ (ks : List (List C)). R (map (λ (l : Y). l.servant) given) c.leave_seats.new.passes.items ks (map (λ (l : X). l.servant) now)) (sym kept_are) r2 in
     subst (λ (ws : List V). R (map (λ (l : Y). l.servant) given) c.leave_seats.new.passes.items (map (λ list. list.items) c.leave_seats.new.kept.items) ws) (sym servants_are) r3
+
+pub returns-clause-ready : goal.returns-clause-ready
+returns-clause-ready g c =
+    let C : Type 0 = g.row.R-Conn.Denot in
+    let V : Type 0 = g.row.V.Denot in
+    let X : Type 0 = Lane (DoorSeat g.row.R.Denot g.row.X.Denot C) V C in
+    let s : SharedDoor C = c.args.shared.now in
+    let serves = g.V.Serves.serves in
+    let T : Type 0 = DoorSeat g.row.R.Denot g.row.X.Denot C in
+    let leads : T → List (Taken C) → T → Type 0 = λ a rs b. (b.shared ≡ a.shared) × Grows a.pass rs b.pass in
+    let seats : List X = c.take_seats.new.seats.items in
+    let ran = c.serve_lanes-ended in
+    let now : List X = ran.new.lanes in
+    let went : AllWent leads serves seats now = subst (λ (l : List X). AllWent leads serves l now) c.as_mut_slice.ensures.value ran.ensures.went in
+    let long : length now ≡ length seats = went_long leads serves seats now went in
+    let size : c.take_seats.new.seats.len ≡ length seats = grind (arith, common_steps) in
+    let back : take c.take_seats.new.seats.len (now ++ drop (length now) seats) ≡ now = whole_back seats now c.take_seats.new.seats.len size long in
+    let servants_are : c.leave_seats.new.servants.items ≡ map (λ (l : X). l.servant) now = c.leave_seats.ensures.servants ∙ ap (map (λ (l : X). l.servant)) back in
+    all_mapped (λ (l : X). l.servant) g.V.Serves.ready now c.leave_seats.new.servants.items servants_are (λ k d lt. (ran.ensures.ready k d lt).1)

@@ -3,9 +3,10 @@ use Rattle.call_plans.specs.Plans.{each_plan}
 use Rattle.call_plans.specs.Paths.{Comes}
 use Rattle.duty_plans.specs.Hands.{Free}
 use Rattle.duty_plans.specs.Plans.{slot_plan, slot_work, task_plan}
-use Rattle.duty_plans.specs.Seats.{Does, at_seat, nodes_seen, signer_seen}
+use Rattle.duty_plans.specs.Seats.{Does, at_seat, nodes_seen}
 use Rattle.duty_plans.specs.Steps.{Fits}
 use Rattle.duty_workers.proofs.slot.run_slot.Given as goal
+use Rattle.client_calls.specs.Seats.{signer_seen}
 
 abbrev pub invariant-tasks : goal.invariant-tasks
 invariant-tasks g l = record {

@@ -1,7 +1,7 @@
-use Rattle.duty_plans.specs.Seats.{signer_seen}
 use Rattle.keymanager_api.specs.Doors.{door_seen, hall, link_seen}
 use Rattle.keymanager_api.proofs.VisitLemmas.{VisitedSoFar}
 use Rattle.keymanager_api.proofs.connections.serve_connections.Given as goal
+use Rattle.client_calls.specs.Seats.{signer_seen}
 
 abbrev pub invariant-connections : goal.invariant-connections
 invariant-connections g l = record {

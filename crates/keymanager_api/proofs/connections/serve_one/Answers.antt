@@ -1,6 +1,5 @@
 use Rattle.std.proofs.Common.{ap, refl, subst, ◌∙◌}
-use Rattle.client_calls.specs.Seats.{at_seat}
-use Rattle.duty_plans.specs.Seats.{signer_seen}
+use Rattle.client_calls.specs.Seats.{at_seat, signer_seen}
 use Rattle.duty_turns.specs.Times.{epoch_of}
 use Rattle.keymanager_api.specs.Serving.{Serves}
 use Rattle.keymanager_api.specs.Doors.{link_seen}

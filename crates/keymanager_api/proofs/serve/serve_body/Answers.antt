@@ -2,6 +2,7 @@ use Rattle.std.proofs.Common.{◌≡◌, None, Ok, Err, sym, ap, subst}
 use Rattle.std.specs.Result.{result_ok}
 use Rattle.http_wire.specs.declared.message.WireFault.TheVariants as fault
 use Rattle.http_wire.proofs.ListenLemmas.{Stays-trans}
+use Rattle.keymanager_routes.specs.Checks.{action_for}
 use Rattle.keymanager_api.specs.Plans.{checked_plan}
 use Rattle.keymanager_api.specs.Serving.{Sends}
 use Rattle.keymanager_api.specs.declared.serve.Served.{Served}
@@ -12,7 +13,7 @@ use Rattle.keymanager_api.proofs.serve.serve_body.Goals as goal
 
 pub returns-in-Err-clause-serves : goal.returns-in-Err-clause-serves
 returns-in-Err-clause-serves g c = λ token before h passes.
-    let reads = reads_unasked token c.args.head c.args.action passes _ _ _ _ _ h.took h.held c.in-Err.ensures.err in
+    let reads = reads_unasked (action_for token) c.args.head c.args.action passes _ _ _ _ _ h.took h.held c.in-Err.ensures.err in
     let S : Served → Type 0 = λ s. Sends (g.L.Link.held c.ask_for_body.new.link) (g.L.Link.held c.drop_link.new.link) before.faults (g.L.Link.faults c.drop_link.new.link) None s in
     record {
       read = Err fault.Link;
@@ -30,7 +31,7 @@ pub returns-in-Ok-read_request_body-clause-serves : goal.returns-in-Ok-read_requ
 returns-in-Ok-read_request_body-clause-serves g c = λ token before h passes.
     let request = c.in-Ok-read_request_body.request in
     let body = c.in-Ok-read_request_body.ensures in
-    let reads = reads_behind token c.args.head c.args.action passes _ _ _ _ _ _ _ (Ok request) h.took c.ask_for_body.ensures.speaks.left body.step h.held (asks_stays _ _ _ _ c.in-Ok.ensures.ok body.listens.held) in
+    let reads = reads_behind (action_for token) c.args.head c.args.action passes _ _ _ _ _ _ _ (Ok request) h.took c.ask_for_body.ensures.speaks.left body.step h.held (asks_stays _ _ _ _ c.in-Ok.ensures.ok body.listens.held) in
     record {
       read = Ok request;
       left = g.L.Link.left c.read_request_body.new.link;
@@ -48,7 +49,7 @@ returns-in-Err-read_request_body-clause-serves g c = λ token before h passes.
     let f = c.in-Err-read_request_body.fault in
     let body = c.in-Err-read_request_body.ensures in
     let ends = c.finish_faulty.ensures.ends in
-    let reads = reads_behind token c.args.head c.args.action passes _ _ _ _ _ _ _ (Err f) h.took c.ask_for_body.ensures.speaks.left body.step h.held (asks_stays _ _ _ _ c.in-Ok.ensures.ok body.listens.held) in
+    let reads = reads_behind (action_for token) c.args.head c.args.action passes _ _ _ _ _ _ _ (Err f) h.took c.ask_for_body.ensures.speaks.left body.step h.held (asks_stays _ _ _ _ c.in-Ok.ensures.ok body.listens.held) in
     record {
       read = Err f;
       left = g.L.Link.left c.read_request_body.new.link;

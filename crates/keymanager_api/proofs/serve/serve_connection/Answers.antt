@@ -1,6 +1,7 @@
 use Rattle.std.proofs.Common.{◌≡◌, Err, ap}
 use Rattle.http_wire.specs.declared.message.WireFault.TheVariants as fault
 use Rattle.http_wire.proofs.ListenLemmas.{Stays-trans}
+use Rattle.keymanager_routes.specs.Checks.{action_for}
 use Rattle.keymanager_api.proofs.ReadingLemmas.{reads_headless}
 use Rattle.keymanager_api.proofs.RunLemmas.{ran_faulty}
 use Rattle.keymanager_api.proofs.serve.serve_connection.Goals as goal
@@ -16,7 +17,7 @@ returns-in-Ok-clause-coming g c = Stays-trans _ _ _ c.in-Ok.ensures.listens.comi
 
 pub returns-in-Err-clause-serves : goal.returns-in-Err-clause-serves
 returns-in-Err-clause-serves g c =
-    let reads = reads_headless c.args.token.now _ _ _ _ c.in-Err.fault c.in-Err.ensures.step c.in-Err.ensures.bound c.in-Err.ensures.listens.held in
+    let reads = reads_headless (action_for c.args.token.now) _ _ _ _ c.in-Err.fault c.in-Err.ensures.step c.in-Err.ensures.bound c.in-Err.ensures.listens.held in
     let ends = c.finish_faulty.ensures.ends in
     record {
       read = Err c.in-Err.fault;

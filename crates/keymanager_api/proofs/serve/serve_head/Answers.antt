@@ -19,7 +19,7 @@ returns-in-Err-Refused-clause-serves g c = λ before h.
     let refusal = c.in-Err-Refused.refusal in
     let said = rw c.in-Err-Refused.field-0-is at c.in-Err-Refused.ensures in
     let fails : action_for c.args.token.now c.args.head ≡ Err refusal = sym same ∙ said in
-    let reads = reads_refused c.args.token.now _ _ _ _ c.args.head refusal h.took h.empty fails h.held in
+    let reads = reads_refused (action_for c.args.token.now) _ _ _ _ c.args.head refusal h.took h.empty fails h.held in
     record {
       read = Ok c.args.head;
       left = g.L.Link.left c.args.link.now;
@@ -34,7 +34,7 @@ returns-in-Err-Refused-clause-serves g c = λ before h.
 
 pub returns-clause-serves : goal.returns-clause-serves
 returns-clause-serves g c = λ before h.
-    let reads = reads_unchecked c.args.token.now _ _ _ _ c.args.head h.took h.held in
+    let reads = reads_unchecked (action_for c.args.token.now) _ _ _ _ c.args.head h.took h.held in
     record {
       read = Err fault.OutOfMemory;
       left = g.L.Link.left c.args.link.now;

@@ -10,10 +10,10 @@ use Rattle.desk_machine.specs.declared.call.DeskReply.{DeskReply}
 use Rattle.desk_seat.proofs.Crosses.{seated_send}
 use Rattle.desk_seat.specs.declared.seated.Seated.{Seated}
 use Rattle.desk_seat.specs.Seats.{DeskPass, Grows, IsDeskPass, SharedDesk}
-use Rattle.client_calls.specs.Seats.{SignerSeen}
+use Rattle.client_calls.specs.Seats.{SignerSeen, signer_seen}
 use Rattle.node_fallback.specs.Seen.{Seen}
 use Rattle.node_fallback.specs.declared.nodes.Nodes.{Nodes}
-use Rattle.duty_plans.specs.Seats.{Seat, nodes_seen, signer_seen}
+use Rattle.duty_plans.specs.Seats.{Seat, nodes_seen}
 use Rattle.duty_plans.specs.declared.setup.DutySetup.{DutySetup}
 use Rattle.duty_turns.specs.declared.held.DutyEnd.{DutyEnd}
 use Rattle.duty_turns.specs.TurnSteps.{House, SinkSeen, sink_seen}

@@ -14,7 +14,8 @@ returns-in-Granted-clause-granted g c = granted_same c.args.key None c.in-Grante
 pub returns-in_default : goal.returns-in_default
 returns-in_default g c = record {
   ready = c.call.ensures.ready;
-  settles = unsigned_settles g.K.DeskCalls.allows c.call.new.self _ _ c.without_grant.ensures;
-  granted = unsigned_granted c.args.key None _ _ c.without_grant.ensures;
-  ends = ends_refused g.K.DeskCalls.leads _ _ _ (call.Allow c.args.key c.args.now) c.call.result (signs_plain c.args.request.now) _ c.call.ensures.leads c.call.ensures.kind c.in_default.not-Granted c.without_grant.ensures;
+  settles = unsigned_settles g.K.DeskCalls.allows c.call.new.self _ _ c.without_grant.ensures.unsigned;
+  status = c.without_grant.ensures.status;
+  granted = unsigned_granted c.args.key None _ _ c.without_grant.ensures.unsigned;
+  ends = ends_refused g.K.DeskCalls.leads _ _ _ (call.Allow c.args.key c.args.now) c.call.result (signs_plain c.args.request.now) _ c.call.ensures.leads c.call.ensures.kind c.in_default.not-Granted c.without_grant.ensures.unsigned;
 }

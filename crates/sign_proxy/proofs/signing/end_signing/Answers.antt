@@ -7,7 +7,8 @@ returns-in-Signed-clause-ends g c = λ s. ends_signature g.K.DeskCalls.leads _ _
 pub returns-in_default : goal.returns-in_default
 returns-in_default g c = record {
   ready = c.drop_grant.ensures.ready;
-  settles = unsigned_settles g.K.DeskCalls.allows c.drop_grant.new.desk _ _ c.without_signature.ensures;
-  granted = unsigned_granted c.args.grant.key c.args.grant.message _ _ c.without_signature.ensures;
-  ends = λ s. ends_dropped g.K.DeskCalls.leads _ _ s c.args.grant c.args.reply _ c.in_default.not-Signed c.drop_grant.ensures.leads c.without_signature.ensures;
+  settles = unsigned_settles g.K.DeskCalls.allows c.drop_grant.new.desk _ _ c.without_signature.ensures.unsigned;
+  status = c.without_signature.ensures.status;
+  granted = unsigned_granted c.args.grant.key c.args.grant.message _ _ c.without_signature.ensures.unsigned;
+  ends = λ s. ends_dropped g.K.DeskCalls.leads _ _ s c.args.grant c.args.reply _ c.in_default.not-Signed c.drop_grant.ensures.leads c.without_signature.ensures.unsigned;
 }

@@ -11,4 +11,4 @@ returns-in-Ok-clause-answers g c = reads (Ok c.in-Ok.asked) c.in-Ok.ensures c.si
 pub returns-in-Err-Refused-clause-answers : goal.returns-in-Err-Refused-clause-answers
 returns-in-Err-Refused-clause-answers g c =
     let unread : asked_of c.args.identifier.now c.args.genesis.now c.args.body.now ≡ Err c.in-Err-Refused.refusal = search rules in
-    reads (Err c.in-Err-Refused.refusal) unread (ends_unsigned g.K.DeskCalls.leads (Some (refusal_reply c.in-Err-Refused.refusal)) _ _ c.refuse.ensures) tt
+    reads (Err c.in-Err-Refused.refusal) unread (ends_unsigned g.K.DeskCalls.leads (Some (refusal_reply c.in-Err-Refused.refusal)) _ _ c.refuse.ensures.unsigned) tt
