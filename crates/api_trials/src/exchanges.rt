@@ -8,7 +8,7 @@ use keymanager_api::{Served, answer};
 use std::alloc::{AllocError, Global};
 
 /// What became of a connection, and what was sent over it.
-fn served_words(alloc: Global, served: Served, link: MemLink) -> Outcome {
+pub(crate) fn served_words(alloc: Global, served: Served, link: MemLink) -> Outcome {
     let sent = link.into_sent();
     let words = counted(alloc, sent.as_slice())?;
     Ok(Some(format!(in alloc; "{served:?}, {words}")?))

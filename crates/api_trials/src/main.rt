@@ -1,5 +1,5 @@
-//! Trials of the Keymanager API: requests as bytes over links in memory, and the replies as bytes; and of requests for a
-//! signature. A line opens a desk, chooses a signer, makes a request, lets connections come in at a door, or looks at what
+//! Trials of the Keymanager API: requests as bytes over links in memory, and the replies as bytes; of requests for a
+//! signature, and of connections of the signing proxy. A line opens a desk, chooses a signer, makes a request, lets connections come in at a door, or looks at what
 //! was left.
 #![tactic(auto)]
 
@@ -12,7 +12,7 @@ mod stage;
 
 use crate::doors::{accept_twice, serve_door};
 use crate::exchanges::{answer_without_link, exchange, heard};
-use crate::signatures::sign;
+use crate::signatures::{pass, sign};
 use crate::stage::{Chosen, Stage, choose_signer, look, open_desk};
 use std::alloc::{AllocError, Global};
 use std::io;
@@ -41,6 +41,7 @@ fn outcome(alloc: Global, subject: &str, arguments: &str, stage: &mut Stage) -> 
         "door" => serve_door(alloc, arguments, stage),
         "accept" => accept_twice(alloc, arguments),
         "sign" => sign(alloc, arguments, stage),
+        "pass" => pass(alloc, arguments, stage),
         _ => set_or_look(alloc, subject, arguments, stage),
     }
 }

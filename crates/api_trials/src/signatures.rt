@@ -1,13 +1,16 @@
-//! Requests for a signature, each with its reply.
+//! Requests for a signature, each with its reply, and connections of the signing proxy.
 ghost use Rattle.desk_machine.specs.Making.{MaySettle};
 
 use crate::Outcome;
+use crate::exchanges::served_words;
 use crate::exhausted::Exhausted;
-use crate::links::counted;
-use crate::stage::{Chosen, NOW, Stage};
+use crate::links::{client, counted};
+use crate::stage::{Chosen, NOW, NotedDesk, Stage, TOKEN};
 use desk_machine::{DeskCall, DeskCalls, DeskReply, Grant, Outcome as Settling};
-use edge_kit::Root;
+use edge_kit::{Link, Root};
+use keymanager_api::Served;
 use keymanager_routes::Reply;
+use proxy_api::sign_connection;
 use sign_proxy::{SignEnd, sign_reply};
 use signer_link::Signer;
 use std::alloc::{AllocError, Global};
@@ -63,4 +66,33 @@ pub(crate) fn sign(alloc: Global, arguments: &str, stage: &mut Stage) -> Outcome
         Chosen::Service(signer) => answer(alloc, identifier, body, desk, signer),
         Chosen::Exhausted => answer(alloc, identifier, body, desk, &mut Exhausted),
     }
+}
+
+/// Serves a connection of the proxy over a desk and the signer that is chosen.
+fn proxied<L: Link>(
+    alloc: Global,
+    link: &mut L,
+    desk: &mut NotedDesk,
+    signer: &mut Chosen,
+) -> Served {
+    let chain = &Root([0; 32]);
+    match signer {
+        Chosen::Memory(signer) => sign_connection(alloc, link, TOKEN, chain, NOW, desk, signer),
+        Chosen::Service(signer) => sign_connection(alloc, link, TOKEN, chain, NOW, desk, signer),
+        Chosen::Exhausted => {
+            sign_connection(alloc, link, TOKEN, chain, NOW, desk, &mut Exhausted)
+        }
+    }
+}
+
+/// Serves the connection of a client at the proxy.
+pub(crate) fn pass(alloc: Global, arguments: &str, stage: &mut Stage) -> Outcome {
+    let Some(desk) = &mut stage.desk else {
+        return Ok(None);
+    };
+    let Some(mut link) = client(alloc, "say", arguments)? else {
+        return Ok(None);
+    };
+    let served = proxied(alloc, &mut link, desk, &mut stage.signer);
+    served_words(alloc, served, link)
 }

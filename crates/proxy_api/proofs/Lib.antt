@@ -1,0 +1,3 @@
+mod SendLemmas
+mod WantedLemmas
+mod ListingLemmas

@@ -1,0 +1,4 @@
+pub mod Routes
+pub mod Listing
+pub mod Signing
+pub mod Attending

@@ -1,0 +1,65 @@
+//! What the proxy says of itself.
+ghost use Rattle.std.specs.Prelude.{◌≡◌, IfOk, map};
+ghost use Rattle.std.specs.Result.{result_ok};
+ghost use Rattle.http.specs.StatusCode.{IsStatusCode};
+ghost use Rattle.serde_json.specs.View.{items_of, items_view, view};
+ghost use Rattle.client_calls.specs.Seats.{Ran, SignerSeen, at_seat};
+ghost use Rattle.proxy_api.specs.Listing.{key_text, keys_data, keys_plan, keys_reply, upcheck_reply};
+
+use desk_machine::DeskCalls;
+use edge_kit::{Items, PubKey, hex_text};
+use key_custody::list_keys;
+use keymanager_routes::Reply;
+use serde_json::Value;
+use std::alloc::{AllocError, Global};
+
+/// The reply that says that the proxy serves. The error is want of memory.
+pub(crate) fn upcheck_reply(alloc: Global) -> Result<Reply, AllocError>
+    ensures { IfOk result (λ r. r ≡ upcheck_reply) }
+{
+    let text = String::from_str(alloc, "{\"status\":\"OK\"}")?;
+    Ok(Reply {
+        status: 200,
+        body: Items::from_vec(text.into_bytes()),
+    })
+}
+
+/// The reply that lists the active keys. The error is want of memory.
+pub(crate) fn list_public<K: DeskCalls>(alloc: Global, desk: &mut K) -> Result<Reply, AllocError>
+    requires ready { K.ready desk.old }
+    ensures ready { K.ready desk.new }
+    ensures status { IfOk result (λ r. IsStatusCode r.status) }
+    ensures runs { (s : SignerSeen) → Ran K.leads keys_plan (at_seat desk.old s) (at_seat desk.new s) (result_ok result) }
+{
+    match list_keys(alloc, desk) {
+        Ok(keys) => keys_reply(alloc, keys.as_slice()),
+        Err(AllocError) => Err(AllocError),
+    }
+}
+
+/// The reply that lists these keys.
+fn keys_reply(alloc: Global, keys: &[PubKey]) -> Result<Reply, AllocError>
+    ensures { IfOk result (λ r. r ≡ keys_reply keys.now) }
+{
+    let text = keys_value(alloc, keys)?.to_string(alloc)?;
+    Ok(Reply {
+        status: 200,
+        body: Items::from_vec(text.into_bytes()),
+    })
+}
+
+fn keys_value(alloc: Global, keys: &[PubKey]) -> Result<Value, AllocError>
+    ensures { IfOk result (λ v. view v ≡ keys_data keys.now) }
+{
+    Ok(Value::Array(key_texts(alloc, keys)?))
+}
+
+fn key_texts(alloc: Global, keys: &[PubKey]) -> Result<Vec<Value>, AllocError>
+    ensures { IfOk result (λ values. items_view values.items ≡ items_of (map key_text keys.now)) }
+{
+    let mut values = Vec::with_capacity(alloc, keys.len())?;
+    'keys: for key in keys {
+        values.push(Value::String(hex_text(alloc, &key.0)?))?;
+    }
+    Ok(values)
+}

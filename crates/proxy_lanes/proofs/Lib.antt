@@ -1,0 +1,4 @@
+mod ViewLemmas
+mod LedLemmas
+mod LaneLemmas
+mod PassLemmas
