@@ -180,8 +180,8 @@ def serve_slots(name, lack):
 
 def deletion(name, lack):
     """Where there is no memory for a connection that comes in, it is dropped without a reply, and nothing was done: the run ends with it, or serves the
-    next one. A connection that is served gets its reply, also where the duties end meanwhile for want of memory (status 8): so without one nothing was
-    done, under every status. With 503 the first few steps are done."""
+    next one, and waits for that where there is memory for none any more. A connection that is served gets its reply, also where the duties end
+    meanwhile for want of memory (status 8): so without one nothing was done, under every status. With 503 the first few steps are done."""
     row = lack.row()
     begin_deletion(name)
     first = signer.take()
@@ -198,15 +198,20 @@ def deletion(name, lack):
         came = plain(of_node)
         for call in missing(lack.usual['node'], came):
             faulty.extend(no_node(call, came) if call in (1, 2) else [(0, [])])
-    ended_so(row, lack, name, status, lines, [], faulty, failed, True)
+    if status == 'none' and lack.goes_on and not reply:
+        row.ended('none, since it waits for a connection that it has memory for', lines)
+        row.want('lines and connections that failed', (lines, failed), ([], []))
+    else:
+        ended_so(row, lack, name, status, lines, [], faulty, failed, True)
     if not lack.was_refused(name):
         replies = [done]
     elif status == 8:
         replies = [none, done] + [lacks] * lack.goes_on
-    elif status == 10:
+    elif status in (10, 'none'):
         replies = [none]
     else:
-        replies = [undone] if 'service' in failed else [done] if failed else [done, lacks, none]
+        # (where all after it are refused, the reply that says so may want memory too)
+        replies = [undone] + [lacks] * lack.goes_on if 'service' in failed else [done] if failed else [done, lacks, none]
     row.want('reply', said, *replies)
     row.want('text', reply.partition(b'\r\n\r\n')[2] if said == lacks else b'', b'{"message":"out of memory"}' if said == lacks else b'')
     row.reply_fits(reply)
