@@ -55,7 +55,7 @@ found_uniform p words (s ∷ ss) free = go (p s) (level_uniform s [] nothing_hel
 
 entered_uniform : (stop : Option (Text × List Text)) → IsUniform (entered_fault (built table) stop)
 entered_uniform None = none
-entered_uniform (Some p) = found_uniform (λ s. answers_to p.0 (label_of s)) p.1 (built table).subs (refl, (refl, (refl, (refl, (refl, (refl, tt))))))
+entered_uniform (Some p) = found_uniform (λ s. answers_to p.0 (label_of s)) p.1 (built table).subs (refl, (refl, (refl, (refl, (refl, (refl, (refl, tt)))))))
 
 fault_uniform : (words : List Text) → IsUniform (fault_of table words)
 fault_uniform words =

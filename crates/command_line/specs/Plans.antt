@@ -9,16 +9,19 @@ use Rattle.clap.specs.declared.error.kind.ErrorKind.{ErrorKind}
 use Rattle.clap.specs.declared.error.kind.ErrorKind.TheVariants.{DisplayHelp, DisplayVersion}
 use Rattle.command_line.specs.Options.{clients_in, fork_in, genesis_in, journal_in, number_in, path_at, steps_in, watch_in}
 use Rattle.command_line.specs.Serving.{serve_options_in}
+use Rattle.command_line.specs.Proxying.{proxy_options_in}
 use Rattle.command_table.specs.Table.{table}
 use Rattle.command_line.specs.declared.planned.Plan.{Plan}
-use Rattle.command_line.specs.declared.planned.Plan.TheVariants.{Session, Serve, Merge, Show, Rehearse, Shown}
+use Rattle.command_line.specs.declared.planned.Plan.TheVariants.{Session, Serve, Proxy, Merge, Show, Rehearse, Shown}
 use Rattle.command_line.specs.declared.planned.Usage.{Usage}
+use Rattle.command_line.specs.declared.proxy_options.ProxyOptions.{ProxyOptions}
 use Rattle.command_line.specs.declared.serve_options.ServeOptions.{ServeOptions}
 
--- what words ask for: a session, with its journal's path and its signing service if any and whether keys are watched, a server with its options, a merge or a showing of a journal, a rehearsal by its number, its clients and its steps, the text of help or the version, or nothing that there is
+-- what words ask for: a session, with its journal's path and its signing service if any and whether keys are watched, a server with its options, a signing proxy with its options, a merge or a showing of a journal, a rehearsal by its number, its clients and its steps, the text of help or the version, or nothing that there is
 pub data Asked : Type 0 where
   session : Root → Option (List ℕ) → Fork → Option Service → Bool → Asked
   serve : ServeOptions → Asked
+  proxy : ProxyOptions → Asked
   merge : Root → List ℕ → Asked
   show : Root → List ℕ → Asked
   rehearse : ℕ → ℕ → ℕ → Asked
@@ -29,6 +32,7 @@ pub data Asked : Type 0 where
 abbrev pub taken_as : Result Plan Usage → Asked
 taken_as (Ok (Session genesis journal fork signer watch)) = session genesis journal fork signer watch
 taken_as (Ok (Serve options)) = serve options
+taken_as (Ok (Proxy options)) = proxy options
 taken_as (Ok (Merge genesis journal)) = merge genesis journal
 taken_as (Ok (Show genesis journal)) = show genesis journal
 taken_as (Ok (Rehearse number size)) = rehearse number size.clients size.steps
@@ -70,6 +74,10 @@ show_in options = or_nothing (option_and_then (λ genesis. option_map (show gene
 abbrev pub serve_in : List Row → Asked
 serve_in options = or_nothing (option_map serve (serve_options_in options))
 
+-- the proxy of these options
+abbrev pub proxy_in : List Row → Asked
+proxy_in options = or_nothing (option_map proxy (proxy_options_in options))
+
 -- the rehearsal of these values
 abbrev pub rehearse_in : List Row → Asked
 rehearse_in options =
@@ -79,7 +87,7 @@ rehearse_in options =
 abbrev pub help_on : Option Text → Asked
 help_on None = shown
 help_on (Some name) =
-    if bytes_eq name (codes "session") || bytes_eq name (codes "serve") || bytes_eq name (codes "merge") || bytes_eq name (codes "show") || bytes_eq name (codes "rehearse") || bytes_eq name (codes "help") then shown else nothing
+    if bytes_eq name (codes "session") || bytes_eq name (codes "serve") || bytes_eq name (codes "proxy") || bytes_eq name (codes "merge") || bytes_eq name (codes "show") || bytes_eq name (codes "rehearse") || bytes_eq name (codes "help") then shown else nothing
 
 -- the help that is asked for with the value of `COMMAND`
 abbrev pub help_in : List Row → Asked
@@ -90,10 +98,11 @@ abbrev pub asked_in : Text → List Row → Asked
 asked_in name options =
     if bytes_eq name (codes "session") then session_in options
     else (if bytes_eq name (codes "serve") then serve_in options
+    else (if bytes_eq name (codes "proxy") then proxy_in options
     else (if bytes_eq name (codes "merge") then merge_in options
     else (if bytes_eq name (codes "show") then show_in options
     else (if bytes_eq name (codes "rehearse") then rehearse_in options
-    else (if bytes_eq name (codes "help") then help_in options else nothing)))))
+    else (if bytes_eq name (codes "help") then help_in options else nothing))))))
 
 -- what the subcommand that the words name asks for
 abbrev pub asked_at : Option (Text × List Row) → Asked

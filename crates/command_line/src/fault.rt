@@ -24,6 +24,9 @@ pub(crate) enum Fault<'a> {
     /// The value of `--signer` is no address of a service.
     #[error("error: invalid value '{0}' for '--signer <URL>': a URL of scheme http with a host is wanted, without user, password, query or fragment")]
     Signer(&'a str),
+    /// The value of `--genesis-time` is out of form.
+    #[error("error: invalid value '{0}' for '--genesis-time <N>': seconds since 1970 in decimal below 2^64 are wanted")]
+    GenesisTime(&'a str),
     /// The value of `--fork` is out of form.
     #[error("error: invalid value '{0}' for '--fork <PREVIOUS:CURRENT:EPOCH>': two versions, each 0x and 8 hex digits, and an epoch in decimal below 2^64 are wanted, joined by :")]
     Fork(&'a str),

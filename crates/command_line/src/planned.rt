@@ -2,6 +2,7 @@
 ghost use Rattle.std.specs.Prelude.{◌≡◌, string_bytes};
 
 use crate::path_text::PathText;
+use crate::proxy_options::ProxyOptions;
 use crate::rehearsal_size::RehearsalSize;
 use crate::serve_options::ServeOptions;
 use edge_kit::Root;
@@ -29,6 +30,9 @@ pub enum Plan {
     /// The validator client: with these options it does the duties of the active keys, turn by turn, and answers
     /// requests of the Keymanager API.
     Serve(ServeOptions),
+    /// The signing proxy: with these options it answers requests for signatures of validator clients, and those of the
+    /// Keymanager API.
+    Proxy(ProxyOptions),
     /// The interchange file on standard input, of the chain of this genesis validators root, is merged
     /// into the journal of this path.
     Merge {

@@ -75,7 +75,7 @@ fn read_options<'a>(
 }
 
 /// What a server signs for, where it keeps that, and who signs.
-fn read_signing<'a>(
+pub(crate) fn read_signing<'a>(
     alloc: Global,
     options: &ArgMatches<'a>,
 ) -> Result<Result<SigningOptions, Fault<'a>>, AllocError>
@@ -98,7 +98,7 @@ fn read_signing<'a>(
 }
 
 /// Where a server answers the Keymanager API, and the token that it wants.
-fn read_door<'a>(
+pub(crate) fn read_door<'a>(
     alloc: Global,
     options: &ArgMatches<'a>,
 ) -> Result<Result<DoorOptions, Fault<'a>>, AllocError>
@@ -183,7 +183,7 @@ fn read_services<'a>(
     Ok(Ok(Items::from_vec(services)))
 }
 
-/// The text of an option's value, to tell of it.
-fn value_of<'a>(options: &ArgMatches<'a>, id: &str) -> &'a str {
+/// The text of an option's value, for what is reported of it.
+pub(crate) fn value_of<'a>(options: &ArgMatches<'a>, id: &str) -> &'a str {
     text_of(options, id).unwrap_or("")
 }

@@ -10,11 +10,12 @@ use crate::options::{
 };
 use crate::path_text::{PathText, read_path};
 use crate::planned::{Plan, ShownText, Usage};
+use crate::proxying::proxy_plan;
 use crate::rehearsal_size::RehearsalSize;
 use crate::serving::serve_plan;
 use clap::error::ErrorKind;
 use clap::{ArgMatches, Command, Error};
-use command_table::{help, merge, program, rehearse, serve, session, show};
+use command_table::{help, merge, program, proxy, rehearse, serve, session, show};
 use edge_kit::Root;
 use phase0_types::Fork;
 use service_url::ServiceUrl;
@@ -34,6 +35,8 @@ use std::alloc::{AllocError, Global};
 ///   `--keep-epochs`, 2 or more, or `all`, which is 64 where it is absent; maybe `--timeout`, 1 to 60, which is 2 where it
 ///   is absent; and one node or more, each a URL as for `--signer`. Each number has 1 to 20 decimal digits and is below
 ///   2^64.
+/// - `proxy` with `--genesis`, `--journal`, `--signer`, `--listen` and `--token` as for `serve`, and `--genesis-time`, a
+///   number; maybe `--connections`, `--lanes` and `--quiet`, also as there.
 /// - `merge` and `show`, each with `--genesis` and `--journal`.
 /// - `rehearse` with a number, how many clients, 1 to 16, and how many steps, 0 to 20,000, each 1 to 20 decimal digits
 ///   below 2^64.
@@ -90,6 +93,7 @@ fn command_plan(
     match name {
         "session" => session_plan(alloc, options),
         "serve" => serve_plan(alloc, options),
+        "proxy" => proxy_plan(alloc, options),
         "merge" => merge_plan(alloc, options),
         "show" => show_plan(alloc, options),
         "rehearse" => rehearse_plan(alloc, options),
@@ -244,6 +248,7 @@ fn command_help(alloc: Global, name: &str) -> Result<Result<Plan, Usage>, AllocE
     match name {
         "session" => named_help(session(alloc), "validator session"),
         "serve" => named_help(serve(alloc), "validator serve"),
+        "proxy" => named_help(proxy(alloc), "validator proxy"),
         "merge" => named_help(merge(alloc), "validator merge"),
         "show" => named_help(show(alloc), "validator show"),
         "rehearse" => named_help(rehearse(alloc), "validator rehearse"),

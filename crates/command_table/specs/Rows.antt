@@ -4,7 +4,7 @@ use Rattle.command_table.specs.declared.command.Name.{Name}
 use Rattle.command_table.specs.declared.command.Name.TheVariants as name
 use Rattle.command_table.specs.declared.row.Row.{Row}
 use Rattle.command_table.specs.declared.row.Row.TheVariants as row
-use Rattle.command_table.specs.Table.{fork_rule, genesis_rule, help_shape, merge_shape, nodes_rule, option_rule, quiet_rule, rehearse_shape, serve_shape, session_shape, show_shape, value_rule, watch_rule}
+use Rattle.command_table.specs.Table.{fork_rule, genesis_rule, help_shape, merge_shape, nodes_rule, option_rule, proxy_shape, quiet_rule, rehearse_shape, serve_shape, session_shape, show_shape, value_rule, watch_rule}
 
 -- the argument of a row
 abbrev pub row_rule : Row → Rule
@@ -24,6 +24,7 @@ with_row a r = with_rule a (row_rule r)
 abbrev pub name_shape : Name → Shape
 name_shape name.Session = session_shape
 name_shape name.Serve = serve_shape
+name_shape name.Proxy = proxy_shape
 name_shape name.Merge = merge_shape
 name_shape name.Show = show_shape
 name_shape name.Rehearse = rehearse_shape

@@ -71,6 +71,18 @@ work_rules = option_rule (codes "keep-epochs") false ∷ option_rule (codes "tim
 abbrev pub serve_shape : Shape
 serve_shape = (fold with_rule (new_app (codes "serve")) (signing_rules true ++ door_rules ++ end_rules ++ work_rules ++ nodes_rule ∷ [])).top
 
+-- when the chain of a proxy began
+abbrev pub genesis_time_rule : Rule
+genesis_time_rule = option_rule (codes "genesis-time") true
+
+-- what a proxy may do without
+abbrev pub lane_rules : List Rule
+lane_rules = option_rule (codes "connections") false ∷ option_rule (codes "lanes") false ∷ quiet_rule ∷ []
+
+-- the command `proxy` with its options
+abbrev pub proxy_shape : Shape
+proxy_shape = (fold with_rule (new_app (codes "proxy")) (signing_rules true ++ genesis_time_rule ∷ door_rules ++ lane_rules)).top
+
 -- a command over a journal that there is
 abbrev pub journal_shape : Text → Shape
 journal_shape name = (with_rule (with_rule (new_app name) genesis_rule) (option_rule (codes "journal") true)).top
@@ -112,4 +124,4 @@ program_shape = record (new_app (codes "validator")).top {
 
 -- the whole command line
 abbrev pub table : App
-table = fold with_subcommand (record { top = program_shape; subs = [] }) (session_shape ∷ serve_shape ∷ merge_shape ∷ show_shape ∷ rehearse_shape ∷ help_shape ∷ [])
+table = fold with_subcommand (record { top = program_shape; subs = [] }) (session_shape ∷ serve_shape ∷ proxy_shape ∷ merge_shape ∷ show_shape ∷ rehearse_shape ∷ help_shape ∷ [])

@@ -2,7 +2,7 @@
 ghost use Rattle.std.specs.Prelude.{◌≡◌, [], IfOk, fold};
 ghost use Rattle.clap.specs.Words.{app_of, shape_of};
 ghost use Rattle.command_table.specs.Rows.{name_shape, with_name, with_row};
-ghost use Rattle.command_table.specs.Table.{table, help_shape, journal_shape, merge_shape, program_shape, rehearse_shape, serve_shape, session_shape, show_shape};
+ghost use Rattle.command_table.specs.Table.{table, help_shape, journal_shape, merge_shape, program_shape, proxy_shape, rehearse_shape, serve_shape, session_shape, show_shape};
 
 use crate::argument::argument;
 use crate::row::Row;
@@ -55,11 +55,32 @@ Options of serve:
       <NODE>...
           Beacon nodes, as http://127.0.0.1:5052, one or more, after the options [required]
 
+Options of proxy:
+      --genesis <HEX32>
+          Genesis validators root of the chain: 0x and 64 hex digits [required]
+      --journal <PATH>
+          Remembers over restarts, in PATH.a and PATH.b [required]
+      --signer <URL>
+          Signing service (Web3Signer), as http://127.0.0.1:9000 [required]
+      --genesis-time <N>
+          When the chain began, in seconds since 1970, as 1606824023 [required]
+      --listen <ADDR:PORT>
+          Where validator clients and key managers are answered, as 127.0.0.1:9001 [required]
+      --token <TEXT>
+          Requests of the Keymanager API must carry it, requests for signatures need none: 1 to 256
+          characters from ! to ~ [required]; --token-file PATH in its place names a file that holds it
+      --connections <N>
+          Ends after so many connections; for tests and scripts [default: no end]
+      --lanes <N>
+          How many connections are served at the same time, 1 to 64 [default: 4]
+      --quiet
+          Standard error has a line for each fault, and no other
+
 Options of merge and show:
       --genesis <HEX32>
           Genesis validators root of the chain: 0x and 64 hex digits [required]
       --journal <PATH>
-          Journal of a session or of serve, in PATH.a and PATH.b [required]
+          Journal of session, serve or proxy, in PATH.a and PATH.b [required]
 
 A session reads requests from standard input, one JSON object a line, and writes the answer to each
 to standard output, until the input ends. Hex digits may be of either case.";
@@ -145,13 +166,61 @@ const SERVE: [Row; 13] = [
     Row::Nodes,
 ];
 
+/// The options of `proxy`.
+const PROXY: [Row; 9] = [
+    Row::Genesis,
+    Row::Choice {
+        id: "journal",
+        name: "PATH",
+        about: "Remembers over restarts, in PATH.a and PATH.b",
+        is_required: true,
+    },
+    Row::Choice {
+        id: "signer",
+        name: "URL",
+        about: "Signing service (Web3Signer), as http://127.0.0.1:9000",
+        is_required: true,
+    },
+    Row::Choice {
+        id: "genesis-time",
+        name: "N",
+        about: "When the chain began, in seconds since 1970, as 1606824023",
+        is_required: true,
+    },
+    Row::Choice {
+        id: "listen",
+        name: "ADDR:PORT",
+        about: "Where validator clients and key managers are answered, as{n}127.0.0.1:9001",
+        is_required: true,
+    },
+    Row::Choice {
+        id: "token",
+        name: "TEXT",
+        about: "Requests of the Keymanager API must carry it, requests for{n}signatures need none: 1 to 256 characters from ! to ~;{n}--token-file PATH in its place names a file that holds it",
+        is_required: true,
+    },
+    Row::Choice {
+        id: "connections",
+        name: "N",
+        about: "Ends after so many connections; for tests and scripts{n}[default: no end]",
+        is_required: false,
+    },
+    Row::Choice {
+        id: "lanes",
+        name: "N",
+        about: "How many connections are served at the same time, 1 to 64{n}[default: 4]",
+        is_required: false,
+    },
+    Row::Quiet,
+];
+
 /// The options of a command over a journal that there is.
 const JOURNAL_OF_A_RUN: [Row; 2] = [
     Row::Genesis,
     Row::Choice {
         id: "journal",
         name: "PATH",
-        about: "Journal of a session or of serve, in PATH.a and PATH.b",
+        about: "Journal of session, serve or proxy, in PATH.a and PATH.b",
         is_required: true,
     },
 ];
@@ -180,6 +249,7 @@ const REHEARSE: [Row; 3] = [
 enum Name {
     Session,
     Serve,
+    Proxy,
     Merge,
     Show,
     Rehearse,
@@ -187,9 +257,10 @@ enum Name {
 }
 
 /// The commands of the program, in their order.
-const NAMES: [Name; 6] = [
+const NAMES: [Name; 7] = [
     Name::Session,
     Name::Serve,
+    Name::Proxy,
     Name::Merge,
     Name::Show,
     Name::Rehearse,
@@ -249,6 +320,7 @@ fn named<'a>(alloc: Global, name: Name) -> Result<Command<'a>, AllocError>
     match name {
         Name::Session => session(alloc),
         Name::Serve => serve(alloc),
+        Name::Proxy => proxy(alloc),
         Name::Merge => merge(alloc),
         Name::Show => show(alloc),
         Name::Rehearse => rehearse(alloc),
@@ -289,6 +361,16 @@ pub fn serve<'a>(alloc: Global) -> Result<Command<'a>, AllocError>
         "Does the duties of its keys and answers the Keymanager API",
     );
     with_rows(alloc, command, &SERVE)
+}
+
+/// The command `proxy` with its options, alone, for its help. The error is want of memory, and nothing stands after it.
+pub fn proxy<'a>(alloc: Global) -> Result<Command<'a>, AllocError>
+    ensures { IfOk result (λ c. shape_of c ≡ proxy_shape) }
+{
+    let command = Command::new(alloc, "proxy").about(
+        "Stands between validator clients and a signing service, and signs nothing slashable",
+    );
+    with_rows(alloc, command, &PROXY)
 }
 
 /// The command `merge` with its options, alone, for its help. The error is want of memory, and nothing stands after it.

@@ -5,4 +5,4 @@ mod argument;
 mod command;
 mod row;
 
-pub use command::{help, merge, program, rehearse, serve, session, show};
+pub use command::{help, merge, program, proxy, rehearse, serve, session, show};

@@ -2,7 +2,7 @@
 
 use crate::node_genesis::{Genesis, node_genesis};
 use crate::node_version::{NodeVersion, node_version};
-use command_line::{Plan, ServeOptions, plan};
+use command_line::{Plan, ProxyOptions, ServeOptions, plan};
 use edge_kit::Root;
 use service_url::ServiceUrl;
 use std::alloc::{AllocError, Global};
@@ -15,7 +15,7 @@ use std::rt::Clock;
 /// Reports on standard error how a server begins, a line each: the version of the program, the chain, where the server takes
 /// connections, and the services that it calls, of each node with the version that it says it has. Of a server that is quiet
 /// it reports none of that. In both cases it reports a node of another chain, or of one that began at another moment than the
-/// first node says. Of other words it reports nothing.
+/// first node says. How a signing proxy begins it reports likewise, without nodes. Of other words it reports nothing.
 ///
 /// # Errors
 ///
@@ -32,6 +32,11 @@ pub fn announce<R: Net + Eprint + Clock>(
                 announce_server(rt, &options);
             }
             look_at_nodes(rt, alloc, &options)
+        }
+        Ok(Plan::Proxy(options)) if !options.quiet => {
+            announce_program(rt, alloc)?;
+            announce_proxy(rt, &options);
+            Ok(())
         }
         _ => Ok(()),
     }
@@ -51,11 +56,29 @@ fn announce_program<R: Eprint>(rt: &R, alloc: Global) -> Result<(), AllocError> 
 
 /// Reports the chain of a server, where it takes connections, and its signing service.
 fn announce_server<R: Eprint>(rt: &R, options: &ServeOptions) {
-    let genesis = RootText(&options.genesis);
-    let _ = eprintln!(rt; "validator: genesis validators root {genesis}");
+    announce_chain(rt, &options.genesis);
     let (host, port) = (options.listen.host, options.listen.port);
     let _ = eprintln!(rt; "validator: Keymanager API at {host}:{port}");
-    let signer = UrlText(&options.signer);
+    announce_signer(rt, &options.signer);
+}
+
+/// Reports the chain of a signing proxy, where it takes connections, and its signing service.
+fn announce_proxy<R: Eprint>(rt: &R, options: &ProxyOptions) {
+    announce_chain(rt, &options.genesis);
+    let (host, port) = (options.listen.host, options.listen.port);
+    let _ = eprintln!(rt; "validator: signatures and Keymanager API at {host}:{port}");
+    announce_signer(rt, &options.signer);
+}
+
+/// Reports the chain.
+fn announce_chain<R: Eprint>(rt: &R, genesis: &Root) {
+    let genesis = RootText(genesis);
+    let _ = eprintln!(rt; "validator: genesis validators root {genesis}");
+}
+
+/// Reports the signing service.
+fn announce_signer<R: Eprint>(rt: &R, service: &ServiceUrl) {
+    let signer = UrlText(service);
     let _ = eprintln!(rt; "validator: signing service {signer}");
 }
 

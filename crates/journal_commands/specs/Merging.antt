@@ -35,6 +35,7 @@ abbrev pub IsMerge : Plan → Type 0
 IsMerge (plan.Merge genesis journal) = Unit {0}
 IsMerge (plan.Session genesis journal fork signer watch) = ⊥
 IsMerge (plan.Serve options) = ⊥
+IsMerge (plan.Proxy options) = ⊥
 IsMerge (plan.Show genesis journal) = ⊥
 IsMerge (plan.Rehearse number size) = ⊥
 IsMerge (plan.Shown text) = ⊥

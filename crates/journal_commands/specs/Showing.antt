@@ -33,6 +33,7 @@ abbrev pub IsShow : Plan → Type 0
 IsShow (plan.Show genesis journal) = Unit {0}
 IsShow (plan.Session genesis journal fork signer watch) = ⊥
 IsShow (plan.Serve options) = ⊥
+IsShow (plan.Proxy options) = ⊥
 IsShow (plan.Merge genesis journal) = ⊥
 IsShow (plan.Rehearse number size) = ⊥
 IsShow (plan.Shown text) = ⊥

@@ -1,6 +1,6 @@
 -- The files of the journal that is asked for.
 use Rattle.std.specs.Prelude.{ℕ, List, ◌++◌, Option, None, Some, codes}
-use Rattle.command_line.specs.Plans.{Asked, session, serve, merge, show, rehearse, shown, nothing}
+use Rattle.command_line.specs.Plans.{Asked, session, serve, proxy, merge, show, rehearse, shown, nothing}
 
 -- the files of a journal's path
 abbrev pub files_at : List ℕ → List ℕ × List ℕ
@@ -11,6 +11,7 @@ abbrev pub files_of : Asked → Option (List ℕ × List ℕ)
 files_of (session genesis None fork signer watch) = None
 files_of (session genesis (Some path) fork signer watch) = Some (files_at path)
 files_of (serve options) = Some (files_at options.journal)
+files_of (proxy options) = Some (files_at options.journal)
 files_of (merge genesis path) = Some (files_at path)
 files_of (show genesis path) = Some (files_at path)
 files_of (rehearse number clients steps) = None

@@ -1,6 +1,6 @@
 -- The file that words name for the token of the Keymanager API, and the words with its text in its place. The first of the
 -- words is the program's name.
-use Rattle.std.specs.Prelude.{ℕ, Bool, false, List, [], ◌∷◌, ◌++◌, Option, None, Some, if◌then◌else◌, codes, take, drop, nat_eq}
+use Rattle.std.specs.Prelude.{ℕ, Bool, false, List, [], ◌∷◌, ◌++◌, ◌||◌, Option, None, Some, if◌then◌else◌, codes, take, drop, nat_eq}
 use Rattle.std.specs.Io.BufRead.{ends_with_byte, strip_last}
 use Rattle.std.specs.List.{starts_with}
 use Rattle.std.specs.Str.{bytes_eq}
@@ -42,19 +42,19 @@ options_with text (word ∷ words) =
     else (if bytes_eq word (codes "--token-file") then pair_with text word words
     else word ∷ options_with text words))
 
--- the command, which is the second of the words, is `serve`
-abbrev pub is_serve : List (List ℕ) → Bool
-is_serve [] = false
-is_serve (program ∷ []) = false
-is_serve (program ∷ (command ∷ options)) = bytes_eq command (codes "serve")
+-- the command, which is the second of the words, takes a token: it is `serve` or `proxy`
+abbrev pub takes_token : List (List ℕ) → Bool
+takes_token [] = false
+takes_token (program ∷ []) = false
+takes_token (program ∷ (command ∷ options)) = bytes_eq command (codes "serve") || bytes_eq command (codes "proxy")
 
--- the path of the file of the token, where the command is `serve` and its options name one
+-- the path of the file of the token, where the command takes a token and its options name one
 abbrev pub token_path : List (List ℕ) → Option (List ℕ)
-token_path words = if is_serve words then path_in (drop 2 words) else None
+token_path words = if takes_token words then path_in (drop 2 words) else None
 
 -- the words with a text as the token, in the place of the option that names its file; the same words where there is none
 abbrev pub with_token : List (List ℕ) → List ℕ → List (List ℕ)
-with_token words text = if is_serve words then take 2 words ++ options_with text (drop 2 words) else words
+with_token words text = if takes_token words then take 2 words ++ options_with text (drop 2 words) else words
 
 -- a text without one line end at its end, `\n` or `\r\n`
 abbrev pub without_line_end : List ℕ → List ℕ

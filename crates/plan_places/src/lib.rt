@@ -2,14 +2,14 @@
 //! connections, and the file that holds the token.
 #![tactic(auto)]
 
-ghost use Rattle.std.specs.Prelude.{◌≡◌, [], IfOk, None, Ok, Some, false, map, option_map, string_bytes, ◌++◌};
+ghost use Rattle.std.specs.Prelude.{◌≡◌, [], IfOk, None, Ok, Some, true, false, map, option_map, string_bytes, ◌++◌};
 ghost use Rattle.command_line.specs.Plans.{asked_of, taken_as};
 ghost use Rattle.plan_places.specs.Files.{files_at, files_of};
-ghost use Rattle.plan_places.specs.Services.{connections_of, listen_of, nodes_of, quiet_of, signer_of, timeout_of, token_of, watch_of};
+ghost use Rattle.plan_places.specs.Services.{connections_of, is_proxy, listen_of, nodes_of, quiet_of, signer_of, timeout_of, token_of, watch_of};
 
 mod token_file;
 
-use command_line::{ListenAddress, NodeTimeout, Plan, ServeOptions, TokenText, plan};
+use command_line::{ListenAddress, NodeTimeout, Plan, ProxyOptions, ServeOptions, TokenText, plan};
 use service_url::ServiceUrl;
 use std::alloc::{AllocError, Global};
 pub use token_file::{token_path, with_token, without_line_end};
@@ -38,10 +38,12 @@ pub struct Services {
     pub connections: Option<u64>,
     /// The token that connections must bear, if any are taken.
     pub token: Option<TokenText>,
-    /// Whether standard error has lines of faults alone.
+    /// Whether standard error has only lines of faults.
     pub quiet: bool,
     /// Whether a server watches the keys that become active.
     pub watch: bool,
+    /// Whether validator clients call at the door, for signatures.
+    pub is_proxy: bool,
 }
 
 /// What the words of a command line name of the outside; nothing where they are no command.
@@ -59,6 +61,7 @@ pub fn named(alloc: Global, words: &[String]) -> Result<Places, AllocError>
     ensures token { IfOk result (λ x. x.services.token ≡ token_of (asked_of (map string_bytes words.now))) }
     ensures quiet { IfOk result (λ x. x.services.quiet ≡ quiet_of (asked_of (map string_bytes words.now))) }
     ensures watch { IfOk result (λ x. x.services.watch ≡ watch_of (asked_of (map string_bytes words.now))) }
+    ensures proxy { IfOk result (λ x. x.services.is_proxy ≡ is_proxy (asked_of (map string_bytes words.now))) }
 {
     match plan(alloc, words)? {
         Ok(plan) => named_by(alloc, plan),
@@ -80,6 +83,7 @@ fn named_by(alloc: Global, plan: Plan) -> Result<Places, AllocError>
     ensures token { IfOk result (λ x. x.services.token ≡ token_of (taken_as (Ok plan))) }
     ensures quiet { IfOk result (λ x. x.services.quiet ≡ quiet_of (taken_as (Ok plan))) }
     ensures watch { IfOk result (λ x. x.services.watch ≡ watch_of (taken_as (Ok plan))) }
+    ensures proxy { IfOk result (λ x. x.services.is_proxy ≡ is_proxy (taken_as (Ok plan))) }
 {
     let files = plan_files(alloc, &plan)?;
     let services = services_in(alloc, plan);
@@ -96,6 +100,7 @@ fn no_services(alloc: Global) -> Services
     ensures token { result.token ≡ None }
     ensures quiet { result.quiet ≡ false }
     ensures watch { result.watch ≡ false }
+    ensures proxy { result.is_proxy ≡ false }
 {
     Services {
         signer: None,
@@ -106,6 +111,7 @@ fn no_services(alloc: Global) -> Services
         token: None,
         quiet: false,
         watch: false,
+        is_proxy: false,
     }
 }
 
@@ -119,9 +125,11 @@ fn services_in(alloc: Global, plan: Plan) -> Services
     ensures token { result.token ≡ token_of (taken_as (Ok plan)) }
     ensures quiet { result.quiet ≡ quiet_of (taken_as (Ok plan)) }
     ensures watch { result.watch ≡ watch_of (taken_as (Ok plan)) }
+    ensures proxy { result.is_proxy ≡ is_proxy (taken_as (Ok plan)) }
 {
     match plan {
         Plan::Serve(options) => services_of(options),
+        Plan::Proxy(options) => services_of_proxy(alloc, options),
         Plan::Session { signer, .. } => Services {
             signer,
             nodes: Vec::new(alloc),
@@ -131,6 +139,7 @@ fn services_in(alloc: Global, plan: Plan) -> Services
             token: None,
             quiet: false,
             watch: false,
+            is_proxy: false,
         },
         _ => no_services(alloc),
     }
@@ -146,6 +155,7 @@ fn services_of(options: ServeOptions) -> Services
     ensures token { result.token ≡ Some options.token }
     ensures quiet { result.quiet ≡ options.quiet }
     ensures watch { result.watch ≡ options.watch }
+    ensures proxy { result.is_proxy ≡ false }
 {
     let ServeOptions {
         genesis: _genesis,
@@ -171,6 +181,43 @@ fn services_of(options: ServeOptions) -> Services
         token: Some(token),
         quiet,
         watch,
+        is_proxy: false,
+    }
+}
+
+/// What the options of a signing proxy name of the network.
+fn services_of_proxy(alloc: Global, options: ProxyOptions) -> Services
+    ensures signer { result.signer ≡ Some options.signer }
+    ensures nodes { result.nodes.items ≡ [] }
+    ensures timeout { result.timeout ≡ None }
+    ensures listen { result.listen ≡ Some options.listen }
+    ensures connections { result.connections ≡ Some options.connections }
+    ensures token { result.token ≡ Some options.token }
+    ensures quiet { result.quiet ≡ options.quiet }
+    ensures watch { result.watch ≡ false }
+    ensures proxy { result.is_proxy ≡ true }
+{
+    let ProxyOptions {
+        genesis: _genesis,
+        journal: _journal,
+        signer,
+        genesis_time: _genesis_time,
+        listen,
+        token,
+        connections,
+        lanes: _lanes,
+        quiet,
+    } = options;
+    Services {
+        signer: Some(signer),
+        nodes: Vec::new(alloc),
+        timeout: None,
+        listen: Some(listen),
+        connections: Some(connections),
+        token: Some(token),
+        quiet,
+        watch: false,
+        is_proxy: true,
     }
 }
 
@@ -184,6 +231,7 @@ fn plan_files(alloc: Global, plan: &Plan) -> Result<Option<(String, String)>, Al
             None => return Ok(None),
         },
         Plan::Serve(options) => options.journal.as_str(),
+        Plan::Proxy(options) => options.journal.as_str(),
         Plan::Merge { journal, .. } | Plan::Show { journal, .. } => journal.as_str(),
         Plan::Rehearse { .. } | Plan::Shown(_) => return Ok(None),
     };

@@ -1,7 +1,7 @@
 //! The file that words name for the token of the Keymanager API, so that no list of processes shows the token.
 ghost use Rattle.std.specs.Prelude.{◌≡◌, ◌++◌, ◌<◌, IfOk, length, map, option_map, string_bytes};
 ghost use Rattle.std.specs.Io.BufRead.{strip_last};
-ghost use Rattle.plan_places.specs.TokenFiles.{is_joined, is_serve, token_path, token_word, with_token, without_line_end};
+ghost use Rattle.plan_places.specs.TokenFiles.{is_joined, takes_token, token_path, token_word, with_token, without_line_end};
 ghost use Rattle.plan_places.specs.TokenPlaces.{IsPlaceOf};
 
 use std::alloc::{AllocError, Global};
@@ -25,7 +25,7 @@ enum Place {
 }
 
 /// The path of the file that holds the token: the value of the first `--token-file` of the words, the first of which is
-/// the program's name. None where the second one is not `serve`, or no such option with a value comes before a word `--`.
+/// the program's name. None where the second one is not `serve` or `proxy`, or no such option with a value comes before a word `--`.
 pub fn token_path(words: &[String]) -> Option<&str>
     ensures { option_map (λ path. path.now) result ≡ token_path (map string_bytes words.now) }
 {
@@ -89,11 +89,11 @@ fn token_word(alloc: Global, text: &str) -> Result<String, AllocError>
     format!(in alloc; "--token={text}")
 }
 
-/// Where words have the option, if the command is `serve`.
+/// Where words have the option, if the command takes a token.
 fn place_of(words: &[String]) -> Option<Place>
     ensures { IsPlaceOf (map string_bytes words.now) result }
 {
-    if !is_serve(words) {
+    if !takes_token(words) {
         return None;
     }
     'words: for index in 2..words.len() {
@@ -118,12 +118,12 @@ fn is_joined(word: &str) -> bool
     word.starts_with(JOINED)
 }
 
-/// Whether the command is `serve`.
-fn is_serve(words: &[String]) -> bool
-    ensures { result ≡ is_serve (map string_bytes words.now) }
+/// Whether the command takes a token: it is `serve` or `proxy`.
+fn takes_token(words: &[String]) -> bool
+    ensures { result ≡ takes_token (map string_bytes words.now) }
 {
     match words {
-        [_, command, ..] => command.as_str() == "serve",
+        [_, command, ..] => command.as_str() == "serve" || command.as_str() == "proxy",
         _ => false,
     }
 }

@@ -53,7 +53,7 @@ fn open_to_all(target: &[u8]) -> Option<(&'static str, Wanted)>
     }
 }
 
-/// What is wanted of a request that names it, where the request has this method.
+/// What a request wants whose target names it, where it has this method.
 fn by_method(request: &Request, method: &str, wanted: Wanted) -> Result<Wanted, Stop>
     ensures { Gives result (by_method method.now wanted request.now) }
 {

@@ -24,11 +24,11 @@ use std::alloc::{AllocError, Global};
 /// and where the sender waits for that asks for it first; answers the request at an epoch, sends the reply and hangs up. What is no
 /// request has its reply as well.
 ///
-/// A request for a signature (`POST` of `/api/v1/eth2/sign/`, and the public key) is answered by `sign_proxy::sign_reply`, for the
+/// A request for a signature (`POST` of `/api/v1/eth2/sign/` and the public key after it) is answered by `sign_proxy::sign_reply`, for the
 /// chain with this root of its genesis validators; no token is looked at. The grant of a signature is settled as sent where a
 /// byte of the reply with it was sent, else as dropped. `GET` of `/api/v1/eth2/publicKeys` lists the active keys, and that of
-/// `/upcheck` says `{"status":"OK"}`, to anyone. Any other request is one of the Keymanager API, answered as
-/// `keymanager_api::answer` does where this token is wanted.
+/// `/upcheck` says `{"status":"OK"}`, to anyone. Another method at one of these three is refused with status 405. Any other
+/// request is one of the Keymanager API, answered as `keymanager_api::answer` does where this token is wanted.
 ///
 /// Where memory runs out, in reading, in what is done or in writing, the reply is status 503, from a constant text; in what is
 /// done the first few calls are done then, each whole, and the grant of a signature is settled as dropped.

@@ -11,6 +11,7 @@ use Rattle.command_table.proofs.command.with_command.Goals as goal
 is_plain_named : (n : Name) → (name_shape n).is_plain ≡ true
 is_plain_named name.Session = refl
 is_plain_named name.Serve = refl
+is_plain_named name.Proxy = refl
 is_plain_named name.Merge = refl
 is_plain_named name.Show = refl
 is_plain_named name.Rehearse = refl
