@@ -83,7 +83,7 @@ module _ {K : Type 0} (leads : K → List (DeskCall × DeskReply) → K → Type
     read_led token genesis now (Ok request) a b s p = wanted_led genesis now request (wanted_for token request) a b s p
     read_led token genesis now (Err e) a b s p = plan_led _ a b s p
 
-  attends_led : (p : Terms) (x y : LinkSeen) (a b : Seat K) (failed : Bool) → Attends leads p x y a b failed → Led a.desk b.desk
+  pub attends_led : (p : Terms) (x y : LinkSeen) (a b : Seat K) (failed : Bool) → Attends leads p x y a b failed → Led a.desk b.desk
   attends_led p x y a b failed d =
       both a.desk d.answered.desk b.desk (read_led d.serves.held y.held x.faults y.faults p.token p.genesis _ d.serves.read a d.answered d.served d.serves.does) (asks_failed failed, d.asked)
 

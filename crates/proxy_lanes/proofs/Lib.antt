@@ -1,4 +1,4 @@
 mod ViewLemmas
-mod LedLemmas
+pub mod LedLemmas
 mod LaneLemmas
 mod PassLemmas

@@ -1,4 +1,4 @@
-//! The validator client: the real objects, and the top call.
+//! The validator client and the signing proxy: the real objects, and the top call.
 #![tactic(auto)]
 
 ghost use Rattle.std.specs.Prelude.{◌≡◌, [], IfOk};
@@ -11,7 +11,7 @@ use crate::token::{TokenNote, TokenWords, token_words};
 use beacon_node::BeaconNode;
 use command_line::{ListenAddress, NodeTimeout, TokenText};
 use edge_clock::{Halt, SystemClock};
-use edge_door::TcpDoor;
+use edge_door::{Callers, TcpDoor};
 use edge_kit::{Disk, Disks, Door, MemDisk};
 use edge_services::{ToldNode, ToldSigner, announce, link_to_signer, node_link};
 use edge_sockets::{Peers, TcpLink};
@@ -42,10 +42,11 @@ struct NodePlaces {
     timeout: NodeTimeout,
 }
 
-/// Where connections are taken, if anywhere, how many, and the token that they must bear.
+/// Where connections are taken, if anywhere, of whom, how many, and the token that those of key managers must bear.
 #[derive(Drop)]
 struct DoorPlace {
     listen: Option<ListenAddress>,
+    callers: Callers,
     connections: Option<u64>,
     token: Option<TokenText>,
 }
@@ -141,6 +142,7 @@ fn door_at<'a, R: Net + Eprint + Clock>(
 ) -> Result<TcpDoor<'a, &'a R>, AllocError> {
     let DoorPlace {
         listen,
+        callers,
         connections,
         token,
     } = place;
@@ -154,6 +156,7 @@ fn door_at<'a, R: Net + Eprint + Clock>(
     let token = token.as_ref().map_or("", |token| token.as_str());
     let token = String::from_str(alloc, token)?;
     let mut door = TcpDoor::new(alloc, rt, host, port, token, shared.halt);
+    door.set_callers(callers);
     door.set_reports(shared.reports);
     door.set_count(connections.unwrap_or(u64::MAX));
     Ok(door)
@@ -184,9 +187,11 @@ where
         token,
         quiet: _quiet,
         watch: _watch,
+        is_proxy,
     } = services;
     let place = DoorPlace {
         listen,
+        callers: callers_of(is_proxy),
         connections,
         token,
     };
@@ -271,7 +276,10 @@ fn run<
     nodes: Vec<N>,
     door: E,
     shared: Shared<'_>,
-) -> Status {
+) -> Status
+where
+    E::Conn: Send + Drop,
+{
     let Shared {
         halt,
         notes,
@@ -444,6 +452,15 @@ fn take_streams<R: Files<File = File> + Print + Eprint>(
         Ok(streams)
     } else {
         Err(Status::DiskFault)
+    }
+}
+
+/// Who calls at the door of a signing proxy, or of another server.
+fn callers_of(is_proxy: bool) -> Callers {
+    if is_proxy {
+        Callers::ValidatorClients
+    } else {
+        Callers::KeyManagers
     }
 }
 

@@ -7,7 +7,7 @@ use Rattle.program_end.specs.declared.closing.ClosingLine.TheVariants as closing
 use Rattle.program_end.specs.declared.status.Status.{Status}
 use Rattle.program_end.specs.declared.status.Status.TheVariants as status
 use Rattle.program_end.proofs.ClosingLemmas.{closed_by, ended_by}
-use Rattle.command_line.specs.Plans.{Asked, session, serve, merge, show, rehearse, shown, nothing}
+use Rattle.command_line.specs.Plans.{Asked, session, serve, proxy, merge, show, rehearse, shown, nothing}
 use Rattle.journal_commands.specs.Views.{Output, EndsBy, Unwritten}
 use Rattle.validator_cli.specs.Rehearsing.{IsRehearsalComplete, RehearsalEnds}
 use Rattle.validator_cli.specs.Endings.{Outside, Causes, DoesNothing, EndsAs, IsComplete, IsWithin, NoCommand, RunEnds}
@@ -60,6 +60,7 @@ refused_causes before now left Reads Disk s asked is ends = caused_for nothing a
 want_complete : (asked : Asked) (left : Option (List ℕ)) → IsWithin asked left → IsComplete asked status.OutOfMemory
 want_complete (session genesis journal fork signer watch) left within = tt
 want_complete (serve options) left within = absurd within
+want_complete (proxy options) left within = absurd within
 want_complete (merge genesis journal) left within = tt
 want_complete (show genesis journal) left within = tt
 want_complete (rehearse number clients steps) left within = tt

@@ -14,7 +14,7 @@ use Rattle.program_end.specs.declared.status.Status.TheVariants as status
 use Rattle.session_run.specs.Acts.{AtBench}
 use Rattle.session_run.specs.Ends.{Ends, Wires}
 use Rattle.session_run.specs.Inputs.{WithinLimits}
-use Rattle.command_line.specs.Plans.{Asked, session, serve, merge, show, rehearse, shown, nothing}
+use Rattle.command_line.specs.Plans.{Asked, session, serve, proxy, merge, show, rehearse, shown, nothing}
 use Rattle.command_line.specs.declared.planned.Plan.{Plan}
 use Rattle.command_line.specs.declared.planned.Plan.TheVariants as plan
 use Rattle.journal_commands.specs.Views.{Output, View, ClosedBy, EndsBy, view_of}
@@ -82,15 +82,27 @@ pub record NotBegun (before now : Outside) (ended : Status) : Type 0 where
   pub same : now ≡ before
   pub is : ended ≡ status.OutOfMemory
 
--- the words ask for something else than the validator client, whose ends stand apart
+-- the words ask for something else than a server, which is the validator client or the signing proxy: their ends stand apart
 abbrev pub IsOther : Asked → Type 0
 IsOther (serve options) = ⊥
+IsOther (proxy options) = ⊥
 IsOther asked = Unit {0}
 
--- what was asked for, beside the validator client, was done, or ended as it may
+-- they do not ask for the validator client
+abbrev pub IsNoClient : Asked → Type 0
+IsNoClient (serve options) = ⊥
+IsNoClient asked = Unit {0}
+
+-- they do not ask for the signing proxy
+abbrev pub IsNoProxy : Asked → Type 0
+IsNoProxy (proxy options) = ⊥
+IsNoProxy asked = Unit {0}
+
+-- what was asked for, if it was no server, was done, or ended as it may
 abbrev pub EndsAs : {D : Type 0} → (D → List ℕ → Type 0) → (D → ℕ) → (D → ℕ → List ℕ → Type 0) → (D → ℕ) → Asked → Disks D → Disks D → Outside → Outside → List DeskEvent → Status → Type 0
 EndsAs shows moment leaves faults (session genesis journal fork signer watch) disks_before disks_now before now events s = SessionEnds shows moment leaves faults (record { fork = fork; genesis = genesis }) watch disks_before disks_now before now events s
 EndsAs shows moment leaves faults (serve options) disks_before disks_now before now events s = ⊥
+EndsAs shows moment leaves faults (proxy options) disks_before disks_now before now events s = ⊥
 EndsAs shows moment leaves faults (merge genesis journal) disks_before disks_now before now events s = MergeEnds shows moment leaves faults genesis disks_before disks_now before.view now.view events s × Unasked before now
 EndsAs shows moment leaves faults (show genesis journal) disks_before disks_now before now events s = ShowEnds shows moment leaves faults genesis disks_before disks_now before.view.out now.view.out events s × IsUntouched before now
 EndsAs shows moment leaves faults (rehearse number clients steps) disks_before disks_now before now events s = RehearsalEnds number clients steps before.view.out now.view.out s × DoesNothing disks_before disks_now before now events
@@ -108,6 +120,7 @@ RunEnds shows moment leaves faults asked disks_before disks_now before now event
 abbrev pub IsWithin : Asked → Option (List ℕ) → Type 0
 IsWithin (session genesis journal fork signer watch) left = WithinLimits left
 IsWithin (serve options) left = ⊥
+IsWithin (proxy options) left = ⊥
 IsWithin (merge genesis journal) left = WithinLimit file_limit left
 IsWithin (show genesis journal) left = Unit {0}
 IsWithin (rehearse number clients steps) left = Unit {0}
@@ -127,6 +140,7 @@ IsSessionComplete s = ⊥
 abbrev pub IsComplete : Asked → Status → Type 0
 IsComplete (session genesis journal fork signer watch) s = IsSessionComplete s
 IsComplete (serve options) s = ⊥
+IsComplete (proxy options) s = ⊥
 IsComplete (merge genesis journal) s = IsMergeComplete s
 IsComplete (show genesis journal) s = IsShowComplete s
 IsComplete (rehearse number clients steps) s = IsRehearsalComplete s
@@ -145,7 +159,14 @@ pub record Causes (asked : Asked) (left : Option (List ℕ)) (Reads Writes Disk 
 abbrev pub IsSession : Plan → Type 0
 IsSession (plan.Session genesis journal fork signer watch) = Unit {0}
 IsSession (plan.Serve options) = ⊥
+IsSession (plan.Proxy options) = ⊥
 IsSession (plan.Merge genesis journal) = ⊥
 IsSession (plan.Show genesis journal) = ⊥
 IsSession (plan.Rehearse number size) = ⊥
 IsSession (plan.Shown text) = ⊥
+
+-- the plan is that of a server
+abbrev pub IsServer : Plan → Type 0
+IsServer (plan.Serve options) = Unit {0}
+IsServer (plan.Proxy options) = Unit {0}
+IsServer p = ⊥

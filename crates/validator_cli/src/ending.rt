@@ -5,8 +5,9 @@ use program_end::Status;
 use serve_run::LaneEnd;
 
 /// The status, the objects that were handed in, and what the desk did, as contracts speak of it. `lanes` has the signing
-/// service and the nodes of each lane that was made, other accesses to those that were handed in; it is empty where none
-/// were made. `events` is empty where no desk was opened.
+/// service and the nodes of each lane of the validator client, other accesses to those that were handed in; it is empty where
+/// none were made. `signers` has the signing service of each lane of the signing proxy likewise. `events` is empty where no
+/// desk was opened.
 #[derive(Drop)]
 pub struct Ending<D, S, N, R> {
     pub status: Status,
@@ -15,5 +16,6 @@ pub struct Ending<D, S, N, R> {
     pub nodes: Vec<N>,
     pub door: R,
     pub lanes: Vec<LaneEnd<S, N>>,
+    pub signers: Vec<S>,
     pub events: Events,
 }

@@ -2,9 +2,11 @@
 #![tactic(auto)]
 
 mod ending;
+mod proxy;
 mod rehearse;
 mod run;
 mod serve;
+mod server;
 mod session;
 mod usage;
 

@@ -1,18 +1,22 @@
 //! The top call.
 ghost use Rattle.std.specs.Prelude.{◌≡◌, ◌⊎◌, ◌≤◌, ℕ, List, [], map, string_bytes};
 ghost use Rattle.edge_kit.specs.Causes.{Rose};
+ghost use Rattle.client_calls.specs.Seats.{signer_seen};
 ghost use Rattle.record_journal.specs.TwoDisks.{EitherRose};
 ghost use Rattle.keymanager_api.specs.Doors.{link_seen};
-ghost use Rattle.command_line.specs.Plans.{asked_of, nothing, serve};
+ghost use Rattle.command_line.specs.Plans.{asked_of, nothing, proxy, serve};
+ghost use Rattle.command_line.specs.declared.proxy_options.ProxyOptions.{ProxyOptions};
 ghost use Rattle.command_line.specs.declared.serve_options.ServeOptions.{ServeOptions};
 ghost use Rattle.journal_commands.specs.Views.{Unwritten, output_of};
 ghost use Rattle.serve_run.specs.Ends.{Because};
+ghost use Rattle.proxy_run.specs.Ends.{ProxyEnds};
+ghost use Rattle.proxy_run.specs.Parts.{parts_seen as proxy_parts};
 ghost use Rattle.validator_cli.specs.Clients.{ClientRuns, parts_of};
-ghost use Rattle.validator_cli.specs.Endings.{Causes, IsComplete, IsOther, IsWithin, NoCommand, RunEnds, outside_of};
+ghost use Rattle.validator_cli.specs.Endings.{Causes, IsComplete, IsNoClient, IsNoProxy, IsOther, IsWithin, NoCommand, RunEnds, outside_of};
 
 use crate::ending::Ending;
 use crate::rehearse::run_rehearse;
-use crate::serve::{is_serve, run_client};
+use crate::server::{is_server, run_server};
 use crate::session::run_session;
 use crate::usage::usage_line;
 use check_sign::Events;
@@ -50,12 +54,18 @@ pub fn run_validator<
     input: &mut I,
     out: &mut O,
 ) -> Ending<D, S, N, R>
+where
+    R::Conn: Send + Drop,
     ensures ending { IsOther (asked_of (map string_bytes words.now)) → RunEnds D.shows D.moment D.leaves D.faults (asked_of (map string_bytes words.now)) disks result.disks
         (outside_of I.left I.faults O.held O.faults S.told S.faults S.denials input.old out.old signer) (outside_of I.left I.faults O.held O.faults S.told S.faults S.denials input.new out.new result.signer) result.events.items result.status }
     ensures serves { (options : ServeOptions) → asked_of (map string_bytes words.now) ≡ serve options
         → ClientRuns D.shows D.moment D.leaves D.faults (link_seen R.Conn.left R.Conn.held R.Conn.faults) (C.start clock) options disks result.disks
         (parts_of S.told S.faults S.denials N.told N.faults R.coming R.finished R.faults O.held O.faults signer nodes.items [] [] door out.old)
         (λ flags. parts_of S.told S.faults S.denials N.told N.faults R.coming R.finished R.faults O.held O.faults result.signer result.nodes.items flags result.lanes.items result.door out.new) result.events.items result.status }
+    ensures proxies { (options : ProxyOptions) → asked_of (map string_bytes words.now) ≡ proxy options
+        → ProxyEnds D.shows D.moment D.leaves D.faults (link_seen R.Conn.left R.Conn.held R.Conn.faults) (C.start clock) options (signer_seen S.told S.faults S.denials signer) disks result.disks
+        (proxy_parts S.told S.faults S.denials R.coming R.finished R.lent R.faults O.held O.faults [] door out.old)
+        (proxy_parts S.told S.faults S.denials R.coming R.finished R.lent R.faults O.held O.faults result.signers.items result.door out.new) result.events.items result.status }
     ensures usage { result.status ≡ Status.Usage → asked_of (map string_bytes words.now) ≡ nothing }
     ensures no_command { asked_of (map string_bytes words.now) ≡ nothing
         → (result.status ≡ Status.Usage) ⊎ (result.status ≡ Status.WriteFault) ⊎ (result.status ≡ Status.OutOfMemory) }
@@ -67,13 +77,17 @@ pub fn run_validator<
         → IsComplete (asked_of (map string_bytes words.now)) result.status }
     ensures served { (options : ServeOptions) → asked_of (map string_bytes words.now) ≡ serve options
         → Because (Rose (O.faults out.old) (O.faults out.new)) (EitherRose D.faults disks result.disks) (Rose (R.faults door) (R.faults result.door)) result.status }
-    ensures unread { (options : ServeOptions) → asked_of (map string_bytes words.now) ≡ serve options → input.new ≡ input.old }
-    ensures nodes { IsOther (asked_of (map string_bytes words.now)) → result.nodes ≡ nodes }
+    ensures proxied { (options : ProxyOptions) → asked_of (map string_bytes words.now) ≡ proxy options
+        → Because (Rose (O.faults out.old) (O.faults out.new)) (EitherRose D.faults disks result.disks) (Rose (R.faults door) (R.faults result.door)) result.status }
+    ensures unread { ¬ (IsOther (asked_of (map string_bytes words.now))) → input.new ≡ input.old }
+    ensures signer { (options : ProxyOptions) → asked_of (map string_bytes words.now) ≡ proxy options → result.signer ≡ signer }
+    ensures nodes { IsNoClient (asked_of (map string_bytes words.now)) → result.nodes ≡ nodes }
     ensures door { IsOther (asked_of (map string_bytes words.now)) → result.door ≡ door }
-    ensures lanes { IsOther (asked_of (map string_bytes words.now)) → result.lanes.items ≡ [] }
+    ensures lanes { IsNoClient (asked_of (map string_bytes words.now)) → result.lanes.items ≡ [] }
+    ensures signers { IsNoProxy (asked_of (map string_bytes words.now)) → result.signers.items ≡ [] }
 {
-    match is_serve(alloc, words) {
-        Ok(Some(plan)) => run_client(rt, alloc, &plan, disks, signer, nodes, &clock, door, out),
+    match is_server(alloc, words) {
+        Ok(Some(plan)) => run_server(rt, alloc, &plan, disks, signer, nodes, &clock, door, out),
         Ok(None) => run_other(alloc, words, disks, signer, nodes, door, input, out),
         Err(AllocError) => unbegun(alloc, disks, signer, nodes, door),
     }
@@ -93,6 +107,7 @@ fn unbegun<D, S, N, R>(
     ensures nodes { result.nodes ≡ nodes }
     ensures door { result.door ≡ door }
     ensures lanes { result.lanes.items ≡ [] }
+    ensures signers { result.signers.items ≡ [] }
     ensures events { result.events.items ≡ [] }
 {
     Ending {
@@ -102,11 +117,12 @@ fn unbegun<D, S, N, R>(
         nodes,
         door,
         lanes: Vec::new(alloc),
+        signers: Vec::new(alloc),
         events: Events::new(),
     }
 }
 
-/// Does what words say that ask for something else than the validator client.
+/// Does what words say that ask for something else than a server.
 fn run_other<D: Disk, S: Signer, N, R, I: Source, O: Sink>(
     alloc: Global,
     words: &[String],
@@ -125,6 +141,7 @@ fn run_other<D: Disk, S: Signer, N, R, I: Source, O: Sink>(
     ensures nodes { result.nodes ≡ nodes }
     ensures door { result.door ≡ door }
     ensures lanes { result.lanes.items ≡ [] }
+    ensures signers { result.signers.items ≡ [] }
 {
     let (status, disks, signer, events) = run_words(alloc, words, disks, signer, input, out);
     Ending {
@@ -134,6 +151,7 @@ fn run_other<D: Disk, S: Signer, N, R, I: Source, O: Sink>(
         nodes,
         door,
         lanes: Vec::new(alloc),
+        signers: Vec::new(alloc),
         events,
     }
 }
@@ -162,7 +180,7 @@ fn run_words<D: Disk, S: Signer, I: Source, O: Sink>(
         Err(AllocError) => return (Status::OutOfMemory, disks, signer, Events::new()),
     };
     match &planned {
-        Plan::Serve(_) => unreachable!(),
+        Plan::Serve(_) | Plan::Proxy(_) => unreachable!(),
         Plan::Session { .. } => run_session(alloc, &planned, disks, signer, input, out),
         Plan::Merge { .. } => {
             let (status, disks, events) = run_merge(alloc, &planned, disks, input, out);

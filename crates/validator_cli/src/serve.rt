@@ -1,42 +1,23 @@
 //! The validator client over the objects that are handed in.
-ghost use Rattle.std.specs.Prelude.{◌≡◌, [], IfOk, IfSome, IfNone, map, string_bytes};
+ghost use Rattle.std.specs.Prelude.{◌≡◌, []};
 ghost use Rattle.edge_kit.specs.Causes.{Rose};
 ghost use Rattle.record_journal.specs.TwoDisks.{EitherRose};
 ghost use Rattle.keymanager_api.specs.Doors.{link_seen};
-ghost use Rattle.command_line.specs.Plans.{asked_of, serve};
 ghost use Rattle.command_line.specs.declared.serve_options.ServeOptions.{ServeOptions};
 ghost use Rattle.serve_run.specs.Ends.{Because, IsServe};
 ghost use Rattle.validator_cli.specs.Clients.{ClientEnds, parts_of};
-ghost use Rattle.validator_cli.specs.Endings.{IsOther};
 
 use crate::ending::Ending;
-use command_line::{Plan, plan};
+use command_line::Plan;
 use edge_clock::Clock;
 use edge_kit::{Disk, Disks, Door, Sink};
 use node_calls::Node;
 use node_fallback::Nodes;
 use serve_run::{ServeEnd, run_serve};
 use signer_link::Signer;
-use std::alloc::{AllocError, Global};
+use std::alloc::Global;
 use std::sync::Wait;
 use std::thread::Threads;
-
-/// The plan of words that ask for the validator client; none where they ask for something else.
-pub(crate) fn is_serve(alloc: Global, words: &[String]) -> Result<Option<Plan>, AllocError>
-    ensures serve { IfOk result (λ found. IfSome found IsServe) }
-    ensures plan { IfOk result (λ found. IfSome found (λ p. (options : ServeOptions) → asked_of (map string_bytes words.now) ≡ serve options → p ≡ Plan.Serve options)) }
-    ensures client { IfOk result (λ found. IfSome found (λ p. ¬ (IsOther (asked_of (map string_bytes words.now))))) }
-    ensures other { IfOk result (λ found. IfNone found (IsOther (asked_of (map string_bytes words.now)))) }
-{
-    let Ok(planned) = plan(alloc, words)? else {
-        return Ok(None);
-    };
-    match planned {
-        Plan::Serve(options) => Ok(Some(Plan::Serve(options))),
-        Plan::Session { .. } | Plan::Merge { .. } | Plan::Show { .. } => Ok(None),
-        Plan::Rehearse { .. } | Plan::Shown(_) => Ok(None),
-    }
-}
 
 /// Runs the validator client of a plan.
 pub(crate) fn run_client<
@@ -64,6 +45,7 @@ pub(crate) fn run_client<
         (parts_of S.told S.faults S.denials N.told N.faults R.coming R.finished R.faults O.held O.faults signer nodes.items [] [] door out.old)
         (λ flags. parts_of S.told S.faults S.denials N.told N.faults R.coming R.finished R.faults O.held O.faults result.signer result.nodes.items flags result.lanes.items result.door out.new) result.events.items result.status }
     ensures causes { Because (Rose (O.faults out.old) (O.faults out.new)) (EitherRose D.faults disks result.disks) (Rose (R.faults door) (R.faults result.door)) result.status }
+    ensures signers { result.signers.items ≡ [] }
 {
     let mut nodes = Nodes::new(alloc, nodes);
     let ServeEnd {
@@ -89,6 +71,7 @@ pub(crate) fn run_client<
         nodes: nodes.into_nodes(),
         door,
         lanes,
+        signers: Vec::new(alloc),
         events,
     }
 }

@@ -1,0 +1,4 @@
+mod HandLemmas
+mod BegunLemmas
+mod LaneLemmas
+mod DeskLemmas
