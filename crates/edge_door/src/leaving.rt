@@ -1,15 +1,18 @@
 //! Connections that were served, and whose replies the system has not taken yet, or may still take back.
+use crate::allowance::Allowance;
+use crate::api::Api;
+use crate::callers::Callers;
 use crate::rest::Rest;
 use edge_sockets::{Heard, Span, Visible, is_later};
 use std::alloc::{AllocError, Global};
-use std::io;
 use std::io::{Eprint, Read, Write};
 use std::net::{OpenStream, Shutdown};
 use std::rt::Clock;
 use std::time::Duration;
+use std::{io, thread};
 
-/// How many connections leave at most.
-const PLACES: usize = 8;
+/// For how many milliseconds whoever waits until a reply is sent waits at most before more of it is sent.
+const LONGEST_NAP: u64 = 50;
 
 /// How many bytes are read of a connection at a time.
 const PIECE_BYTES: usize = 16_384;
@@ -27,7 +30,10 @@ enum Stage {
     Sends(Span),
     /// Its reply was sent, and what its peer still sends is read and dropped, so that the system does not take the reply
     /// back: within the whole of the one span, and as long as the peer is silent no longer than the other one.
-    Reads { whole: Span, silence: Span },
+    Reads {
+        whole: Allowance,
+        silence: Allowance,
+    },
     /// Nothing goes over it any more.
     Over,
 }
@@ -44,6 +50,29 @@ impl Stage {
             Stage::Over => Ok(Stage::Over),
         }
     }
+
+    // The same stage, whose time of reading is no shorter by this pause.
+    fn with_pause(self, pause: Duration) -> Stage {
+        match self {
+            Stage::Reads { whole, silence } => Stage::Reads {
+                whole: whole.with_pause(pause),
+                silence: silence.with_pause(pause),
+            },
+            Stage::Sends(_) | Stage::Over => self,
+        }
+    }
+
+    // The same stage, of which the whole time of reading begins now. Where the peer was silent for long enough before, it
+    // still was.
+    fn with_reading<C: Clock>(self, clock: &C) -> io::Result<Stage> {
+        match self {
+            Stage::Reads { whole, silence } => Ok(Stage::Reads {
+                whole: whole.again(clock)?,
+                silence,
+            }),
+            Stage::Sends(_) | Stage::Over => Ok(self),
+        }
+    }
 }
 
 /// A connection that leaves.
@@ -52,10 +81,11 @@ pub(crate) struct Leaving<S> {
     stream: S,
     rest: Rest,
     stage: Stage,
+    api: Api,
     heard: Heard,
 }
 
-/// Connections that leave, at most `PLACES`.
+/// Connections that leave.
 #[derive(Drop)]
 pub(crate) struct Exit<S> {
     leaving: Vec<Leaving<S>>,
@@ -74,9 +104,9 @@ impl<S: Read + Write + OpenStream + Drop> Exit<S> {
         self.leaving.reserve(1)
     }
 
-    /// Whether there is a place for one more.
-    pub(crate) fn has_place(&self) -> bool {
-        self.leaving.len() < PLACES
+    /// Whether there is a place for one more, of those that there are where these call.
+    pub(crate) fn has_place(&self, callers: Callers) -> bool {
+        self.leaving.len() < callers.places()
     }
 
     /// Whether no connection leaves.
@@ -91,8 +121,16 @@ impl<S: Read + Write + OpenStream + Drop> Exit<S> {
         }
     }
 
+    /// Makes no connection's time shorter by this pause, in which none was gone on with.
+    pub(crate) fn overlook(&mut self, pause: Duration) {
+        'leaving: for leaving in self.leaving.iter_mut() {
+            leaving.stage = leaving.stage.with_pause(pause);
+        }
+    }
+
     /// Lets a connection leave. Where there is no room for it, it is dropped.
-    pub(crate) fn admit(&mut self, leaving: Leaving<S>) {
+    pub(crate) fn admit<C: Clock>(&mut self, clock: &C, mut leaving: Leaving<S>) {
+        leaving.stage = leaving.stage.with_reading(clock).unwrap_or(leaving.stage);
         let _ = self.leaving.push(leaving);
     }
 
@@ -110,12 +148,37 @@ impl<S: Read + Write + OpenStream + Drop> Exit<S> {
 
 impl<S: Read + Write + OpenStream + Drop> Leaving<S> {
     /// A connection that does not wait for its peer, of whose reply this rest is to be sent within this span.
-    pub(crate) fn new(stream: S, rest: Rest, span: Span, heard: Heard) -> Self {
+    pub(crate) fn new(stream: S, rest: Rest, span: Span, api: Api, heard: Heard) -> Self {
         Leaving {
             stream,
             rest,
             stage: Stage::Sends(span),
+            api,
             heard,
+        }
+    }
+
+    /// Sends what is left of its reply within its span, waits for that, and says to the peer that nothing further comes. All
+    /// memory that it needed for that is given back.
+    pub(crate) fn see_off<C: Eprint + Clock>(&mut self, alloc: Global, handle: &C) {
+        self.send_all(handle);
+        self.rest = Rest::new(alloc);
+        self.heard = Heard::new(alloc);
+    }
+
+    // Sends what is left of its reply within its span, and waits for that.
+    fn send_all<C: Eprint + Clock>(&mut self, handle: &C) {
+        let mut nap: u64 = 1;
+        'sends: for _ in 0..u64::MAX {
+            let Stage::Sends(span) = self.stage else {
+                return;
+            };
+            if self.send(handle, span) {
+                nap = 1;
+            } else {
+                thread::sleep(handle, Duration::from_millis(nap));
+                nap = nap.saturating_mul(2).min(LONGEST_NAP);
+            }
         }
     }
 
@@ -124,8 +187,8 @@ impl<S: Read + Write + OpenStream + Drop> Leaving<S> {
         self.stage = self.stage.again(clock).unwrap_or(self.stage);
     }
 
-    // Whether nothing goes over it any more.
-    fn is_over(&self) -> bool {
+    /// Whether nothing goes over it any more.
+    pub(crate) fn is_over(&self) -> bool {
         matches!(self.stage, Stage::Over)
     }
 
@@ -158,13 +221,13 @@ impl<S: Read + Write + OpenStream + Drop> Leaving<S> {
     // Says to the peer that nothing further comes.
     fn shut<C: Clock>(&self, clock: &C) -> io::Result<Stage> {
         self.stream.shutdown(Shutdown::Write)?;
-        let whole = Span::begin(clock, Duration::from_secs(READING_SECONDS))?;
-        let silence = whole.with_limit(Duration::from_millis(SILENT_MILLISECONDS));
+        let whole = Allowance::begin(clock, Duration::from_secs(READING_SECONDS))?;
+        let silence = Allowance::begin(clock, Duration::from_millis(SILENT_MILLISECONDS))?;
         Ok(Stage::Reads { whole, silence })
     }
 
     // Reads what has come in, and says whether that was anything.
-    fn read<C: Clock>(&mut self, clock: &C, whole: Span, silence: Span) -> bool {
+    fn read<C: Clock>(&mut self, clock: &C, whole: Allowance, silence: Allowance) -> bool {
         let mut piece = [0; PIECE_BYTES];
         let has_come = match self.stream.read(&mut piece) {
             Err(error) if is_later(error.kind()) => false,
@@ -180,22 +243,27 @@ impl<S: Read + Write + OpenStream + Drop> Leaving<S> {
 
     // Reports that the reply was not taken in its time.
     fn report<E: Eprint>(&self, handle: &E) {
+        let api = self.api;
         let call = self.heard.call_without_query();
         let status = Visible(self.heard.status().unwrap_or(&[]));
-        let _ = eprintln!(handle;
-            "Keymanager API: {call}: {status}: the reply was not read in time"
-        );
+        let _ = eprintln!(handle; "{api}: {call}: {status}: the reply was not read in time");
     }
 }
 
 // The stage of a connection of which more is read, where there is time for that.
-fn read_on<C: Clock>(clock: &C, whole: Span, silence: Span, has_come: bool) -> io::Result<Stage> {
+fn read_on<C: Clock>(
+    clock: &C,
+    whole: Allowance,
+    silence: Allowance,
+    has_come: bool,
+) -> io::Result<Stage> {
     let silence = if has_come {
         silence.again(clock)?
     } else {
         silence
     };
-    whole.left(clock)?;
-    silence.left(clock)?;
+    if whole.is_over(clock) || silence.is_over(clock) {
+        return Ok(Stage::Over);
+    }
     Ok(Stage::Reads { whole, silence })
 }

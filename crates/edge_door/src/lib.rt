@@ -2,6 +2,9 @@
 //! first call. They are trusted in what they read and write, and tell nothing of it.
 #![tactic(auto)]
 
+mod allowance;
+mod api;
+mod callers;
 mod chunk_scan;
 mod json_scan;
 mod key_outcomes;
@@ -13,5 +16,6 @@ mod tcp_conn;
 mod tcp_door;
 mod waiting;
 
+pub use callers::Callers;
 pub use tcp_conn::TcpConn;
 pub use tcp_door::TcpDoor;

@@ -1,4 +1,5 @@
 //! The connections of a door that are not being served: those that wait for that, and those that leave.
+use crate::callers::Callers;
 use crate::leaving::{Exit, Leaving};
 use crate::tcp_conn::{LIMIT_SECONDS, READ_SECONDS};
 use crate::waiting::{Look, Room, Waiting};
@@ -8,15 +9,11 @@ use std::alloc::Global;
 use std::io::{Eprint, ErrorKind};
 use std::net::{Net, OpenListener, TcpListener};
 use std::rt::Clock;
-use std::time::Duration;
+use std::time::{Duration, Instant};
 use std::{io, thread};
 
-/// For how many milliseconds the door waits after the system could not accept for now.
+/// For how many milliseconds the door of key managers waits after the system could not accept for now.
 const NAP_MILLISECONDS: u64 = 100;
-
-/// For how many milliseconds the door waits at most before it looks again whether a connection came, more of one came in or
-/// can be sent, or its halt was raised.
-const LONGEST_LOOK: u64 = 50;
 
 /// The system's number for a process that may open no more files.
 const NO_MORE_FILES: i32 = 24;
@@ -47,6 +44,10 @@ const FORBIDDEN: i32 = 1;
 
 /// The connections of a door at an address that are not being served, each of which goes on beside the others. Where it is
 /// dropped, what is left of the replies is sent first.
+///
+/// Where key managers call, the times of all begin anew with each turn at the door, since one loop serves what it takes before
+/// it comes back. Where validator clients do, turns follow each other, and a peer that sends a byte now and then is not to have
+/// its time begun anew by each: there only the time does not count in which nobody looked, from one turn to the next.
 pub(crate) struct Lobby<'a, N: Net + Eprint + Clock + Drop> {
     handle: N,
     host: String,
@@ -55,6 +56,10 @@ pub(crate) struct Lobby<'a, N: Net + Eprint + Clock + Drop> {
     halt: &'a Halt,
     room: Room<N::Stream>,
     exit: Exit<N::Stream>,
+    /// Who calls at the door.
+    pub callers: Callers,
+    /// When the connections were looked at last.
+    looked: Option<Instant>,
     /// The system could not accept at the last try, which was reported.
     is_barred: bool,
 }
@@ -77,6 +82,8 @@ impl<'a, N: Net + Eprint + Clock + Drop> Lobby<'a, N> {
             halt,
             room: Room::new(alloc),
             exit: Exit::new(alloc),
+            callers: Callers::KeyManagers,
+            looked: None,
             is_barred: false,
         }
     }
@@ -101,13 +108,35 @@ impl<'a, N: Net + Eprint + Clock + Drop> Lobby<'a, N> {
         Ok(listener)
     }
 
+    // Begins a turn, after a time in which nobody looked: the times of all connections begin anew, or that time counts for none.
+    fn resume(&mut self) {
+        match self.callers {
+            Callers::KeyManagers => {
+                self.room.resume(&self.handle);
+                self.exit.resume(&self.handle);
+            }
+            Callers::ValidatorClients => self.overlook(),
+        }
+    }
+
+    // Has the time since the last look count for no connection.
+    fn overlook(&mut self) {
+        if let Some(looked) = self.looked
+            && let Ok(pause) = looked.elapsed(&self.handle)
+        {
+            self.room.overlook(pause);
+            self.exit.overlook(pause);
+        }
+        self.looked = Instant::now(&self.handle).ok();
+    }
+
     // The next connection whose request is there, of those that a listener accepts, once there is room for it to leave. None
     // once the halt is raised, and no connection leaves any more.
     pub(crate) fn next(
         &mut self,
         listener: &N::Listener,
     ) -> io::Result<Option<Waiting<N::Stream>>> {
-        self.room.resume(&self.handle);
+        self.resume();
         let mut nap = 1;
         'looks: for _ in 0..u64::MAX {
             if self.halt.is_raised() {
@@ -128,26 +157,26 @@ impl<'a, N: Net + Eprint + Clock + Drop> Lobby<'a, N> {
         Ok(None)
     }
 
-    // Lets a connection leave.
+    // Lets a connection leave that was handed back. What it and others have of time begins then, or goes on.
     pub(crate) fn admit_leaving(&mut self, leaving: Leaving<N::Stream>) {
-        self.exit.admit(leaving);
+        self.resume();
+        self.exit.admit(&self.handle, leaving);
     }
 
-    // Lets connections leave and come, until none leaves any more, or one is ready to be served. In the end there is a place
-    // for one more to leave. Once the halt is raised none comes any more, and no peer is asked for the body of its request.
+    // Lets connections leave and come, until there is no need to, or one is ready to be served. In the end there is a place for
+    // one more to leave. Once the halt is raised none comes any more, and no peer is asked for the body of its request.
     pub(crate) fn go_on(&mut self, listener: &N::Listener) {
-        self.room.resume(&self.handle);
-        self.exit.resume(&self.handle);
+        self.resume();
         let mut nap = 1;
         'looks: for _ in 0..u64::MAX {
             if self.halt.is_raised() {
                 return self.send_out();
             }
-            if self.exit.is_empty() {
+            if self.may_pass_on() {
                 return;
             }
             let found = self.look(listener).unwrap_or(Look::Nothing);
-            if matches!(found, Look::Ready(_)) && self.exit.has_place() {
+            if matches!(found, Look::Ready(_)) && self.exit.has_place(self.callers) {
                 return;
             }
             nap = match found {
@@ -157,9 +186,18 @@ impl<'a, N: Net + Eprint + Clock + Drop> Lobby<'a, N> {
         }
     }
 
+    // Whether nothing is to be waited for before the next connection is taken: a loop lets all leave, and lanes take the next
+    // at once, where a place is left for it to leave, since others go on meanwhile.
+    fn may_pass_on(&self) -> bool {
+        match self.callers {
+            Callers::KeyManagers => self.exit.is_empty(),
+            Callers::ValidatorClients => self.exit.has_place(self.callers),
+        }
+    }
+
     // Lets all connections leave after the last was served.
     pub(crate) fn empty(&mut self) {
-        self.exit.resume(&self.handle);
+        self.resume();
         self.send_out();
     }
 
@@ -180,9 +218,11 @@ impl<'a, N: Net + Eprint + Clock + Drop> Lobby<'a, N> {
 
     // Goes on with all connections, each as far as it does not wait.
     fn look(&mut self, listener: &N::Listener) -> io::Result<Look> {
+        self.looked = Instant::now(&self.handle).ok();
         let has_left = self.exit.work(&self.handle);
         let has_come = self.admit(listener)?;
-        match self.room.look(&self.handle, self.token.as_str()) {
+        let token = self.token.as_str();
+        match self.room.look(&self.handle, self.callers, token) {
             Look::Nothing if has_left || has_come => Ok(Look::More),
             found => Ok(found),
         }
@@ -191,7 +231,7 @@ impl<'a, N: Net + Eprint + Clock + Drop> Lobby<'a, N> {
     // Lets the next connection wait that the listener accepts now, where there is a place for one, and says whether one
     // came. What passes is waited out, and reported once.
     fn admit(&mut self, listener: &N::Listener) -> io::Result<bool> {
-        if !self.room.has_place() {
+        if !self.room.has_place(self.callers) {
             return Ok(false);
         }
         match listener.accept() {
@@ -218,16 +258,21 @@ impl<'a, N: Net + Eprint + Clock + Drop> Lobby<'a, N> {
     // Waits for that many milliseconds, and gives for how many to wait the next time.
     fn look_later(&self, milliseconds: u64) -> u64 {
         thread::sleep(&self.handle, Duration::from_millis(milliseconds));
-        milliseconds.saturating_mul(2).min(LONGEST_LOOK)
+        milliseconds
+            .saturating_mul(2)
+            .min(self.callers.longest_look())
     }
 
-    // Waits a little, and reports what for where that was not reported yet.
+    // Reports a failure that passes, where that was not reported yet, and waits a little. What validator clients have sent
+    // already does not wait for that.
     fn wait_out(&mut self, error: &io::Error) {
         if !self.is_barred {
             self.report(error);
         }
         self.is_barred = true;
-        thread::sleep(&self.handle, Duration::from_millis(NAP_MILLISECONDS));
+        if matches!(self.callers, Callers::KeyManagers) {
+            thread::sleep(&self.handle, Duration::from_millis(NAP_MILLISECONDS));
+        }
     }
 
     // Reports a failure at the address.
@@ -249,6 +294,8 @@ impl<N: Net + Eprint + Clock + Drop> Drop for Lobby<'_, N> {
             halt: _halt,
             room: _room,
             exit: _exit,
+            callers: _callers,
+            looked: _looked,
             is_barred: _is_barred,
         } = self;
     }

@@ -1,4 +1,6 @@
 //! Whether a request that is coming in is to be served now.
+use crate::api::before_any;
+use crate::callers::Callers;
 use crate::chunk_scan::ChunkScan;
 use edge_kit::read_quoted;
 use httparse::Status;
@@ -14,12 +16,18 @@ pub(crate) const BODY_LIMIT: u64 = 16_777_216;
 /// further is waited for.
 const ARRIVED_LIMIT: usize = 33_554_432;
 
-/// What the requests that are not refused for their methods or their targets begin with (`keymanager_routes`).
-const KNOWN: [&[u8]; 3] = [
+/// What the requests of key managers that are not refused for their methods or their targets begin with (`keymanager_routes`).
+const KEYSTORES: [&[u8]; 3] = [
     b"GET /eth/v1/keystores",
     b"POST /eth/v1/keystores",
     b"DELETE /eth/v1/keystores",
 ];
+
+/// What those of validator clients begin with that name no key (`proxy_api`).
+const QUESTIONS: [&[u8]; 2] = [b"GET /upcheck", b"GET /api/v1/eth2/publicKeys"];
+
+/// What stands before the name of a key in a request for a signature (`proxy_api`).
+const SIGN: &[u8] = b"POST /api/v1/eth2/sign/";
 
 /// How a body is framed, by the fields of a head (`http_wire`).
 #[derive(Clone, Copy)]
@@ -34,13 +42,24 @@ enum Framing {
     Bad,
 }
 
+/// Who is let in with a method and a target.
+#[derive(Clone, Copy)]
+enum Entry {
+    /// Nobody: it is refused for one of them.
+    Nobody,
+    /// Whoever bears the token.
+    Bearers,
+    /// Anyone.
+    Anyone,
+}
+
 /// What the head of a request says of its sender and of its body.
 #[derive(Clone, Copy)]
 struct Front {
     /// Where the body begins.
     end: usize,
-    /// It is not refused for its method or its target.
-    is_known: bool,
+    /// Who is let in with its method and its target.
+    entry: Entry,
     /// Whether the token that it bears is the one that is wanted, if it bears any.
     fits: Option<bool>,
     /// It says that its sender waits to be asked for the body (RFC 9110, `Expect`).
@@ -53,7 +72,16 @@ struct Front {
 impl Front {
     // Whether it is refused for what it says, whatever its body.
     fn is_refused(&self) -> bool {
-        !self.is_known || self.fits != Some(true) || self.is_encoded
+        !self.is_let_in() || self.is_encoded
+    }
+
+    // Whether its sender is let in.
+    fn is_let_in(&self) -> bool {
+        match self.entry {
+            Entry::Nobody => false,
+            Entry::Bearers => self.fits == Some(true),
+            Entry::Anyone => true,
+        }
     }
 
     // Whether a body follows that is read, if the head is not refused.
@@ -84,13 +112,14 @@ impl Coming {
     }
 
     /// Whether the request, of which this has come in, is to be served now: it is whole, or what is missing decides nothing,
-    /// since what has come in is no request, or its head does not bear this token, has a method or a target that is refused,
-    /// or announces no body that is read. It is called ready only where who serves it needs no byte more to answer it
-    /// (`http_wire`), since then nothing more of it is waited for. How it is answered is judged there, by itself.
-    pub(crate) fn is_ready(&mut self, arrived: &[u8], token: &str) -> bool {
+    /// since what has come in is no request, or its head does not bear this token where it is to, has a method or a target that
+    /// is refused where these call, or announces no body that is read. It is called ready only where who serves it needs no
+    /// byte more to answer it (`http_wire`, `keymanager_routes`, `proxy_api`), since then nothing more of it is waited for. How
+    /// it is answered is judged there, by itself.
+    pub(crate) fn is_ready(&mut self, arrived: &[u8], callers: Callers, token: &str) -> bool {
         let front = match self.front {
             Some(front) => front,
-            None => match read_front(arrived, token) {
+            None => match read_front(arrived, callers, token) {
                 Some(front) => front,
                 None => return is_no_head(arrived),
             },
@@ -139,13 +168,13 @@ pub(crate) fn whole_lines(bytes: &[u8]) -> &[u8] {
 }
 
 // What the head says of a request of which this has come in; None where it is not whole, or too long.
-fn read_front(arrived: &[u8], token: &str) -> Option<Front> {
+fn read_front(arrived: &[u8], callers: Callers, token: &str) -> Option<Front> {
     let lines = whole_lines(front_of(arrived));
     let mut spans = [EMPTY_HEADER_SPAN; 64];
     match parse_request(lines, &mut spans) {
         Ok(Status::Complete(head)) => {
             let bytes = lines.get(..head.len).unwrap_or(lines);
-            Some(said_in(bytes, token))
+            Some(said_in(bytes, callers, token))
         }
         _ => None,
     }
@@ -163,19 +192,39 @@ fn has_text(lines: &[u8]) -> bool {
     lines.iter().any(|byte| *byte != b'\r' && *byte != b'\n')
 }
 
-// Whether a head is not refused for its method or its target.
-fn is_known(head: &[u8]) -> bool {
+// Who is let in with the method and the target of a head, where these call.
+fn entry_of(head: &[u8], callers: Callers) -> Entry {
     let head = head.trim_ascii_start();
-    KNOWN.iter().any(|known| {
+    if is_one_of(head, &KEYSTORES) {
+        Entry::Bearers
+    } else if callers.has_validator_clients() && (is_one_of(head, &QUESTIONS) || names_key(head)) {
+        Entry::Anyone
+    } else {
+        Entry::Nobody
+    }
+}
+
+// Whether a head has one of these methods and paths.
+fn is_one_of(head: &[u8], known: &[&[u8]]) -> bool {
+    known.iter().any(|known| {
         head.starts_with(known) && matches!(head.get(known.len()), Some(b' ' | b'?'))
     })
 }
 
-// What a head says.
-fn said_in(head: &[u8], token: &str) -> Front {
+// Whether a head is of a request for a signature, which names its key in one part of the path that is text.
+fn names_key(head: &[u8]) -> bool {
+    if !head.starts_with(SIGN) {
+        return false;
+    }
+    let part = before_any(head.get(SIGN.len()..).unwrap_or(&[]), b" ?");
+    !part.is_empty() && !part.contains(&b'/') && str::from_utf8(part).is_ok()
+}
+
+// What a head says, where these call.
+fn said_in(head: &[u8], callers: Callers, token: &str) -> Front {
     let mut front = Front {
         end: head.len(),
-        is_known: is_known(head),
+        entry: entry_of(head, callers),
         fits: None,
         waits: false,
         is_encoded: false,

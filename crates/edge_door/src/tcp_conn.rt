@@ -4,6 +4,8 @@ ghost use Rattle.std.specs.Io.{ReadsAtMost, WritesAtMost};
 ghost use Rattle.std.specs.Result.{result_ok};
 ghost use Rattle.edge_kit.specs.Causes.{HasCause};
 
+use crate::api::Api;
+use crate::callers::Callers;
 use crate::key_outcomes::{KeyOutcomes, Messages};
 use crate::leaving::Leaving;
 use crate::rest::Rest;
@@ -31,18 +33,25 @@ pub(crate) const READ_SECONDS: u64 = 10;
 /// seconds from its first byte on. It was begun by its peer, so `connect` begins no other, and fails.
 ///
 /// A reply does not wait for its peer: `send` takes the whole piece, and what the system does not take at once is kept in
-/// memory. `hang_up` ends the calls at once; what is left of the reply is sent once the door has the connection back. A
-/// response of status 100 has left before the request is read on. Where the door has sent that response already, the first
-/// `send`, if it is of just that, takes it as sent.
+/// memory. A response of status 100 has left before the request is read on. Where the door has sent that response already, the
+/// first `send`, if it is of just that, takes it as sent.
 ///
-/// It reports on standard error a request that changes something and one that is refused: the method, the target before its
-/// query, the status, and the first 200 bytes of the reply's body where no keystores were to be taken in; and before that what
-/// became of each key that was to be taken in or given up. Where the reply is not taken in its time, that is reported as well.
+/// Where key managers call, `hang_up` ends the calls at once; what is left of the reply is sent once the door has the connection
+/// back. Where validator clients call, the door may have it back much later: there `hang_up` sends what is left of the reply
+/// within its time, waits for that, and says to the peer that nothing further comes, so that the peer sees the end at once.
+/// It gives the memory back that the connection took.
+///
+/// Of the Keymanager API it reports on standard error a request that changes something and one that is refused: the method, the
+/// target before its query, the status, and the first 200 bytes of the reply's body where no keystores were to be taken in; and
+/// before that what became of each key that was to be taken in or given up. Of the calls of validator clients (Web3Signer API)
+/// it reports one that is refused in the same way, and one that would sign and had no reply; a signature that was given is no
+/// news. Where the reply is not taken in its time, that is reported as well.
 #[derive(Drop)]
 pub struct TcpConn<S: Read + Write + OpenStream + Drop, C: Eprint + Clock + Drop> {
+    alloc: Global,
     stream: Option<Timed<S>>,
     /// The connection after its end, where a reply was begun.
-    ended: Option<Timed<S>>,
+    leaving: Option<Leaving<S>>,
     /// What came in of the request before the connection was accepted. Nothing was sent since while its peer counts as asked.
     arrived: Arrived,
     /// How much of that was received.
@@ -52,8 +61,10 @@ pub struct TcpConn<S: Read + Write + OpenStream + Drop, C: Eprint + Clock + Drop
     /// What is still to be sent of it.
     rest: Rest,
     clock: C,
+    api: Api,
     heard: Heard,
     outcomes: KeyOutcomes,
+    callers: Callers,
     reports: Reports,
     faults: u64,
 }
@@ -89,28 +100,33 @@ fn timed<S: Read + Write + OpenStream + Drop>(
 }
 
 impl<S: Read + Write + OpenStream + Drop, C: Eprint + Clock + Drop> TcpConn<S, C> {
-    // A connection whose request has come in, and that makes these reports. One that the system does not let wait fails at
-    // each call.
+    // A connection whose request has come in where these call, and that makes these reports. One that the system does not let
+    // wait fails at each call.
     pub(crate) fn new(
         alloc: Global,
         stream: S,
         span: Span,
         arrived: Arrived,
         clock: C,
+        callers: Callers,
         reports: Reports,
     ) -> Self
         ensures { result.faults ≡ 0 }
     {
+        let api = Api::of(callers, arrived.bytes.as_slice());
         TcpConn {
+            alloc,
             stream: timed(alloc, stream, span).ok(),
-            ended: None,
+            leaving: None,
             arrived,
             taken: 0,
             reply: None,
             rest: Rest::new(alloc),
             clock,
+            api,
             heard: Heard::new(alloc),
             outcomes: KeyOutcomes::new(alloc),
+            callers,
             reports,
             faults: 0,
         }
@@ -119,19 +135,22 @@ impl<S: Read + Write + OpenStream + Drop, C: Eprint + Clock + Drop> TcpConn<S, C
     // The connection as it leaves, where a reply was begun and it was ended.
     pub(crate) fn into_leaving(self) -> Option<Leaving<S>> {
         let TcpConn {
+            alloc: _alloc,
             stream: _stream,
-            ended,
+            leaving,
             arrived: _arrived,
             taken: _taken,
-            reply,
-            rest,
+            reply: _reply,
+            rest: _rest,
             clock: _clock,
-            heard,
+            api: _api,
+            heard: _heard,
             outcomes: _outcomes,
+            callers: _callers,
             reports: _reports,
             faults: _faults,
         } = self;
-        Some(Leaving::new(ended?.into_stream(), rest, reply?, heard))
+        leaving
     }
 
     /// How many calls have failed.
@@ -244,14 +263,20 @@ impl<S: Read + Write + OpenStream + Drop, C: Eprint + Clock + Drop> TcpConn<S, C
         Ok(count)
     }
 
-    // Reports a request that changes something, or that was refused. A connection over which none was begun is reported nowhere.
+    // Reports a request that was refused, and one that is news. A connection over which none was begun is reported nowhere.
     fn report(&self) {
-        let is_news = self.reports.has_news() && self.heard.changes();
-        let is_told = self.heard.is_begun() && (is_news || self.heard.is_refusal());
-        if self.stream.is_some() && is_told {
+        let is_told = self.is_news() || self.heard.is_refusal();
+        if self.stream.is_some() && self.heard.is_begun() && is_told {
+            let api = self.api;
             let replied = Replied(&self.heard);
-            let _ = eprintln!(&self.clock; "Keymanager API: {replied}");
+            let _ = eprintln!(&self.clock; "{api}: {replied}");
         }
+    }
+
+    // Whether its request is news that is to be reported: it was to change something, and is none for a signature that was given.
+    fn is_news(&self) -> bool {
+        let is_given = self.api.is_signing() && self.heard.status().is_some();
+        self.reports.has_news() && self.heard.changes() && !is_given
     }
 
     // Notes what was sent of a reply.
@@ -259,7 +284,7 @@ impl<S: Read + Write + OpenStream + Drop, C: Eprint + Clock + Drop> TcpConn<S, C
         ensures { self.new.faults ≡ self.old.faults }
     {
         self.heard.answer(piece);
-        if self.heard.changes() {
+        if self.heard.changes() && !self.api.is_signing() {
             let messages = Messages::of(&self.heard);
             self.outcomes
                 .answer(&self.clock, self.reports, messages, piece);
@@ -271,7 +296,37 @@ impl<S: Read + Write + OpenStream + Drop, C: Eprint + Clock + Drop> TcpConn<S, C
         ensures { self.new.faults ≡ self.old.faults }
     {
         self.heard.ask(piece);
-        self.outcomes.ask(piece);
+        if !self.api.is_signing() {
+            self.outcomes.ask(piece);
+        }
+    }
+
+    // Ends it. What it leaves with is there where a reply was begun.
+    fn end(&mut self)
+        ensures { self.new.faults ≡ self.old.faults }
+    {
+        if let Some(stream) = self.stream.take()
+            && let Some(span) = self.reply.take()
+        {
+            let rest = mem::replace(&mut self.rest, Rest::new(self.alloc));
+            let heard = mem::replace(&mut self.heard, Heard::new(self.alloc));
+            let leaving = Leaving::new(stream.into_stream(), rest, span, self.api, heard);
+            self.leaving = Some(leaving);
+        }
+    }
+
+    // Sends what is left of its reply, says to the peer that nothing further comes, and gives its memory back, since the door
+    // may have it back much later.
+    fn see_off(&mut self)
+        ensures { self.new.faults ≡ self.old.faults }
+    {
+        if let Some(mut leaving) = self.leaving.take() {
+            leaving.see_off(self.alloc, &self.clock);
+            self.leaving = Some(leaving).filter(|leaving| !leaving.is_over());
+        }
+        self.arrived = Arrived::none(self.alloc);
+        self.heard = Heard::new(self.alloc);
+        self.outcomes = KeyOutcomes::new(self.alloc);
     }
 
     // What the system answered, whose failure is counted.
@@ -318,10 +373,9 @@ impl<S: Read + Write + OpenStream + Drop, C: Eprint + Clock + Copy + Drop> Link 
 
     fn hang_up(&mut self) -> Result<(), Failed> {
         self.report();
-        if let Some(stream) = self.stream.take()
-            && self.reply.is_some()
-        {
-            self.ended = Some(stream);
+        self.end();
+        if self.callers.has_validator_clients() {
+            self.see_off();
         }
         Ok(())
     }
@@ -333,15 +387,18 @@ impl<S: Read + Write + OpenStream + Drop, C: Eprint + Clock + Copy + Drop> Link 
         ensures gone { IfOk result (λ t. t.stream ≡ None) }
     {
         Ok(TcpConn {
+            alloc,
             stream: None,
-            ended: None,
+            leaving: None,
             arrived: Arrived::none(alloc),
             taken: 0,
             reply: None,
             rest: Rest::new(alloc),
             clock: self.clock,
+            api: self.api,
             heard: Heard::new(alloc),
             outcomes: KeyOutcomes::new(alloc),
+            callers: self.callers,
             reports: self.reports,
             faults: 0,
         })

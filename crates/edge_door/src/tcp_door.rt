@@ -3,6 +3,7 @@ ghost use Rattle.std.specs.Prelude.{◌≡◌, None};
 ghost use Rattle.std.specs.Result.{result_ok};
 ghost use Rattle.edge_kit.specs.Causes.{HasCause};
 
+use crate::callers::Callers;
 use crate::lobby::Lobby;
 use crate::tcp_conn::TcpConn;
 use crate::waiting::Waiting;
@@ -23,16 +24,26 @@ use std::rt::Clock;
 ///
 /// Some connections wait beside each other until their requests have come in, so that a slow peer bars no other: the first
 /// whose request is there is given first, and nothing more of it is waited for. One whose head does not bear the token is given
-/// once that head is there. A peer
-/// that bears it and sends its body only once it is asked to (RFC 9110, `Expect`) is asked as soon as its head is there, and
-/// waits like others.
+/// once that head is there. A peer that bears it and sends its body only once it is asked to (RFC 9110, `Expect`) is asked as
+/// soon as its head is there, and waits like others.
 ///
 /// A connection that was taken back leaves beside the others: what is left of its reply is sent as its peer takes it, and
 /// then what the peer still sends is read and dropped, for 2 seconds at most and until it is silent for half a second, so
-/// that the system does not take the reply back. `finish` goes on with that until none leaves any more, or a request is there
-/// to be served. Up to eight leave at a time; where there are as many, `finish` waits until one has left. Where a connection is
-/// known to be the last, its `finish` goes on until none leaves any more. A reply that was begun is sent within its time
-/// whatever ends the door.
+/// that the system does not take the reply back. A reply that was begun is sent within its time whatever ends the door. Where a
+/// connection is known to be the last that is accepted, or the halt is raised, `finish` goes on until none leaves any more.
+///
+/// Key managers call as long as nothing else is set: one loop takes a connection, serves it, and hands it back before it takes
+/// the next. Eight wait at most, and the times of those that wait begin anew with each `accept`. `finish` goes on with what
+/// leaves until none does any more, or a request is there to be served. Up to eight leave at a time; where there are as many,
+/// `finish` waits until one has left.
+///
+/// Where validator clients call, lanes take turns at the door, each of which hands a connection back and takes the next, and
+/// several are served at a time. Then a request for a signature, for the keys, or whether anyone is there, needs no token, and
+/// is given once it is whole. 64 wait at most, 64 leave, and a request is seen within 2 milliseconds. `finish` waits for none
+/// that leaves, unless there is no place for one more: `accept` goes on with them. What is left of a reply was sent by `hang_up`,
+/// and a connection whose peer has ended it, or was silent for half a second since, leaves at the next look. A time goes on from
+/// turn to turn, so that none of a peer that is slow begins anew. Only what passes while no lane is at the door does not count,
+/// and what has come in until then is read before a request is given up, so that no request that is there whole is lost.
 #[derive(Drop)]
 pub struct TcpDoor<'a, N: Net + Eprint + Clock + Drop> {
     alloc: Global,
@@ -73,6 +84,14 @@ impl<'a, N: Net + Eprint + Clock + Drop> TcpDoor<'a, N> {
         ensures faults { self.new.faults ≡ self.old.faults }
     {
         self.reports = reports;
+    }
+
+    /// From now on these call. That is to be set before the first `accept`.
+    pub fn set_callers(&mut self, callers: Callers)
+        ensures callers { self.new.lobby.callers ≡ callers }
+        ensures faults { self.new.faults ≡ self.old.faults }
+    {
+        self.lobby.callers = callers;
     }
 
     /// From now on the last of that many connections is known to be the last that is accepted.
@@ -146,7 +165,16 @@ impl<N: Net + Eprint + Clock + Copy + Drop> TcpDoor<'_, N> {
     {
         let (stream, span, arrived) = waiting.into_parts();
         let handle = *self.lobby.handle();
-        TcpConn::new(self.alloc, stream, span, arrived, handle, self.reports)
+        let callers = self.lobby.callers;
+        TcpConn::new(
+            self.alloc,
+            stream,
+            span,
+            arrived,
+            handle,
+            callers,
+            self.reports,
+        )
     }
 }
 

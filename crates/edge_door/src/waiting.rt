@@ -1,4 +1,6 @@
 //! Connections that were accepted and whose requests are coming in.
+use crate::allowance::Allowance;
+use crate::callers::Callers;
 use crate::request_front::Coming;
 use edge_sockets::{Span, is_later, write_now};
 use std::alloc::Global;
@@ -7,9 +9,6 @@ use std::io::{Read, Write};
 use std::net::OpenStream;
 use std::rt::Clock;
 use std::time::Duration;
-
-/// How many connections wait at most.
-const PLACES: usize = 8;
 
 /// How many bytes are read of a connection at a time.
 const PIECE_BYTES: usize = 16_384;
@@ -54,9 +53,9 @@ impl Arrived {
 #[derive(Drop)]
 pub(crate) struct Waiting<S> {
     stream: S,
-    span: Span,
+    whole: Allowance,
     /// From when on nothing has come in, and for how long that may be so.
-    silence: Span,
+    silence: Allowance,
     arrived: Vec<u8>,
     coming: Coming,
     /// Its peer was asked for the body, or is not to be asked any more.
@@ -75,7 +74,7 @@ pub(crate) enum Look {
     Nothing,
 }
 
-/// Connections whose requests are coming in, at most `PLACES`.
+/// Connections whose requests are coming in.
 #[derive(Drop)]
 pub(crate) struct Room<S> {
     alloc: Global,
@@ -91,9 +90,9 @@ impl<S: Read + Write + OpenStream + Drop> Room<S> {
         }
     }
 
-    /// Whether there is a place for one more.
-    pub(crate) fn has_place(&self) -> bool {
-        self.waiting.len() < PLACES
+    /// Whether there is a place for one more, of those that there are where these call.
+    pub(crate) fn has_place(&self, callers: Callers) -> bool {
+        self.waiting.len() < callers.places()
     }
 
     /// Lets a connection wait whose request may last so long from now on, and be silent so long. Where the system does not
@@ -118,13 +117,20 @@ impl<S: Read + Write + OpenStream + Drop> Room<S> {
         }
     }
 
+    /// Makes no connection's time shorter by this pause, in which none was looked at.
+    pub(crate) fn overlook(&mut self, pause: Duration) {
+        'waiting: for waiting in self.waiting.iter_mut() {
+            waiting.overlook(pause);
+        }
+    }
+
     /// Reads what has come in of the requests that are not there yet, asks for the bodies whose senders wait for that, gives up
     /// those that come in too slowly, and finds the first connection whose request is to be served now.
-    pub(crate) fn look<C: Clock>(&mut self, clock: &C, token: &str) -> Look {
+    pub(crate) fn look<C: Clock>(&mut self, clock: &C, callers: Callers, token: &str) -> Look {
         let mut ready = None;
         let mut has_come = false;
         'waiting: for (place, waiting) in self.waiting.iter_mut().enumerate() {
-            has_come |= waiting.is_coming() && waiting.work(clock, token);
+            has_come |= waiting.is_coming() && waiting.work(clock, callers, token);
             if ready.is_none() && !waiting.is_coming() {
                 ready = Some(place);
             }
@@ -155,12 +161,13 @@ impl<S: Read + Write + OpenStream + Drop> Waiting<S> {
         limit: Duration,
         silent: Duration,
     ) -> io::Result<Self> {
-        let span = Span::begin(clock, limit)?;
+        let whole = Allowance::begin(clock, limit)?;
+        let silence = Allowance::begin(clock, silent)?;
         stream.set_nonblocking(true)?;
         Ok(Waiting {
             stream,
-            span,
-            silence: span.with_limit(silent),
+            whole,
+            silence,
             arrived: Vec::new(alloc),
             coming: Coming::new(),
             is_asked: false,
@@ -172,7 +179,7 @@ impl<S: Read + Write + OpenStream + Drop> Waiting<S> {
     pub(crate) fn into_parts(self) -> (S, Span, Arrived) {
         let Waiting {
             stream,
-            span,
+            whole,
             silence: _silence,
             arrived: bytes,
             coming: _coming,
@@ -185,7 +192,7 @@ impl<S: Read + Write + OpenStream + Drop> Waiting<S> {
             is_ended,
             is_asked,
         };
-        (stream, span, arrived)
+        (stream, whole.span(), arrived)
     }
 
     // Whether more of its request is to come in.
@@ -194,9 +201,9 @@ impl<S: Read + Write + OpenStream + Drop> Waiting<S> {
     }
 
     // Reads what has come in, and says whether anything has. Where its peer waits to be asked for the body, it is. Where
-    // nothing has come in and its time is over, it is given up.
-    fn work<C: Clock>(&mut self, clock: &C, token: &str) -> bool {
-        let has_come = self.read(clock, token);
+    // nothing has come in and its time is over, it is given up: so nothing that has come in already is lost by that.
+    fn work<C: Clock>(&mut self, clock: &C, callers: Callers, token: &str) -> bool {
+        let has_come = self.read(clock, callers, token);
         if !has_come && self.is_late(clock) {
             self.give_up();
         }
@@ -222,7 +229,7 @@ impl<S: Read + Write + OpenStream + Drop> Waiting<S> {
     }
 
     // Reads what has come in, and says whether anything has. Where memory is wanted for it, nothing more is waited for.
-    fn read<C: Clock>(&mut self, clock: &C, token: &str) -> bool {
+    fn read<C: Clock>(&mut self, clock: &C, callers: Callers, token: &str) -> bool {
         let mut piece = [0; PIECE_BYTES];
         if self.arrived.reserve(PIECE_BYTES).is_err() {
             self.give_up();
@@ -240,15 +247,18 @@ impl<S: Read + Write + OpenStream + Drop> Waiting<S> {
             }
             Ok(count) => {
                 self.keep(clock, piece.get(..count).unwrap_or(&[]));
-                self.judge(token);
+                self.judge(callers, token);
                 true
             }
         }
     }
 
     // Looks whether its request is to be served now.
-    fn judge(&mut self, token: &str) {
-        if self.coming.is_ready(self.arrived.as_slice(), token) {
+    fn judge(&mut self, callers: Callers, token: &str) {
+        if self
+            .coming
+            .is_ready(self.arrived.as_slice(), callers, token)
+        {
             self.progress = Progress::Due;
         }
     }
@@ -263,14 +273,20 @@ impl<S: Read + Write + OpenStream + Drop> Waiting<S> {
 
     // Whether more of its request is to come in, and its time is over.
     fn is_late<C: Clock>(&self, clock: &C) -> bool {
-        self.is_coming() && (self.span.left(clock).is_err() || self.silence.left(clock).is_err())
+        self.is_coming() && (self.whole.is_over(clock) || self.silence.is_over(clock))
     }
 
     // Its time begins now.
     fn resume<C: Clock>(&mut self, clock: &C) {
-        if let (Ok(span), Ok(silence)) = (self.span.again(clock), self.silence.again(clock)) {
-            self.span = span;
+        if let (Ok(whole), Ok(silence)) = (self.whole.again(clock), self.silence.again(clock)) {
+            self.whole = whole;
             self.silence = silence;
         }
+    }
+
+    // Its time is no shorter by this pause.
+    fn overlook(&mut self, pause: Duration) {
+        self.whole = self.whole.with_pause(pause);
+        self.silence = self.silence.with_pause(pause);
     }
 }

@@ -11,6 +11,8 @@ mod files;
 #[cfg(test)]
 mod locks;
 #[cfg(test)]
+mod signing_door;
+#[cfg(test)]
 mod sockets;
 
 pub use counter::Counter;

@@ -1,0 +1,39 @@
+//! Who calls at a door.
+
+/// Who calls at a door, by which it lets heads in, and by which it waits and looks.
+#[derive(Clone, Copy, PartialEq, Eq, Debug)]
+pub enum Callers {
+    /// Key managers, whose requests are rare and have no hurry. One loop takes a connection, serves it and hands it back
+    /// before it takes the next. Each request bears the token.
+    KeyManagers,
+    /// Validator clients, and key managers as well. Many lanes take turns at the door: one hands the connection back that it
+    /// served before and takes the next, which it serves while others take their turns. A request for a signature, for the
+    /// keys, or whether anyone is there bears no token.
+    ValidatorClients,
+}
+
+impl Callers {
+    /// How many connections wait at most, and how many leave at most. Validator clients may send the requests of a slot over
+    /// as many connections, next to slow peers, and there are up to 64 lanes.
+    pub(crate) fn places(self) -> usize {
+        match self {
+            Callers::KeyManagers => 8,
+            Callers::ValidatorClients => 64,
+        }
+    }
+
+    /// For how many milliseconds the door waits at most before it looks again whether a connection came, more of one came in
+    /// or can be sent, or its halt was raised. A signature that is wanted waits for that long at most, and it is worth less
+    /// the later it comes; the request of a key manager has time.
+    pub(crate) fn longest_look(self) -> u64 {
+        match self {
+            Callers::KeyManagers => 50,
+            Callers::ValidatorClients => 2,
+        }
+    }
+
+    /// Whether the calls of validator clients are served.
+    pub(crate) fn has_validator_clients(self) -> bool {
+        matches!(self, Callers::ValidatorClients)
+    }
+}
