@@ -142,6 +142,15 @@ def slot_at_once(proxy):
             fault('of %d votes at once %d were signed' % (count, len(through)))
     service.set(delay=0)
 
+def idle(proxy, for_seconds=3):
+    """The share of a processor that the proxy takes while nobody calls."""
+    def ticks():
+        with open('/proc/%d/stat' % proxy.child.pid) as stat:
+            return sum(map(int, stat.read().rpartition(')')[2].split()[11:13]))
+    before = ticks()
+    time.sleep(for_seconds)
+    print('while nobody calls the proxy takes %.1f %% of a processor' % (100 * (ticks() - before) / os.sysconf('SC_CLK_TCK') / for_seconds), flush=True)
+
 def scene_times():
     proxy = Proxy('times', MANY_KEYS)
     share = throughput(proxy, max(1, min(5, seconds / 12)))
@@ -152,6 +161,7 @@ def scene_times():
     print('one signature, medians: %.3f ms through the proxy, %.3f by the service alone: the proxy adds %.3f ms; twice 200 bytes and a sync: %.3f ms by fsync, %.3f by fdatasync'
           % tuple(1000 * it for it in (of['proxy'], of['service'], more, of['fsync'], of['fdatasync'])))
     goal('what the proxy adds is %.2f times two syncs; wanted at most 2.5' % (more / of['fsync']), more <= 2.5 * of['fsync'])
+    idle(proxy)
     proxy.stop()
 
 # ---- a storm

@@ -336,9 +336,10 @@ class Service:
 # ---- a storm
 
 def drawn(draw, epoch, keys):
-    """A request near this epoch: a vote whose source and target are some epochs about, or a block some slots about."""
+    """A request near this epoch: a vote whose source and target are some epochs about, at times in the wrong order, or a block some slots about."""
     if draw.random() < 0.7:
-        return 'vote', draw.randrange(keys), epoch - 1 - draw.choice((0, 0, 0, 1, 2, 3)), epoch + draw.choice((0, 0, 0, 1, 2)), draw.randrange(3)
+        source, target = epoch - 1 - draw.choice((0, 0, 0, 1, 2, 3)), epoch + draw.choice((0, 0, 0, 1, 2))
+        return ('vote', draw.randrange(keys), *((target, source) if draw.random() < 0.02 else (source, target)), draw.randrange(3))
     return 'block', draw.randrange(keys), epoch * 8 + draw.randrange(-2, 3), draw.randrange(3)
 
 def body_of(asked):
