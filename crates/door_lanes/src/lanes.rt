@@ -51,7 +51,6 @@ fn run_lanes<R: Threads + Wait + Sync, C: Send + Drop, T: Takes<C> + Send, V: Se
     requires ready { All (IsReady T.ready V.ready) lanes.old }
     ensures ready { All (IsReady T.ready V.ready) lanes.new }
     ensures went { AllWent T.leads V.serves lanes.old lanes.new }
-    ensures count { length lanes.new ≡ length lanes.old }
 {
     let count = lanes.len();
     let work = |_i: usize, lane: &mut Lane<T, V, C>|
