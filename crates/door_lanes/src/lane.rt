@@ -29,7 +29,7 @@ pub(crate) struct Lane<T, V, C> {
     pub(crate) servant: V,
     /// The one that it served last, if it did not hand it back yet.
     pub(crate) kept: Option<C>,
-    /// Why it ended, once it did.
+    /// Why it ended, once it did. Before that it says nothing.
     pub(crate) end: LaneEnd,
 }
 
