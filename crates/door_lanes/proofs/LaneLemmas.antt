@@ -1,19 +1,27 @@
 -- What a lane does, step by step.
-use Rattle.std.proofs.Common.{◌≡◌, ◌<◌, ◌||◌, ℕ, suc, Bool, true, false, cond, List, [], ◌∷◌, ◌++◌, Option, Some, None, length, slice_index_or, slice_set, refl, sym, ap, ◌∙◌, subst, append_assoc, append-nil, inl, inr, ⊎_elim, true≢false, arith}
-use Rattle.std.specs.List.{list_any}
+use Rattle.std.proofs.Common.{◌≡◌, ◌<◌, ℕ, suc, Bool, true, false, cond, List, [], ◌∷◌, ◌++◌, Option, Some, None, length, slice_index_or, refl, sym, ap, ◌∙◌, subst, append_assoc, append-nil, inl, inr, ⊎_elim, arith}
 use Rattle.call_plans.proofs.PathLemmas.{path_on}
 use Rattle.door_lanes.specs.declared.counted.Taken.{Taken}
 use Rattle.door_lanes.specs.declared.counted.Taken.TheVariants as taken
 use Rattle.door_lanes.specs.declared.lane.Lane.{Lane}
 use Rattle.door_lanes.specs.declared.lane.LaneEnd.{LaneEnd}
 use Rattle.door_lanes.specs.declared.lane.LaneEnd.TheVariants as end
-use Rattle.door_lanes.specs.Doors.{Among, OnlyLast, connection_in, connections_in}
-use Rattle.door_lanes.specs.Lanes.{NoneFailed, AllWent, Did, EndsBy, FailedAtLast, Goes, ServesOne, StepEnds, Steps, Visit, Visits, Went, accepted_in, finished_in, is_fault}
+use Rattle.door_lanes.specs.Doors.{Among, Asked, OnlyLast, answers, calls, connection_in, connections_in, returned, returned_in}
+use Rattle.door_lanes.specs.Lanes.{NoneFailed, AllWent, Did, EndsBy, FailedAtLast, Goes, ServesOne, StepEnds, Steps, Visit, Visits, Went, accepted_in, finished_in}
+use Rattle.door_lanes.proofs.FinishLemmas.{returned_append}
 
 module _ {C : Type 0} where
   pub connections_append : (rs ss : List (Taken C)) → connections_in (rs ++ ss) ≡ connections_in rs ++ connections_in ss
   connections_append [] ss = refl
   connections_append (r ∷ rs) ss = ap (λ (l : List C). connection_in r ++ l) (connections_append rs ss) ∙ sym (append_assoc (connection_in r) (connections_in rs) (connections_in ss))
+
+  pub answers_append : (xs ys : List (Asked C)) → answers (xs ++ ys) ≡ answers xs ++ answers ys
+  answers_append [] ys = refl
+  answers_append (x ∷ xs) ys = ap (λ (l : List (Taken C)). x.1 ∷ l) (answers_append xs ys)
+
+  calls_append : (xs ys : List (Asked C)) → calls (xs ++ ys) ≡ calls xs ++ calls ys
+  calls_append [] ys = refl
+  calls_append (x ∷ xs) ys = ap (λ (l : List (Option C)). x.0 ∷ l) (calls_append xs ys)
 
   accepted_append : (vs ws : List (Visit C)) → accepted_in (vs ++ ws) ≡ accepted_in vs ++ accepted_in ws
   accepted_append [] ws = refl
@@ -52,22 +60,6 @@ module _ {C : Type 0} where
   ends_on end.NoMore rs ss vs ws n p q = (among_on taken.NoMore rs ss q.0, never_on taken.Failed rs ss n q.1, up_on vs ws p q.2)
   ends_on end.Door rs ss vs ws n p q = (among_on taken.Failed rs ss q.0, only_last_on taken.Failed rs ss n q.1, up_on vs ws p q.2)
   ends_on end.Disk rs ss vs ws n p q = (never_on taken.Failed rs ss n q.0, failed_on vs ws p q.1)
-  ends_on end.Memory rs ss vs ws n p q = (never_on taken.Failed rs ss n q.0, up_on vs ws p q.1)
-
-  -- where no fault ended it, no disk failed, and the door did not
-  up_of : (e : LaneEnd) (rs : List (Taken C)) (vs : List (Visit C)) → is_fault e ≡ false → EndsBy e rs vs → NoneFailed vs
-  up_of end.Full rs vs e h = h.2
-  up_of end.NoMore rs vs e h = h.2
-  up_of end.Door rs vs e h = h.2
-  up_of end.Disk rs vs e h = absurd (true≢false e)
-  up_of end.Memory rs vs e h = h.1
-
-  works_of : (e : LaneEnd) (rs : List (Taken C)) (vs : List (Visit C)) → is_fault e ≡ false → EndsBy e rs vs → Among taken.Failed rs → ⊥
-  works_of end.Full rs vs e h a = h.1 a
-  works_of end.NoMore rs vs e h a = h.1 a
-  works_of end.Door rs vs e h a = absurd (true≢false e)
-  works_of end.Disk rs vs e h a = h.0 a
-  works_of end.Memory rs vs e h a = h.0 a
 
   one_answer : (r x : Taken C) → (r ≡ x → ⊥) → Among x (r ∷ []) → ⊥
   one_answer r x f h = ⊎_elim f (λ e. e) h
@@ -87,75 +79,80 @@ module _ {C : Type 0} where
   one_ends c x true = (one_answer (taken.Connection c) taken.Failed (λ e. absurd (cc e)), inl (refl, refl))
   one_ends c x false = (one_answer (taken.Connection c) taken.Failed (λ e. absurd (cc e)), (refl, tt))
 
-first_false : (p q : Bool) → (p || q) ≡ false → p ≡ false
-first_false true q e = e
-first_false false q e = refl
-
-module _ {T V C : Type 0} (leads : T → List (Taken C) → T → Type 0) (serves : V → C → C → Bool → V → Type 0) where
-  did_none : (a b : Lane T V C) (rs : List (Taken C)) → leads a.taker rs b.taker → b.servant ≡ a.servant → b.kept.items ≡ a.kept.items → connections_in rs ≡ [] → Did leads serves a [] rs b
-  did_none a b rs l s k e = record { took = l; path = s; are = e; kept = k ∙ sym (append-nil a.kept.items) }
-
-  -- there was no room
-  pub steps_memory : ((s : T) → leads s [] s) → (a b : Lane T V C) → b.taker ≡ a.taker → b.servant ≡ a.servant → b.kept.items ≡ a.kept.items → Steps leads serves a b (Some end.Memory)
-  steps_memory none a b t s k = record { visits = []; answers = []; did = did_none a b [] (subst (λ (x : T). leads a.taker [] x) (sym t) (none a.taker)) s k refl; ends = ((λ h. h), tt) }
-
+module _ {T V C : Type 0} (leads : T → List (Asked C) → T → Type 0) (serves : V → C → C → Bool → V → Type 0) where
   -- the door gave none
-  pub steps_none : (a b : Lane T V C) (r : Taken C) (e : LaneEnd) → leads a.taker (r ∷ []) b.taker → b.servant ≡ a.servant → b.kept.items ≡ a.kept.items → connection_in r ≡ [] → EndsBy e (r ∷ []) []
+  pub steps_none : (a b : Lane T V C) (o : Option C) (r : Taken C) (e : LaneEnd) → leads a.taker ((o, r) ∷ []) b.taker → o ≡ a.kept → b.servant ≡ a.servant → b.kept ≡ None → connection_in r ≡ [] → EndsBy e (r ∷ []) []
       → Steps leads serves a b (Some e)
-  steps_none a b r e l s k n h = record { visits = []; answers = r ∷ []; did = did_none a b (r ∷ []) l s k (append-nil (connection_in r) ∙ n); ends = h }
+  steps_none a b o r e l f s k n h = record {
+    visits = [];
+    asked = (o, r) ∷ [];
+    did = record {
+      took = l;
+      path = s;
+      are = append-nil (connection_in r) ∙ n;
+      back = ap (λ (x : Option C). (returned o ++ []) ++ returned x) k ∙ append-nil (returned o ++ []) ∙ ap (λ (x : Option C). returned x ++ []) f;
+    };
+    ends = h;
+  }
 
   -- the door gave one, which was served
-  pub steps_one : (a m b : Lane T V C) (c : C) (e : Option LaneEnd) → leads a.taker (taken.Connection c ∷ []) m.taker → m.servant ≡ a.servant → m.kept.items ≡ a.kept.items → ServesOne serves m c b e → Steps leads serves a b e
-  steps_one a m b c e l s k o =
+  pub steps_one : (a m b : Lane T V C) (o : Option C) (c : C) (e : Option LaneEnd) → leads a.taker ((o, taken.Connection c) ∷ []) m.taker → o ≡ a.kept → m.servant ≡ a.servant → ServesOne serves m c b e → Steps leads serves a b e
+  steps_one a m b k c e l f s o =
       let v : Visit C = record { accepted = c; finished = o.finished; failed = o.failed } in
       let at : serves a.servant c o.finished o.failed b.servant = subst (λ (x : V). serves x c o.finished o.failed b.servant) s o.served in
       record {
         visits = v ∷ [];
-        answers = taken.Connection c ∷ [];
-        did = record { took = subst (λ (x : T). leads a.taker (taken.Connection c ∷ []) x) (sym o.taker) l; path = (b.servant, at, refl); are = refl; kept = o.kept ∙ ap (λ (l : List C). l ++ o.finished ∷ []) k };
+        asked = (k, taken.Connection c) ∷ [];
+        did = record {
+          took = subst (λ (x : T). leads a.taker ((k, taken.Connection c) ∷ []) x) (sym o.taker) l;
+          path = (b.servant, at, refl);
+          are = refl;
+          back = ap (λ (x : Option C). (returned k ++ []) ++ returned x) o.kept ∙ ap (λ (l : List C). l ++ o.finished ∷ []) (append-nil (returned k) ∙ ap (λ (x : Option C). returned x) f);
+        };
         ends = subst (λ (x : Option LaneEnd). StepEnds x (taken.Connection c ∷ []) (v ∷ [])) (sym o.ends) (one_ends c o.finished o.failed);
       }
 
-  module _ (more : (s t u : T) (xs ys : List (Taken C)) → leads s xs t → leads t ys u → leads s (xs ++ ys) u) where
-    did_more : (a b c : Lane T V C) (vs ws : List (Visit C)) (rs ss : List (Taken C)) → Did leads serves a vs rs b → Did leads serves b ws ss c → Did leads serves a (vs ++ ws) (rs ++ ss) c
-    did_more a b c vs ws rs ss p q = record {
-      took = more a.taker b.taker c.taker rs ss p.took q.took;
+  module _ (more : (s t u : T) (xs ys : List (Asked C)) → leads s xs t → leads t ys u → leads s (xs ++ ys) u) where
+    -- what was handed back and is kept, after both
+    back_more : (a b c : Option C) (vs ws : List (Visit C)) (xs ys : List (Asked C)) → returned_in (calls xs) ++ returned b ≡ returned a ++ finished_in vs → returned_in (calls ys) ++ returned c ≡ returned b ++ finished_in ws
+        → returned_in (calls (xs ++ ys)) ++ returned c ≡ returned a ++ finished_in (vs ++ ws)
+    back_more a b c vs ws xs ys p q =
+        let r : List C = returned_in (calls xs) in
+        let s : List C = returned_in (calls ys) in
+        let split : returned_in (calls (xs ++ ys)) ≡ r ++ s = ap (λ (l : List (Option C)). returned_in l) (calls_append xs ys) ∙ returned_append (calls xs) (calls ys) in
+        ap (λ (l : List C). l ++ returned c) split ∙ append_assoc r s (returned c) ∙ ap (λ (l : List C). r ++ l) q ∙ sym (append_assoc r (returned b) (finished_in ws)) ∙ ap (λ (l : List C). l ++ finished_in ws) p
+        ∙ append_assoc (returned a) (finished_in vs) (finished_in ws) ∙ ap (λ (l : List C). returned a ++ l) (sym (finished_append vs ws))
+
+    did_more : (a b c : Lane T V C) (vs ws : List (Visit C)) (xs ys : List (Asked C)) → Did leads serves a vs xs b → Did leads serves b ws ys c → Did leads serves a (vs ++ ws) (xs ++ ys) c
+    did_more a b c vs ws xs ys p q = record {
+      took = more a.taker b.taker c.taker xs ys p.took q.took;
       path = path_on (Visits serves) a.servant b.servant c.servant vs ws p.path q.path;
-      are = connections_append rs ss ∙ ap (λ (l : List C). l ++ connections_in ss) p.are ∙ ap (λ (l : List C). accepted_in vs ++ l) q.are ∙ sym (accepted_append vs ws);
-      kept = q.kept ∙ ap (λ (l : List C). l ++ finished_in ws) p.kept ∙ append_assoc a.kept.items (finished_in vs) (finished_in ws) ∙ ap (λ (l : List C). a.kept.items ++ l) (sym (finished_append vs ws));
+      are = ap (λ (l : List (Taken C)). connections_in l) (answers_append xs ys) ∙ connections_append (answers xs) (answers ys) ∙ ap (λ (l : List C). l ++ connections_in (answers ys)) p.are ∙ ap (λ (l : List C). accepted_in vs ++ l) q.are
+          ∙ sym (accepted_append vs ws);
+      back = back_more a.kept b.kept c.kept vs ws xs ys p.back q.back;
     }
 
     pub goes_more : (a b c : Lane T V C) → Goes leads serves a b → Steps leads serves b c None → Goes leads serves a c
-    goes_more a b c p q = record { visits = p.visits ++ q.visits; answers = p.answers ++ q.answers; did = did_more a b c p.visits q.visits p.answers q.answers p.did q.did; works = never_on taken.Failed p.answers q.answers p.works q.ends.0; up = up_on p.visits q.visits p.up q.ends.1 }
+    goes_more a b c p q = record {
+      visits = p.visits ++ q.visits;
+      asked = p.asked ++ q.asked;
+      did = did_more a b c p.visits q.visits p.asked q.asked p.did q.did;
+      works = subst (λ (l : List (Taken C)). Among taken.Failed l → ⊥) (sym (answers_append p.asked q.asked)) (never_on taken.Failed (answers p.asked) (answers q.asked) p.works q.ends.0);
+      up = up_on p.visits q.visits p.up q.ends.1;
+    }
 
     pub went_by : (a b c : Lane T V C) (e : LaneEnd) → Goes leads serves a b → Steps leads serves b c (Some e) → Went leads serves a (record { taker = c.taker; servant = c.servant; kept = c.kept; end = e })
     went_by a b c e p q =
-        let d = did_more a b c p.visits q.visits p.answers q.answers p.did q.did in
+        let d = did_more a b c p.visits q.visits p.asked q.asked p.did q.did in
         record {
           visits = p.visits ++ q.visits;
-          answers = p.answers ++ q.answers;
-          did = record { took = d.took; path = d.path; are = d.are; kept = d.kept };
-          ends = ends_on e p.answers q.answers p.visits q.visits p.works p.up q.ends;
+          asked = p.asked ++ q.asked;
+          did = record { took = d.took; path = d.path; are = d.are; back = d.back };
+          ends = subst (λ (l : List (Taken C)). EndsBy e l (p.visits ++ q.visits)) (sym (answers_append p.asked q.asked)) (ends_on e (answers p.asked) (answers q.asked) p.visits q.visits p.works p.up q.ends);
         }
 
-    went_more : (a b c : Lane T V C) → Went leads serves a b → is_fault b.end ≡ false → Went leads serves b c → Went leads serves a c
-    went_more a b c p e q = record {
-      visits = p.visits ++ q.visits;
-      answers = p.answers ++ q.answers;
-      did = did_more a b c p.visits q.visits p.answers q.answers p.did q.did;
-      ends = ends_on c.end p.answers q.answers p.visits q.visits (works_of b.end p.answers p.visits e p.ends) (up_of b.end p.answers p.visits e p.ends) q.ends;
-    }
-
-    -- the first lane went on alone
-    pub went_on : (olds bs : List (Lane T V C)) (d c : Lane T V C) → AllWent leads serves olds bs → list_any (λ (lane : Lane T V C). is_fault lane.end) bs ≡ false → 0 < length bs → Went leads serves (slice_index_or bs 0 d) c
-        → AllWent leads serves olds (slice_set bs 0 c)
-    went_on [] [] d c h e lt w = absurd (omega (arith, lt))
-    went_on [] (b ∷ bs) d c h e lt w = absurd h
-    went_on (a ∷ olds) [] d c h e lt w = absurd h
-    went_on (a ∷ olds) (b ∷ bs) d c h e lt w = (went_more a b c h.0 (first_false (is_fault b.end) (list_any (λ (lane : Lane T V C). is_fault lane.end) bs) e) w, h.1)
-
   pub goes_none : ((s : T) → leads s [] s) → (a : Lane T V C) → Goes leads serves a a
-  goes_none none a = record { visits = []; answers = []; did = did_none a a [] (none a.taker) refl refl refl; works = λ h. h; up = tt }
+  goes_none none a = record { visits = []; asked = []; did = record { took = none a.taker; path = refl; are = refl; back = sym (append-nil (returned a.kept)) }; works = λ h. h; up = tt }
 
   pub all_went : (olds bs : List (Lane T V C)) → length bs ≡ length olds → ((i : ℕ) (d : Lane T V C) → i < length olds → Went leads serves (slice_index_or olds i d) (slice_index_or bs i d)) → AllWent leads serves olds bs
   all_went [] [] e f = tt

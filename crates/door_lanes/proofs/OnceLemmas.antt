@@ -1,13 +1,11 @@
--- What all lanes took together is what the door gave, each once.
-use Rattle.std.proofs.Common.{◌≡◌, ◌⊎◌, ◌+◌, ◌<◌, ◌≤◌, ◌==◌, ℕ, zero, suc, Bool, true, false, cond, List, [], ◌∷◌, ◌++◌, Some, length, slice_get, refl, sym, ap, ◌∙◌, subst, append_assoc, inl, inr, ⊎_elim, eq-eqb, ne_eqb, arith}
+-- What all lanes took together is what the door gave, each once; and what they handed back is what they served, each once.
+use Rattle.std.proofs.Common.{◌≡◌, ◌⊎◌, ◌+◌, ◌<◌, ◌≤◌, ◌==◌, ℕ, zero, suc, Bool, true, false, cond, List, [], ◌∷◌, ◌++◌, Option, Some, length, slice_get, refl, sym, ap, ◌∙◌, subst, append_assoc, inl, inr, ⊎_elim, eq-eqb, ne_eqb, arith}
 use Rattle.std.specs.List.Sorted.{IsPermutation}
 use Rattle.std.proofs.lemmas.List.Sorted.{IsPermutation-append_comm, IsPermutation-append_left, IsPermutation-append_right, IsPermutation-refl, IsPermutation-trans}
 use Rattle.desk_lock.specs.Histories.{own}
-use Rattle.door_lanes.specs.declared.counted.Taken.{Taken}
-use Rattle.door_lanes.specs.Doors.{connection_in, connections_in}
-use Rattle.door_lanes.specs.Seats.{Turn, answers, replies}
-use Rattle.door_lanes.specs.Lanes.{Visit, accepted_in}
-use Rattle.door_lanes.specs.Runs.{all_accepted}
+use Rattle.door_lanes.specs.Doors.{Asked, Turn, answers, asks, calls, connection_in, connections_in, replies, returned, returned_in}
+use Rattle.door_lanes.specs.Lanes.{Visit, accepted_in, finished_in}
+use Rattle.door_lanes.specs.Runs.{all_accepted, all_finished}
 
 here_or_later : (i b : ℕ) → i ≤ b → (i ≡ b) ⊎ (i < b)
 here_or_later zero zero le = inl refl
@@ -74,37 +72,69 @@ cond_nil : {X : Type 0} (b : Bool) (x : X) (ys : List X) → cond b (x ∷ ys) y
 cond_nil true x ys e = absurd (cc e)
 cond_nil false x ys e = e
 
-module _ {C : Type 0} where
-  taken_cond : (b : Bool) (u : Unit {0}) (r : Taken C) (ys : List (Unit {0} × Taken C))
-      → connections_in (answers (cond b ((u, r) ∷ ys) ys)) ≡ cond b (connection_in r ++ connections_in (answers ys)) (connections_in (answers ys))
-  taken_cond true u r ys = refl
-  taken_cond false u r ys = refl
+own_nil : {C : Type 0} (k : ℕ) (e : Turn C) (es : List (Turn C)) → own k (e ∷ es) ≡ [] → own k es ≡ []
+own_nil k e es h = cond_nil (e.by == k) (e.call, e.reply) (own k es) h
 
-  own_nil : (k : ℕ) (e : Turn C) (es : List (Turn C)) → own k (e ∷ es) ≡ [] → own k es ≡ []
-  own_nil k e es h = cond_nil (e.by == k) (e.call, e.reply) (own k es) h
+own_some : {C : Type 0} (e : Turn C) (es : List (Turn C)) → own e.by (e ∷ es) ≡ [] → ⊥
+own_some e es h =
+    let one : cond (e.by == e.by) ((e.call, e.reply) ∷ own e.by es) (own e.by es) ≡ (e.call, e.reply) ∷ own e.by es =
+    ap (λ (t : Bool). cond t ((e.call, e.reply) ∷ own e.by es) (own e.by es)) (eq-eqb e.by e.by refl) in
+    let none : (e.call, e.reply) ∷ own e.by es ≡ [] = sym one ∙ h in
+    absurd (cc none)
 
-  own_some : (e : Turn C) (es : List (Turn C)) → own e.by (e ∷ es) ≡ [] → ⊥
-  own_some e es h =
-      let one : cond (e.by == e.by) ((e.call, e.reply) ∷ own e.by es) (own e.by es) ≡ (e.call, e.reply) ∷ own e.by es =
-      ap (λ (t : Bool). cond t ((e.call, e.reply) ∷ own e.by es) (own e.by es)) (eq-eqb e.by e.by refl) in
-      let none : (e.call, e.reply) ∷ own e.by es ≡ [] = sym one ∙ h in
-      absurd (cc none)
+-- what each call with its answer has of something
+module _ {X C : Type 0} (of : Asked C → List X) where
+  -- all that a pass's own calls have of it, and all that all turns have
+  abbrev in_own : List (Asked C) → List X
+  in_own [] = []
+  in_own (x ∷ xs) = of x ++ in_own xs
 
-  -- what each of n passes took, pass by pass
-  taken_by_pass : (log : List (Turn C)) (n : ℕ) → ((k : ℕ) → n ≤ k → own k log ≡ []) → IsPermutation (connections_in (replies log)) (gathered (λ k. connections_in (answers (own k log))) 0 n)
-  taken_by_pass [] n none = subst (λ (l : List C). IsPermutation [] l) (sym (none_gathered 0 n)) (IsPermutation-refl [])
-  taken_by_pass (e ∷ es) n none =
-      let xs : List C = connection_in e.reply in
-      let v : ℕ → List C = λ k. connections_in (answers (own k es)) in
+  abbrev in_log : List (Turn C) → List X
+  in_log [] = []
+  in_log (e ∷ es) = of (e.call, e.reply) ++ in_log es
+
+  own_cond : (b : Bool) (x : Asked C) (ys : List (Asked C)) → in_own (cond b (x ∷ ys) ys) ≡ cond b (of x ++ in_own ys) (in_own ys)
+  own_cond true x ys = refl
+  own_cond false x ys = refl
+
+  -- what each of n passes has, pass by pass
+  by_pass : (log : List (Turn C)) (n : ℕ) → ((k : ℕ) → n ≤ k → own k log ≡ []) → IsPermutation (in_log log) (gathered (λ k. in_own (own k log)) 0 n)
+  by_pass [] n none = subst (λ (l : List X). IsPermutation [] l) (sym (none_gathered 0 n)) (IsPermutation-refl [])
+  by_pass (e ∷ es) n none =
+      let xs : List X = of (e.call, e.reply) in
+      let v : ℕ → List X = λ k. in_own (own k es) in
       let lt : e.by < n = ⊎_elim (λ lt. lt) (λ le. absurd (own_some e es (none e.by le))) (below_or_not e.by n) in
       let o : IsPermutation (xs ++ gathered v 0 n) (gathered (λ k. cond (e.by == k) (xs ++ v k) (v k)) 0 n) = once_more xs e.by v 0 n (omega arith) (omega (arith, lt)) in
-      let r : IsPermutation (connections_in (replies es)) (gathered v 0 n) = taken_by_pass es n (λ k le. own_nil k e es (none k le)) in
-      let p : IsPermutation (xs ++ connections_in (replies es)) (xs ++ gathered v 0 n) = IsPermutation-append_right xs (connections_in (replies es)) (gathered v 0 n) r in
-      let q : IsPermutation (xs ++ connections_in (replies es)) (gathered (λ k. cond (e.by == k) (xs ++ v k) (v k)) 0 n) =
-      IsPermutation-trans (xs ++ connections_in (replies es)) (xs ++ gathered v 0 n) (gathered (λ k. cond (e.by == k) (xs ++ v k) (v k)) 0 n) p o in
-      let same : gathered (λ k. cond (e.by == k) (xs ++ v k) (v k)) 0 n ≡ gathered (λ k. connections_in (answers (own k (e ∷ es)))) 0 n =
-      same_gathered (λ k. cond (e.by == k) (xs ++ v k) (v k)) (λ k. connections_in (answers (own k (e ∷ es)))) (λ k. sym (taken_cond (e.by == k) e.call e.reply (own k es))) 0 n in
-      subst (λ (l : List C). IsPermutation (xs ++ connections_in (replies es)) l) same q
+      let r : IsPermutation (in_log es) (gathered v 0 n) = by_pass es n (λ k le. own_nil k e es (none k le)) in
+      let p : IsPermutation (xs ++ in_log es) (xs ++ gathered v 0 n) = IsPermutation-append_right xs (in_log es) (gathered v 0 n) r in
+      let q : IsPermutation (xs ++ in_log es) (gathered (λ k. cond (e.by == k) (xs ++ v k) (v k)) 0 n) =
+      IsPermutation-trans (xs ++ in_log es) (xs ++ gathered v 0 n) (gathered (λ k. cond (e.by == k) (xs ++ v k) (v k)) 0 n) p o in
+      let same : gathered (λ k. cond (e.by == k) (xs ++ v k) (v k)) 0 n ≡ gathered (λ k. in_own (own k (e ∷ es))) 0 n =
+      same_gathered (λ k. cond (e.by == k) (xs ++ v k) (v k)) (λ k. in_own (own k (e ∷ es))) (λ k. sym (own_cond (e.by == k) (e.call, e.reply) (own k es))) 0 n in
+      subst (λ (l : List X). IsPermutation (xs ++ in_log es) l) same q
+
+module _ {C : Type 0} where
+  abbrev given_of : Asked C → List C
+  given_of x = connection_in x.1
+
+  abbrev back_of : Asked C → List C
+  back_of x = returned x.0
+
+  given_own : (xs : List (Asked C)) → in_own given_of xs ≡ connections_in (answers xs)
+  given_own [] = refl
+  given_own (x ∷ xs) = ap (λ (l : List C). connection_in x.1 ++ l) (given_own xs)
+
+  given_log : (log : List (Turn C)) → in_log given_of log ≡ connections_in (replies log)
+  given_log [] = refl
+  given_log (e ∷ es) = ap (λ (l : List C). connection_in e.reply ++ l) (given_log es)
+
+  back_own : (xs : List (Asked C)) → in_own back_of xs ≡ returned_in (calls xs)
+  back_own [] = refl
+  back_own (x ∷ xs) = ap (λ (l : List C). returned x.0 ++ l) (back_own xs)
+
+  back_log : (log : List (Turn C)) → in_log back_of log ≡ returned_in (asks log)
+  back_log [] = refl
+  back_log (e ∷ es) = ap (λ (l : List C). returned e.call ++ l) (back_log es)
 
   visits_gathered : (w : ℕ → List C) (i : ℕ) (visits : List (List (Visit C))) → ((k : ℕ) (vs : List (Visit C)) → slice_get visits k ≡ Some vs → accepted_in vs ≡ w (i + k)) → all_accepted visits ≡ gathered w i (length visits)
   visits_gathered w i [] f = refl
@@ -118,6 +148,44 @@ module _ {C : Type 0} where
   pub each_once : (log : List (Turn C)) (visits : List (List (Visit C))) → ((k : ℕ) (vs : List (Visit C)) → slice_get visits k ≡ Some vs → connections_in (answers (own k log)) ≡ accepted_in vs)
       → ((k : ℕ) → length visits ≤ k → own k log ≡ []) → IsPermutation (connections_in (replies log)) (all_accepted visits)
   each_once log visits f none =
-      let w : ℕ → List C = λ k. connections_in (answers (own k log)) in
-      let same : all_accepted visits ≡ gathered w 0 (length visits) = visits_gathered w 0 visits (λ k vs is. let s : k ≡ 0 + k = omega arith in sym (f k vs is) ∙ ap (λ (n : ℕ). w n) s) in
-      subst (λ (l : List C). IsPermutation (connections_in (replies log)) l) (sym same) (taken_by_pass log (length visits) none)
+      let w : ℕ → List C = λ k. in_own given_of (own k log) in
+      let same : all_accepted visits ≡ gathered w 0 (length visits) =
+      visits_gathered w 0 visits (λ k vs is. let s : k ≡ 0 + k = omega arith in sym (f k vs is) ∙ sym (given_own (own k log)) ∙ ap (λ (n : ℕ). w n) s) in
+      subst (λ (l : List C). IsPermutation l (all_accepted visits)) (given_log log) (subst (λ (l : List C). IsPermutation (in_log given_of log) l) (sym same) (by_pass given_of log (length visits) none))
+
+  -- the second list of each goes after the first of it
+  between : (a g o r : List C) → IsPermutation ((a ++ g) ++ (o ++ r)) ((a ++ o) ++ (g ++ r))
+  between a g o r =
+      let p : IsPermutation (a ++ (g ++ (o ++ r))) (a ++ (o ++ (g ++ r))) = IsPermutation-append_right a (g ++ (o ++ r)) (o ++ (g ++ r)) (to_front g o r) in
+      let q : IsPermutation ((a ++ g) ++ (o ++ r)) (a ++ (o ++ (g ++ r))) = subst (λ (l : List C). IsPermutation l (a ++ (o ++ (g ++ r)))) (sym (append_assoc a g (o ++ r))) p in
+      subst (λ (l : List C). IsPermutation ((a ++ g) ++ (o ++ r)) l) (sym (append_assoc a o (g ++ r))) q
+
+  -- what each lane handed back, and then what each kept, is what they served
+  kept_gathered : (w : ℕ → List C) (i : ℕ) (kept : List (Option C)) (visits : List (List (Visit C))) → length kept ≡ length visits
+      → ((k : ℕ) (vs : List (Visit C)) (o : Option C) → slice_get visits k ≡ Some vs → slice_get kept k ≡ Some o → w (i + k) ++ returned o ≡ finished_in vs) → IsPermutation (gathered w i (length visits) ++ returned_in kept) (all_finished visits)
+  kept_gathered w i [] [] long f = IsPermutation-refl []
+  kept_gathered w i [] (vs ∷ vss) long f = absurd (omega (arith, long))
+  kept_gathered w i (o ∷ os) [] long f = absurd (omega (arith, long))
+  kept_gathered w i (o ∷ os) (vs ∷ vss) long f =
+      let at : i ≡ i + 0 = omega arith in
+      let one : w i ++ returned o ≡ finished_in vs = ap (λ (n : ℕ). w n ++ returned o) at ∙ f 0 vs o refl refl in
+      let rest : IsPermutation (gathered w (suc i) (length vss) ++ returned_in os) (all_finished vss) =
+      kept_gathered w (suc i) os vss (omega (arith, long)) (λ k us p a b. let s : suc i + k ≡ i + suc k = omega arith in ap (λ (n : ℕ). w n ++ returned p) s ∙ f (suc k) us p a b) in
+      let g : List C = gathered w (suc i) (length vss) in
+      let r : List C = returned_in os in
+      let whole : IsPermutation ((w i ++ returned o) ++ (g ++ r)) ((w i ++ returned o) ++ all_finished vss) = IsPermutation-append_right (w i ++ returned o) (g ++ r) (all_finished vss) rest in
+      let all : IsPermutation ((w i ++ g) ++ (returned o ++ r)) ((w i ++ returned o) ++ all_finished vss) =
+      IsPermutation-trans ((w i ++ g) ++ (returned o ++ r)) ((w i ++ returned o) ++ (g ++ r)) ((w i ++ returned o) ++ all_finished vss) (between (w i) g (returned o) r) whole in
+      subst (λ (l : List C). IsPermutation ((w i ++ g) ++ (returned o ++ r)) (l ++ all_finished vss)) one all
+
+  -- each connection that a lane served was handed back once, by a turn or in the end, and no other was
+  pub each_back : (log : List (Turn C)) (kept : List (Option C)) (visits : List (List (Visit C))) → length kept ≡ length visits
+      → ((k : ℕ) (vs : List (Visit C)) (o : Option C) → slice_get visits k ≡ Some vs → slice_get kept k ≡ Some o → returned_in (calls (own k log)) ++ returned o ≡ finished_in vs) → ((k : ℕ) → length visits ≤ k → own k log ≡ [])
+      → IsPermutation (returned_in (asks log) ++ returned_in kept) (all_finished visits)
+  each_back log kept visits long f none =
+      let w : ℕ → List C = λ k. in_own back_of (own k log) in
+      let n : ℕ = length visits in
+      let last : IsPermutation (gathered w 0 n ++ returned_in kept) (all_finished visits) =
+      kept_gathered w 0 kept visits long (λ k vs o a b. let s : 0 + k ≡ k = omega arith in ap (λ (m : ℕ). w m ++ returned o) s ∙ ap (λ (l : List C). l ++ returned o) (back_own (own k log)) ∙ f k vs o a b) in
+      let turns : IsPermutation (returned_in (asks log)) (gathered w 0 n) = subst (λ (l : List C). IsPermutation l (gathered w 0 n)) (back_log log) (by_pass back_of log n none) in
+      IsPermutation-trans (returned_in (asks log) ++ returned_in kept) (gathered w 0 n ++ returned_in kept) (all_finished visits) (IsPermutation-append_left (returned_in kept) (returned_in (asks log)) (gathered w 0 n) turns) last

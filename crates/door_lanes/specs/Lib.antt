@@ -1,6 +1,6 @@
 pub mod Doors
+pub mod DoorLaws
 pub mod Seats
 pub mod SeatLaws
 pub mod Lanes
-pub mod Finishing
 pub mod Runs

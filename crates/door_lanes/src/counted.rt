@@ -1,7 +1,8 @@
 //! A door that counts what it gives, as a value that lanes share.
 ghost use Rattle.std.specs.Prelude.{◌≡◌};
-ghost use Rattle.door_lanes.specs.Doors.{counted_anew, door_seen};
+ghost use Rattle.door_lanes.specs.Doors.{NextStep, counted_anew, door_seen};
 
+use crate::finish::hand_back;
 use desk_lock::Seq;
 use edge_kit::{Door, Failed};
 use std::marker::Model;
@@ -47,6 +48,23 @@ impl<R: Door> CountedDoor<R> {
         }
     }
 
+    /// The next connection, where fewer were given than are wanted. It may wait until one comes.
+    fn next(&mut self) -> Taken<R::Conn>
+        ensures { NextStep self.old result self.new }
+    {
+        if self.given >= self.wanted {
+            return Taken::Full;
+        }
+        match self.door.accept() {
+            Ok(Some(connection)) => {
+                self.given += 1;
+                Taken::Connection(connection)
+            }
+            Ok(None) => Taken::NoMore,
+            Err(Failed) => Taken::Failed,
+        }
+    }
+
     /// The door itself. Takes no memory.
     pub(crate) fn into_door(self) -> R
         ensures { door_seen R.coming R.finished R.lent R.faults result ≡ self.door }
@@ -61,9 +79,11 @@ impl<R: Door> CountedDoor<R> {
 }
 
 impl<R: Door> Seq for CountedDoor<R> {
-    ghost use Rattle.door_lanes.specs.Doors.{TakeStep};
+    ghost use Rattle.door_lanes.specs.Doors.{CanAsk, MayAsk, TakeStep};
+    ghost use Rattle.door_lanes.specs.DoorLaws.{door_admits};
 
-    type Call = ();
+    /// The connection that is handed back, if there is one.
+    type Call = Option<R::Conn>;
 
     type Reply = Taken<R::Conn>;
 
@@ -71,24 +91,15 @@ impl<R: Door> Seq for CountedDoor<R> {
 
     ghost steps = { TakeStep };
 
-    ghost may = { λ made call. Unit {0} };
+    ghost may = { MayAsk };
 
-    ghost can = { λ d call. Unit {0} };
+    ghost can = { CanAsk };
 
-    /// The next connection, where fewer were given than are wanted. It may wait until one comes.
-    fn apply(&mut self, _call: ()) -> Taken<R::Conn> {
-        if self.given >= self.wanted {
-            return Taken::Full;
-        }
-        match self.door.accept() {
-            Ok(Some(connection)) => {
-                self.given += 1;
-                Taken::Connection(connection)
-            }
-            Ok(None) => Taken::NoMore,
-            Err(Failed) => Taken::Failed,
-        }
+    /// Takes back the connection that is handed back, and then gives the next. It may wait until one comes.
+    fn apply(&mut self, call: Option<R::Conn>) -> Taken<R::Conn> {
+        hand_back(&mut self.door, call);
+        self.next()
     }
 
-    ghost admits = { λ s t log by call begun legal ok. tt };
+    ghost admits = { λ s t log by call begun legal ok. door_admits s t log by call legal ok };
 }

@@ -1,5 +1,5 @@
-//! Lanes that share one door. Each takes a connection, serves it, keeps it, and takes the next, in a thread of its own
-//! where the system makes one. In the end every connection that was kept is finished.
+//! Lanes that share one door. Each takes a connection, serves it, hands it back and takes the next, in a thread of its own
+//! where the system makes one.
 #![tactic(auto)]
 
 mod counted;

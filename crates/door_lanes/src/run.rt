@@ -1,12 +1,11 @@
 //! A door that lanes share, from first to last.
-ghost use Rattle.std.specs.Prelude.{◌≡◌, ◌≤◌, [], All, IfErr, IfOk, map, vec_capacity, vec_len};
+ghost use Rattle.std.specs.Prelude.{◌≡◌, ◌≤◌, [], All, IfErr, IfOk, None, map, vec_capacity, vec_len};
 ghost use Rattle.desk_lock.specs.Sharing.{AreAllAt, given_of, opening, passes_of};
-ghost use Rattle.door_lanes.specs.Doors.{TakeStep, counted_anew, door_seen};
-ghost use Rattle.door_lanes.specs.Seats.{Free};
+ghost use Rattle.door_lanes.specs.Doors.{MayAsk, TakeStep, counted_anew, door_seen};
 ghost use Rattle.door_lanes.specs.Runs.{AreNew, RanSeated, Served, TakenBack};
 
 use crate::counted::CountedDoor;
-use crate::finish::finish_all;
+use crate::finish::hand_back_all;
 use crate::lanes::{LoopEnd, serve_lanes};
 use crate::seats::{LaneOf, SeatedLane, give_passes, leave_seats, take_seats};
 use crate::serves::Serves;
@@ -21,7 +20,7 @@ use std::thread::Threads;
 struct Room<R: Door, V> {
     given: Vec<LaneOf<R, V>>,
     passes: Vec<Pass<CountedDoor<R>>>,
-    kept: Vec<Vec<R::Conn>>,
+    kept: Vec<Option<R::Conn>>,
     servants: Vec<V>,
 }
 
@@ -43,18 +42,18 @@ where
 }
 
 /// Has lanes, one for each servant (1 to 64), serve the connections of a door until `wanted` of them were given or the
-/// door has no other. Each lane makes room for keeping one, takes it, serves it and keeps it, in a thread of its own where
-/// the system makes one, and else one lane after another. Where no lane ended by a fault the first then goes on alone, in
-/// the thread that is there. Last, each connection that was kept is finished, lane by lane, however the lanes ended. The
-/// door and the servants come back, the servants in their order and ready for other connections.
+/// door has no other. Each lane takes a connection by a turn at the door and serves it, in a thread of its own where the
+/// system makes one, and else one lane after another. It hands the connection back with its next turn, and takes another
+/// by it, so that it never has more than one. The last ones, that were not handed back by a turn, are finished in the end,
+/// lane by lane, however the lanes ended. The door and the servants come back, the servants in their order and ready for
+/// other connections. Lanes take no memory of their own.
 ///
 /// # Errors
 ///
 /// In this order:
+/// - `LoopEnd::Memory`: memory was wanted. Nothing was done, and door and servants are as they were.
 /// - `LoopEnd::Disk`: a servant said after a connection that the disk of its desk had failed.
 /// - `LoopEnd::Door`: the door failed, and its count of faults rose.
-/// - `LoopEnd::Memory`: memory was wanted. Either nothing was done, and door and servants are as they were; or the first
-///   lane in the end found no room for keeping one more.
 ///
 /// A lane ends by its own fault alone: the others go on to their ends.
 pub fn serve_door<X: Threads + Wait + Sync, R: Door + Send, V: Serves<R::Conn> + Send + Drop>(
@@ -91,7 +90,7 @@ where
         mut kept,
         servants: mut left,
     } = room;
-    give_passes(alloc, &mut owner, servants, &mut given);
+    give_passes(&mut owner, servants, &mut given);
     let lock = Mutex::new(());
     let ended = serve_seated(
         rt,
@@ -104,7 +103,7 @@ where
         &mut left,
     );
     let mut door = take_door(owner, passes);
-    finish_all(&mut door, kept);
+    hand_back_all(&mut door, kept);
     (ended, door, left)
 }
 
@@ -128,7 +127,7 @@ fn lend_door<R: Door>(
 /// Takes the door back, once all passes are handed back in the order of their numbers. Takes no memory.
 fn take_door<R: Door>(owner: Owner<CountedDoor<R>>, passes: Vec<Pass<CountedDoor<R>>>) -> R
     requires given { given_of owner ≡ passes_of owner }
-    requires all { AreAllAt TakeStep Free owner passes.items }
+    requires all { AreAllAt TakeStep MayAsk owner passes.items }
     ensures { TakenBack (opening owner.shared) passes.items (door_seen R.coming R.finished R.lent R.faults result) }
 {
     let counted = owner.close(passes);
@@ -143,20 +142,20 @@ fn serve_seated<'a, X: Threads + Wait + Sync, R: Door + Send, V: Serves<R::Conn>
     given: Vec<LaneOf<R, V>>,
     seats: Vec<SeatedLane<'a, R, X, V>>,
     passes: &mut Vec<Pass<CountedDoor<R>>>,
-    kept: &mut Vec<Vec<R::Conn>>,
+    kept: &mut Vec<Option<R::Conn>>,
     servants: &mut Vec<V>,
 ) -> Result<(), LoopEnd>
 where
     R::Conn: Send + Drop,
     requires given { AreNew shared.now 0 (map (λ lane. lane.taker) given.items) }
-    requires empty { All (λ lane. lane.kept.items ≡ []) given.items }
+    requires empty { All (λ lane. lane.kept ≡ None) given.items }
     requires ready { All (λ lane. V.ready lane.servant) given.items }
     requires some { 1 ≤ vec_len given }
     requires seats { (seats.items ≡ []) × (vec_len given ≤ vec_capacity seats) }
     requires passes { (passes.old.items ≡ []) × (vec_len given ≤ vec_capacity passes.old) }
     requires kept { (kept.old.items ≡ []) × (vec_len given ≤ vec_capacity kept.old) }
     requires servants { (servants.old.items ≡ []) × (vec_len given ≤ vec_capacity servants.old) }
-    ensures ran { RanSeated V.serves shared.now (map (λ lane. lane.servant) given.items) passes.new.items (map (λ list. list.items) kept.new.items) servants.new.items result }
+    ensures ran { RanSeated V.serves shared.now (map (λ lane. lane.servant) given.items) passes.new.items kept.new.items servants.new.items result }
     ensures ready { All V.ready servants.new.items }
 {
     let mut seats = seats;

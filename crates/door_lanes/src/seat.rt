@@ -1,7 +1,8 @@
 //! A seat at a shared door.
-ghost use Rattle.std.specs.Prelude.{◌≡◌, refl};
+ghost use Rattle.std.specs.Prelude.{◌≡◌, [], ◌∷◌, length, refl};
 ghost use Rattle.std.proofs.Common.{◌∙◌};
-ghost use Rattle.door_lanes.specs.Seats.{IsDoorPass, Grows};
+ghost use Rattle.door_lanes.specs.Doors.{connection_in, returned};
+ghost use Rattle.door_lanes.specs.Seats.{IsDoorPass, IsUsedPass, Grows};
 ghost use Rattle.door_lanes.specs.SeatLaws.{grows_none, grows_more};
 
 use crate::counted::{CountedDoor, Taken};
@@ -21,14 +22,18 @@ pub(crate) struct DoorSeat<'a, R: Door, W: Wait> {
 }
 
 impl<'a, R: Door, W: Wait> Takes<R::Conn> for DoorSeat<'a, R, W> {
-    ghost ready = { λ s. IsDoorPass s.shared.now s.pass };
+    ghost ready = { λ s n. IsUsedPass s.shared.now s.pass n };
 
-    ghost leads = { λ s rs t. (t.shared ≡ s.shared) × Grows s.pass rs t.pass };
+    ghost leads = { λ s xs t. (t.shared ≡ s.shared) × Grows s.pass xs t.pass };
 
     /// One turn. It waits while another has the lock, and until a connection comes. Takes no memory of its own.
-    fn take(&mut self) -> Taken<R::Conn> {
+    fn take(&mut self, back: Option<R::Conn>) -> Taken<R::Conn>
+        requires { IsUsedPass self.old.shared.now self.old.pass (length (returned back)) }
+        ensures ready { IsUsedPass self.new.shared.now self.new.pass (length (connection_in result)) }
+        ensures leads { (self.new.shared ≡ self.old.shared) × Grows self.old.pass ((back, result) ∷ []) self.new.pass }
+    {
         let _held = self.lock.lock(self.rt);
-        self.shared.turn(self.rt, &mut self.pass, ())
+        self.shared.turn(self.rt, &mut self.pass, back)
     }
 
     ghost leads_none = { λ s. (refl, grows_none s.pass) };

@@ -1,5 +1,5 @@
 //! Lanes that take seats at a shared door, and leave them.
-ghost use Rattle.std.specs.Prelude.{◌≡◌, ◌+◌, ◌≤◌, [], All, map, vec_capacity, vec_len};
+ghost use Rattle.std.specs.Prelude.{◌≡◌, ◌+◌, ◌≤◌, [], All, None, map, vec_capacity, vec_len};
 ghost use Rattle.desk_lock.specs.Sharing.{IsSame, given_of, passes_of};
 ghost use Rattle.door_lanes.specs.Seats.{IsDoorPass};
 ghost use Rattle.door_lanes.specs.Runs.{AreNew};
@@ -9,7 +9,6 @@ use crate::lane::{Lane, LaneEnd};
 use crate::seat::DoorSeat;
 use desk_lock::{Owner, Pass, Shared};
 use edge_kit::Door;
-use std::alloc::Global;
 use std::sync::{Mutex, Wait};
 
 /// A lane with the pass that it is given.
@@ -20,7 +19,6 @@ pub(crate) type SeatedLane<'a, R, X, V> = Lane<DoorSeat<'a, R, X>, V, <R as Door
 
 /// Gives a pass to each lane, in their order.
 pub(crate) fn give_passes<R: Door, V: Drop>(
-    alloc: Global,
     owner: &mut Owner<CountedDoor<R>>,
     servants: Vec<V>,
     lanes: &mut Vec<LaneOf<R, V>>,
@@ -33,27 +31,27 @@ where
     ensures same { IsSame owner.old owner.new }
     ensures given { given_of owner.new ≡ passes_of owner.new }
     ensures servants { map (λ lane. lane.servant) lanes.new.items ≡ servants.items }
-    ensures empty { All (λ lane. lane.kept.items ≡ []) lanes.new.items }
+    ensures empty { All (λ lane. lane.kept ≡ None) lanes.new.items }
     ensures new { AreNew owner.new.shared (given_of owner.old) (map (λ lane. lane.taker) lanes.new.items) }
 {
     'servants: for servant in servants {
         let Some(pass) = owner.pass() else {
             unreachable!()
         };
-        lanes.push_reserved(new_lane(alloc, pass, servant));
+        lanes.push_reserved(new_lane(pass, servant));
     }
 }
 
 /// A lane that has done nothing yet.
-fn new_lane<T, V, C>(alloc: Global, taker: T, servant: V) -> Lane<T, V, C>
+fn new_lane<T, V, C>(taker: T, servant: V) -> Lane<T, V, C>
     ensures parts { (result.taker ≡ taker) × (result.servant ≡ servant) }
-    ensures empty { result.kept.items ≡ [] }
+    ensures empty { result.kept ≡ None }
 {
     Lane {
         taker,
         servant,
-        kept: Vec::new(alloc),
-        end: LaneEnd::Memory,
+        kept: None,
+        end: LaneEnd::Full,
     }
 }
 
@@ -72,7 +70,7 @@ where
     requires room { vec_len lanes ≤ vec_capacity seats.old }
     ensures passes { map (λ lane. lane.taker.pass) seats.new.items ≡ map (λ lane. lane.taker) lanes.items }
     ensures servants { map (λ lane. lane.servant) seats.new.items ≡ map (λ lane. lane.servant) lanes.items }
-    ensures kept { map (λ lane. lane.kept.items) seats.new.items ≡ map (λ lane. lane.kept.items) lanes.items }
+    ensures kept { map (λ lane. lane.kept) seats.new.items ≡ map (λ lane. lane.kept) lanes.items }
     ensures shared { All (λ lane. lane.taker.shared.now ≡ shared.now) seats.new.items }
 {
     'lanes: for lane in lanes {
@@ -91,11 +89,11 @@ where
     }
 }
 
-/// Lets each lane leave its seat, and hands back its pass, what it kept and its servant, each in the order of the lanes.
+/// Lets each lane leave its seat, and hands back its pass, what it keeps and its servant, each in the order of the lanes.
 pub(crate) fn leave_seats<'a, R: Door, X: Wait, V: Drop>(
     seats: Vec<SeatedLane<'a, R, X, V>>,
     passes: &mut Vec<Pass<CountedDoor<R>>>,
-    kept: &mut Vec<Vec<R::Conn>>,
+    kept: &mut Vec<Option<R::Conn>>,
     servants: &mut Vec<V>,
 )
 where
@@ -110,11 +108,11 @@ where
         let Lane {
             taker,
             servant,
-            kept: list,
+            kept: last,
             end: _,
         } = lane;
         passes.push_reserved(taker.into_pass());
-        kept.push_reserved(list);
+        kept.push_reserved(last);
         servants.push_reserved(servant);
     }
 }

@@ -14,8 +14,8 @@ use keymanager_api::has_failed;
 use signer_link::Signer;
 use std::alloc::Global;
 
-/// Serves the connections of a proxy with a desk and a signer of its own: each request is answered at the epoch of the clock's
-/// moment, 0 before the chain began.
+/// Serves the connections of a proxy, with a desk and a signer. Each request is answered at the epoch of the clock's moment, 0
+/// before the chain began.
 #[derive(Drop)]
 pub struct ProxyServant<'a, K, S, C> {
     /// Where memory comes from.

@@ -48,11 +48,16 @@ module _ {K V C : Type 0} (leads : K → List (DeskCall × DeskReply) → K → 
     gave = r.gave;
     visits = r.visits;
     served = lanes_seen p vs ws r.visits h r.served;
+    kept = r.kept;
+    as_many_kept = r.as_many_kept;
     own_are = r.own_are;
     no_others = r.no_others;
+    own_back = r.own_back;
+    at_once = r.at_once;
     door_stops = r.door_stops;
     disk_stops = r.disk_stops;
     once = r.once;
+    once_back = r.once_back;
     as_many = r.as_many;
     finished = r.finished;
     coming = r.coming;

@@ -40,7 +40,7 @@ idle_lanes signers = map (λ signer. at_seat [] signer) signers
 abbrev pub AttendsBy : {C : Type 0} → (C → LinkSeen) → Terms → LaneSeen → C → C → Bool → LaneSeen → Type 0
 AttendsBy see terms a accepted finished failed b = Attends Grew terms (see accepted) (see finished) a b failed
 
--- In one history the desk as it was lent came to what it was in the end. In it each lane settled only grants that it was given and had not
+-- One history leads from the desk as it was lent to the desk in the end. In it each lane settled only grants that it was given and had not
 -- settled. The calls of each lane are these, and there are no others; one after another they are calls of the desk.
 pub record SharedLanes {D : Type 0} (moment : D → ℕ) (leaves : D → ℕ → List ℕ → Type 0) (faults : D → ℕ) (lent : Seen D) (lanes : List Calls) (back : Seen D) : Type 0 where
   pub log : History

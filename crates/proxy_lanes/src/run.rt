@@ -54,16 +54,15 @@ fn room_for<D: Disk, S: Drop>(alloc: Global, count: usize) -> Result<Room<D, S>,
 
 /// Has lanes, one for each signer (1 to 64), serve the connections of a door over one desk, until as many as are wanted were given
 /// or the door has no other. Each lane takes a connection, serves it (`proxy_api::sign_connection`) at the epoch of the clock's
-/// moment and asks the desk whether its disk failed, in a thread of its own where the system makes one. Desk, signers and door come
-/// back, the signers in their order.
+/// moment and asks the desk whether its disk failed, in a thread of its own where the system makes one. It hands the connection back
+/// with its next turn at the door. Desk, signers and door come back, the signers in their order.
 ///
 /// # Errors
 ///
 /// In this order:
-/// - `LoopEnd::Disk`: a lane's desk said after a connection that its disk had failed.
+/// - `LoopEnd::Memory`: memory was wanted. Nothing was done, and desk, signers and door are as they were.
+/// - `LoopEnd::Disk`: the desk said, after a connection of a lane, that its disk had failed.
 /// - `LoopEnd::Door`: the door failed, and its count of faults rose.
-/// - `LoopEnd::Memory`: memory was wanted. Either nothing was done, or the first lane in the end found no room for keeping one
-///   more connection.
 pub fn serve_proxy<
     X: Threads + Wait + Sync,
     D: Disk + Send,

@@ -17,12 +17,11 @@ use Rattle.desk_seat.specs.Turns.{calls_of}
 use Rattle.duty_plans.specs.Guards.{granted_by, granted_in}
 use Rattle.keymanager_api.specs.Serving.{LinkSeen}
 use Rattle.door_lanes.specs.Doors.{DoorSeen}
-use Rattle.door_lanes.specs.Finishing.{joined}
 use Rattle.door_lanes.specs.Runs.{Served as DoorServed}
 use Rattle.door_lanes.specs.declared.lanes.LoopEnd.{LoopEnd}
 use Rattle.proxy_api.specs.Attending.{Terms}
 use Rattle.proxy_lanes.specs.Lanes.{AttendsBy, LaneSeen}
-use Rattle.proxy_run.specs.Begun.{begun_in, message_of, messages_of}
+use Rattle.proxy_run.specs.Begun.{begun_in, joined, message_of, messages_of}
 use Rattle.proxy_run.proofs.BegunLemmas.{lanes_settled, sent}
 use Rattle.proxy_run.proofs.HandLemmas.{contains_cases, contains_none}
 

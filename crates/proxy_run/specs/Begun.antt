@@ -73,6 +73,11 @@ module _ {C : Type 0} (see : C → LinkSeen) (terms : Terms) where
   begun_in wanted before now befores nows result (inl none) = []
   begun_in wanted before now befores nows result (inr ran) = begun_lanes befores ran.visits nows ran.served
 
+-- the lists as one, in order
+abbrev pub joined : {X : Type 0} → List (List X) → List X
+joined [] = []
+joined (xs ∷ xss) = xs ++ joined xss
+
 -- the message of a grant, if it has one
 abbrev pub message_of : PubKey → Option Message → List (PubKey × Message)
 message_of key None = []

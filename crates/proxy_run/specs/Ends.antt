@@ -20,7 +20,6 @@ use Rattle.desk_seat.specs.Spans.{Spans}
 use Rattle.program_end.specs.declared.closing.ClosingLine.TheVariants as closing
 use Rattle.program_end.specs.declared.status.Status.{Status}
 use Rattle.program_end.specs.declared.status.Status.TheVariants as status
-use Rattle.door_lanes.specs.Finishing.{joined}
 use Rattle.door_lanes.specs.declared.lanes.LoopEnd.{LoopEnd}
 use Rattle.door_lanes.specs.declared.lanes.LoopEnd.TheVariants as loop
 use Rattle.duty_turns.specs.Times.{epoch_of, slot_of}
@@ -33,7 +32,7 @@ use Rattle.journal_commands.specs.Openings.{HadDeskAt, NotOpened}
 use Rattle.serve_run.specs.Ends.{ClosesIdleKeys, IsTwin}
 use Rattle.proxy_api.specs.Attending.{Terms, terms_of}
 use Rattle.proxy_lanes.specs.Lanes.{ProxyRan, idle_lanes}
-use Rattle.proxy_run.specs.Begun.{begun_in, messages_of}
+use Rattle.proxy_run.specs.Begun.{begun_in, joined, messages_of}
 use Rattle.proxy_run.specs.Parts.{Parts}
 
 -- another access to a signing service: it tells what this one has told, with counts of its own at 0

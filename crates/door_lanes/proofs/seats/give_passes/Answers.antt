@@ -1,4 +1,4 @@
-use Rattle.std.proofs.Common.{◌≡◌, ◌+◌, ◌∷◌, ◌++◌, [], All, List, ℕ, append_assoc, length, map, refl, sym, ap, ◌∙◌, subst, arith}
+use Rattle.std.proofs.Common.{◌≡◌, ◌+◌, ◌∷◌, ◌++◌, [], All, List, ℕ, append_assoc, length, map, refl, sym, ap, ◌∙◌, None, subst, arith}
 use Rattle.std.proofs.lemmas.List.{length-append, length-map}
 use Rattle.std.proofs.lemmas.List.Elements.{All-push}
 use Rattle.desk_lock.specs.Passes.{IsNew}
@@ -36,7 +36,7 @@ servants-preserved g c =
     let size : length passes ≡ length lanes = length-map lanes (λ (l : L). l.taker) in
     let new : IsNew (first + length passes) p = subst (λ (n : ℕ). IsNew n p) (omega (arith, given_before, len_before, size)) e.some.1 in
     let grown : map (λ (l : L). l.taker) c.push_reserved.new.self.items ≡ passes ++ p ∷ [] = map_push (λ (l : L). l.taker) lanes c.push_reserved.new.self.items passes lane p refl items c.new_lane.ensures.parts.0 in
-    let Empty : L → Type 0 = λ l. l.kept.items ≡ [] in
+    let Empty : L → Type 0 = λ l. l.kept ≡ None in
     record {
       next = tt;
       finite = tt;

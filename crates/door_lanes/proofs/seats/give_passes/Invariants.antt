@@ -1,4 +1,4 @@
-use Rattle.std.proofs.Common.{◌≡◌, ◌++◌, ◌+◌, ◌≤◌, All, [], length, map}
+use Rattle.std.proofs.Common.{◌≡◌, ◌++◌, ◌+◌, ◌≤◌, All, None, length, map}
 use Rattle.std.specs.Prelude.{vec_capacity}
 use Rattle.desk_lock.specs.Sharing.{IsSame, given_of}
 use Rattle.door_lanes.specs.Runs.{AreNew}
@@ -14,6 +14,6 @@ invariant-servants g l = record {
   len : length l.lanes.items ≡ length l.yielded;
   room : length l.fn.servants.items ≤ vec_capacity l.lanes;
   servants : map (λ lane. lane.servant) l.lanes.items ≡ l.yielded;
-  empty : All (λ lane. lane.kept.items ≡ []) l.lanes.items;
+  empty : All (λ lane. lane.kept ≡ None) l.lanes.items;
   new : AreNew l.fn.owner.shared (given_of l.fn.owner) (map (λ lane. lane.taker) l.lanes.items);
 }

@@ -26,6 +26,6 @@ lanes-preserved g c =
       room = omega (arith, room, capacity, len, left);
       passes = map_push (λ lane. lane.taker.pass) c.lanes.seats.items c.push_reserved.new.self.items (map (λ (l : L). l.taker) done) _ taken.taker i.passes items c.new.ensures.1 ∙ sym (map-append (λ (l : L). l.taker) done (taken ∷ []));
       servants = map_push (λ lane. lane.servant) c.lanes.seats.items c.push_reserved.new.self.items (map (λ (l : L). l.servant) done) _ taken.servant i.servants items refl ∙ sym (map-append (λ (l : L). l.servant) done (taken ∷ []));
-      kept = map_push (λ lane. lane.kept.items) c.lanes.seats.items c.push_reserved.new.self.items (map (λ (l : L). l.kept.items) done) _ taken.kept.items i.kept items refl ∙ sym (map-append (λ (l : L). l.kept.items) done (taken ∷ []));
+      kept = map_push (λ lane. lane.kept) c.lanes.seats.items c.push_reserved.new.self.items (map (λ (l : L). l.kept) done) _ taken.kept i.kept items refl ∙ sym (map-append (λ (l : L). l.kept) done (taken ∷ []));
       shared = all_more (λ lane. lane.taker.shared.now ≡ c.args.shared.now) c.lanes.seats.items c.push_reserved.new.self.items _ i.shared items (ap (λ s. s.now) c.new.ensures.0);
     }

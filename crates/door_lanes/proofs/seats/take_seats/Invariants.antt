@@ -10,6 +10,6 @@ invariant-lanes g l = record {
   room : length l.seats.items + length l.lane-iterator.rest.items ≤ vec_capacity l.seats;
   passes : map (λ lane. lane.taker.pass) l.seats.items ≡ map (λ lane. lane.taker) l.yielded;
   servants : map (λ lane. lane.servant) l.seats.items ≡ map (λ lane. lane.servant) l.yielded;
-  kept : map (λ lane. lane.kept.items) l.seats.items ≡ map (λ lane. lane.kept.items) l.yielded;
+  kept : map (λ lane. lane.kept) l.seats.items ≡ map (λ lane. lane.kept) l.yielded;
   shared : All (λ lane. lane.taker.shared.now ≡ l.fn.shared) l.seats.items;
 }
