@@ -1,5 +1,5 @@
 """The built program as a signing proxy (`proxy.sh`): its speed, a storm of slashable requests, the requests of the clients of the field, and peers that hang."""
-import collections, json, os, pickle, re, shutil, signal, socket, statistics, subprocess, sys, tempfile, threading, time
+import atexit, collections, json, os, pickle, re, shutil, signal, socket, statistics, subprocess, sys, tempfile, threading, time
 from proxy_peers import *
 try:
     from standard_error import unfit
@@ -9,11 +9,20 @@ except SystemExit as why:
 
 program = os.path.abspath(sys.argv[1])
 seconds = int(sys.argv[2]) if len(sys.argv) > 2 else 60
-scenes = sys.argv[3:] or ['times', 'storm', 'forms', 'peers', 'ends']
+scenes = sys.argv[3:] or ['times', 'storm', 'forms', 'peers', 'lists', 'ends']
 LANES, MANY_KEYS, STORM_KEYS, PLACES = 16, 64, 4, 64
 folder = tempfile.mkdtemp(prefix='proxy-', dir=os.environ.get('FOLDER'))
-wrong, errors = [], []
+wrong, errors, children = [], [], []
 service = Service()
+
+@atexit.register
+def leave():
+    for child in children:
+        if child.poll() is None:
+            child.kill()
+    shutil.rmtree(folder, ignore_errors=True)
+
+signal.signal(signal.SIGTERM, lambda *_: sys.exit(1))
 
 def fault(what):
     if what not in wrong:
@@ -49,6 +58,7 @@ class Proxy:
     def start(self):
         with open(self.errors, 'a') as told:
             self.child = subprocess.Popen(self.words, stdin=subprocess.DEVNULL, stdout=subprocess.PIPE, stderr=told)
+        children.append(self.child)
         for _ in range(600):
             reply = exchange(self.port, request('GET', '/upcheck'))
             if reply and reply[0] == 200:
@@ -410,7 +420,7 @@ def signed_beside(proxy, until, first):
 
 def beside_hanging(lanes, keys, each):
     """The longest time of a signature next to peers that hang. The proxy then, and how many votes it signed."""
-    proxy = Proxy('peers%s' % lanes, keys, lanes)
+    proxy = Proxy('peers%s-%d' % (lanes, keys), keys, lanes)
     count, longest = signed_beside(proxy, time.time() + 2, 1000)
     quiet_files, quiet_longest = proxy.files(), longest
     links, until = hanging(proxy.port, each), time.time() + 35
@@ -495,7 +505,9 @@ def scene_peers():
     lingering(proxy)
     large_bodies(proxy)
     proxy.stop()
-    # (a list of so many keys is more than the system takes for a peer that reads nothing)
+
+def scene_lists():
+    """Peers that hang, some of which read nothing of a list of so many keys that the system does not take it for them at once."""
     for lanes in (LANES, None):
         beside_hanging(lanes, 1000, 10).stop()
 
@@ -549,6 +561,5 @@ for scene in scenes:
     print('-- %s' % scene, flush=True)
     globals()['scene_' + scene]()
 standard_errors()
-shutil.rmtree(folder)
 print('%d faults' % len(wrong))
 sys.exit(1 if wrong else 0)

@@ -5,7 +5,7 @@
 # for SECONDS, in which the proxy is killed twice, and how many slashable pairs the replies and the service have; a table of the requests of the clients of the
 # field; the longest time of a signature next to peers that hang, and the open files and the memory of the proxy; and how many lines of each form standard
 # error had. The status is 1 where a pair is slashable, a signature is not that of the root, or files or memory grow with the connections.
-# Usage: bench/proxy.sh [SECONDS] [SCENE ..]     (60 s, and the scenes times, storm, forms, peers and ends; PROGRAM=PATH for another program,
+# Usage: bench/proxy.sh [SECONDS] [SCENE ..]     (60 s, and the scenes times, storm, forms, peers, lists and ends; PROGRAM=PATH for another program,
 # FOLDER=PATH for the journals, else one below the system's folder of temporary files)
 set -eu
 cd "$(dirname "$0")/.."
