@@ -173,7 +173,7 @@ class Ask:
     """A request that is sent over a connection of its own next to others."""
 
     def __init__(self, port, text):
-        self.text, self.held, self.reply, self.begun = text, b'', None, time.perf_counter()
+        self.text, self.held, self.reply, self.fault, self.begun = text, b'', None, 'no reply in time', time.perf_counter()
         self.link = socket.socket()
         self.link.setblocking(False)
         self.link.connect_ex(('127.0.0.1', port))
@@ -187,16 +187,21 @@ class Ask:
             piece = self.link.recv(65536)
         except BlockingIOError:
             return False
-        except OSError:
-            piece = b''
+        except OSError as error:
+            piece, self.fault = b'', error.strerror
+        else:
+            self.fault = 'no whole reply'
         self.held += piece
         self.reply = reply_in(self.held)
         self.taken = time.perf_counter() - self.begun
         return not piece or self.reply is not None
 
+    def word(self):
+        return '%d' % self.reply[0] if self.reply else self.fault
+
 def at_once(port, texts, seconds=60):
-    """Sends all these requests at once, a connection each: the times of those that were signed, in order."""
-    poll, asks, times, end = select.epoll(), {}, [], time.perf_counter() + seconds
+    """Sends all these requests at once, a connection each: the times of those that were signed, in order, and how often what came of the others."""
+    poll, asks, times, others, end = select.epoll(), {}, [], collections.Counter(), time.perf_counter() + seconds
     for text in texts:
         ask = Ask(port, text)
         asks[ask.link.fileno()] = ask
@@ -206,13 +211,17 @@ def at_once(port, texts, seconds=60):
             ask = asks[at]
             if ask.go_on(events):
                 poll.unregister(at)
-                times += [ask.taken] if ask.reply and ask.reply[0] == 200 else []
                 asks.pop(at).link.close()
+                if ask.word() == '200':
+                    times.append(ask.taken)
+                else:
+                    others[ask.word()] += 1
             elif not ask.text:
                 poll.modify(at, select.EPOLLIN)
     for ask in asks.values():
+        others[ask.word()] += 1
         ask.link.close()
-    return sorted(times)
+    return sorted(times), others
 
 # ---- the signing service: it holds every key
 
