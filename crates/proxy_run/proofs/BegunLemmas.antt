@@ -1,15 +1,13 @@
--- What a lane handed out it settled as sent, by its own calls.
-use Rattle.std.proofs.Common.{◌≡◌, ◌⊎◌, ℕ, zero, suc, cond, Bool, true, false, List, [], ◌∷◌, ◌++◌, Contains, map, Option, Result, Ok, Err, refl, sym, ap, ◌∙◌, subst, inl, inr, ⊎_elim, append-nil, append_assoc, arith}
+-- What a lane had signed it settled, by its own calls.
+use Rattle.std.proofs.Common.{ℕ, zero, suc, Bool, true, List, [], ◌∷◌, ◌++◌, Contains, map, Option, Result, Ok, Err, sym, ap, ◌∙◌, subst, ⊎_elim, append-nil, append_assoc}
 use Rattle.std.specs.Prelude.{slice_index_or}
-use Rattle.std.proofs.lemmas.List.Elements.{Contains-append_cases, Contains-append_left, Contains-push, Contains-push_cases}
+use Rattle.std.proofs.lemmas.List.Elements.{Contains-append_cases, Contains-append_left, Contains-push}
 use Rattle.edge_kit.specs.declared.bytes.Root.{Root}
 use Rattle.call_plans.specs.Paths.{Path}
 use Rattle.desk_machine.specs.declared.call.DeskCall.{DeskCall}
 use Rattle.desk_machine.specs.declared.call.DeskCall.TheVariants as call
 use Rattle.desk_machine.specs.declared.call.DeskReply.{DeskReply}
 use Rattle.desk_machine.specs.declared.call.DeskReply.TheVariants as reply
-use Rattle.desk_machine.specs.declared.call.Outcome.TheVariants as outcome
-use Rattle.desk_machine.specs.declared.open_grant.OpenGrant.{OpenGrant}
 use Rattle.client_calls.specs.Seats.{Seat}
 use Rattle.http_wire.specs.declared.message.Request.{Request}
 use Rattle.http_wire.specs.declared.message.WireFault.{WireFault}
@@ -28,12 +26,12 @@ use Rattle.proxy_api.specs.declared.route.Wanted.{Wanted}
 use Rattle.proxy_api.specs.declared.route.Wanted.TheVariants as wanted
 use Rattle.proxy_lanes.specs.Lanes.{AttendsBy, Calls, Grew, LaneSeen}
 use Rattle.proxy_lanes.proofs.LedLemmas.{attends_led}
-use Rattle.proxy_run.specs.Begun.{begun_along, begun_at, begun_by, begun_lanes, begun_read, begun_wanted}
+use Rattle.proxy_run.specs.Begun.{Signed, signed_along, signed_at, signed_by, signed_lanes, signed_read, signed_wanted}
 use Rattle.proxy_run.proofs.HandLemmas.{contains_cases, contains_none}
 
--- the settling of a grant as sent, with its reply
-abbrev pub sent : OpenGrant → DeskCall × DeskReply
-sent grant = (call.Settle grant outcome.Sent, reply.Settled)
+-- the settling of the grant of a signature, with its reply
+abbrev pub settled : Signed → DeskCall × DeskReply
+settled x = (call.Settle x.0 (outcome_of x.1), reply.Settled)
 
 -- the answer that the disk of the desk failed
 abbrev pub said : DeskCall × DeskReply
@@ -52,36 +50,35 @@ Led a b = (made : List (DeskCall × DeskReply)) × Grew a made b
 kept : (a b : Calls) (x : DeskCall × DeskReply) → Led a b → Contains a x → Contains b x
 kept a b x led h = subst (λ (l : Calls). Contains l x) (sym led.1) (Contains-append_left a led.0 x h)
 
-begun_one : (grant g : OpenGrant) (m a : Calls) (b : Bool) → Grew m ((call.Settle grant (outcome_of b), reply.Settled) ∷ []) a → Contains (cond b (grant ∷ []) []) g → Contains a (sent g)
-begun_one grant g m a true grew h = ⊎_elim
+begun_one : (x y : Signed) (m a : Calls) → Grew m (settled x ∷ []) a → Contains (x ∷ []) y → Contains a (settled y)
+begun_one x y m a grew h = ⊎_elim
     (λ same.
-    let settled : Contains a (sent grant) = subst (λ (l : Calls). Contains l (sent grant)) (sym grew) (Contains-push m (sent grant)) in
-    subst (λ (x : OpenGrant). Contains a (sent x)) same settled)
-    (λ none. contains_none g none)
-    (contains_cases grant [] g h)
-begun_one grant g m a false grew h = contains_none g h
+    let there : Contains a (settled x) = subst (λ (l : Calls). Contains l (settled x)) (sym grew) (Contains-push m (settled x)) in
+    subst (λ (z : Signed). Contains a (settled z)) same there)
+    (λ none. contains_none y none)
+    (contains_cases x [] y h)
 
-begun_by_settled : (h i : Option (List ℕ)) (f n : ℕ) (e : SignEnd) (m a : Seat Calls) (s : Served) (r : RepliesTo Grew h i f n e m a s) (g : OpenGrant) → Contains (begun_by Grew h i f n e m a s r) g → Contains a.desk (sent g)
+begun_by_settled : (h i : Option (List ℕ)) (f n : ℕ) (e : SignEnd) (m a : Seat Calls) (s : Served) (r : RepliesTo Grew h i f n e m a s) (g : Signed) → Contains (signed_by Grew h i f n e m a s r) g → Contains a.desk (settled g)
 begun_by_settled h i f n (ending.Refused given) m a s r g at = contains_none g at
 begun_by_settled h i f n ending.OutOfMemory m a s r g at = contains_none g at
-begun_by_settled h i f n (ending.Signed given grant) m a s r g at = begun_one grant g m.desk a.desk r.begun r.settles at
+begun_by_settled h i f n (ending.Signed given grant) m a s r g at = begun_one (grant, r.begun) g m.desk a.desk r.settles at
 
-begun_wanted_settled : (genesis : Root) (now : ℕ) (request : Request) (w : Result Wanted Refusal) (h i : Option (List ℕ)) (f n : ℕ) (b a : Seat Calls) (s : Served) (d : DoesWanted Grew genesis now request w h i f n b a s) (g : OpenGrant)
-    → Contains (begun_wanted Grew genesis now request w h i f n b a s d) g → Contains a.desk (sent g)
+begun_wanted_settled : (genesis : Root) (now : ℕ) (request : Request) (w : Result Wanted Refusal) (h i : Option (List ℕ)) (f n : ℕ) (b a : Seat Calls) (s : Served) (d : DoesWanted Grew genesis now request w h i f n b a s) (g : Signed)
+    → Contains (signed_wanted Grew genesis now request w h i f n b a s d) g → Contains a.desk (settled g)
 begun_wanted_settled genesis now request (Err r) h i f n b a s d g at = contains_none g at
 begun_wanted_settled genesis now request (Ok (wanted.Keys what)) h i f n b a s d g at = contains_none g at
 begun_wanted_settled genesis now request (Ok wanted.Signature) h i f n b a s d g at = begun_by_settled h i f n d.ended d.middle a s d.replies g at
 begun_wanted_settled genesis now request (Ok wanted.PublicKeys) h i f n b a s d g at = contains_none g at
 begun_wanted_settled genesis now request (Ok wanted.Upcheck) h i f n b a s d g at = contains_none g at
 
-begun_read_settled : (token : List ℕ) (genesis : Root) (now : ℕ) (read : Result Request WireFault) (h i : Option (List ℕ)) (f n : ℕ) (b a : Seat Calls) (s : Served) (d : DoesRead Grew token genesis now read h i f n b a s) (g : OpenGrant)
-    → Contains (begun_read Grew token genesis now read h i f n b a s d) g → Contains a.desk (sent g)
+begun_read_settled : (token : List ℕ) (genesis : Root) (now : ℕ) (read : Result Request WireFault) (h i : Option (List ℕ)) (f n : ℕ) (b a : Seat Calls) (s : Served) (d : DoesRead Grew token genesis now read h i f n b a s) (g : Signed)
+    → Contains (signed_read Grew token genesis now read h i f n b a s d) g → Contains a.desk (settled g)
 begun_read_settled token genesis now (Ok request) h i f n b a s d g at = begun_wanted_settled genesis now request (wanted_for token request) h i f n b a s d g at
 begun_read_settled token genesis now (Err e) h i f n b a s d g at = contains_none g at
 
-begun_at_settled : (p : Terms) (x y : LinkSeen) (b a : Seat Calls) (failed : Bool) (t : Attends Grew p x y b a failed) (g : OpenGrant) → Contains (begun_at Grew p x y b a failed t) g → Contains a.desk (sent g)
+begun_at_settled : (p : Terms) (x y : LinkSeen) (b a : Seat Calls) (failed : Bool) (t : Attends Grew p x y b a failed) (g : Signed) → Contains (signed_at Grew p x y b a failed t) g → Contains a.desk (settled g)
 begun_at_settled p x y b a failed t g at =
-    kept t.answered.desk a.desk (sent g) (asks_failed failed, t.asked)
+    kept t.answered.desk a.desk (settled g) (asks_failed failed, t.asked)
     (begun_read_settled p.token p.genesis _ t.serves.read t.serves.held y.held x.faults y.faults b t.answered t.served t.serves.does g at)
 
 module _ {C : Type 0} (see : C → LinkSeen) (terms : Terms) where
@@ -92,16 +89,16 @@ module _ {C : Type 0} (see : C → LinkSeen) (terms : Terms) where
       let rest = along_led p.0 visits b p.2 in
       (one.0 ++ rest.0, grew_more a.desk p.0.desk b.desk one.0 rest.0 one.1 rest.1)
 
-  along_settled : (a : LaneSeen) (visits : List (Visit C)) (b : LaneSeen) (p : Path (Visits (AttendsBy see terms)) a visits b) (g : OpenGrant) → Contains (begun_along see terms a visits b p) g → Contains b.desk (sent g)
+  along_settled : (a : LaneSeen) (visits : List (Visit C)) (b : LaneSeen) (p : Path (Visits (AttendsBy see terms)) a visits b) (g : Signed) → Contains (signed_along see terms a visits b p) g → Contains b.desk (settled g)
   along_settled a [] b p g at = contains_none g at
   along_settled a (v ∷ visits) b p g at = ⊎_elim
-      (λ first. kept p.0.desk b.desk (sent g) (along_led p.0 visits b p.2) (begun_at_settled terms (see v.accepted) (see v.finished) a p.0 v.failed p.1 g first))
+      (λ first. kept p.0.desk b.desk (settled g) (along_led p.0 visits b p.2) (begun_at_settled terms (see v.accepted) (see v.finished) a p.0 v.failed p.1 g first))
       (λ later. along_settled p.0 visits b p.2 g later)
-      (Contains-append_cases (begun_at Grew terms (see v.accepted) (see v.finished) a p.0 v.failed p.1) (begun_along see terms p.0 visits b p.2) g at)
+      (Contains-append_cases (signed_at Grew terms (see v.accepted) (see v.finished) a p.0 v.failed p.1) (signed_along see terms p.0 visits b p.2) g at)
 
   -- of each lane
-  pub lanes_settled : (befores : List LaneSeen) (visits : List (List (Visit C))) (nows : List LaneSeen) (s : LanesServed (AttendsBy see terms) befores visits nows) (k : ℕ) (g : OpenGrant)
-      → Contains (slice_index_or (begun_lanes see terms befores visits nows s) k []) g → Contains (slice_index_or (map (λ (lane : LaneSeen). lane.desk) nows) k []) (sent g)
+  pub lanes_settled : (befores : List LaneSeen) (visits : List (List (Visit C))) (nows : List LaneSeen) (s : LanesServed (AttendsBy see terms) befores visits nows) (k : ℕ) (g : Signed)
+      → Contains (slice_index_or (signed_lanes see terms befores visits nows s) k []) g → Contains (slice_index_or (map (λ (lane : LaneSeen). lane.desk) nows) k []) (settled g)
   lanes_settled [] [] [] s k g at = contains_none g at
   lanes_settled [] [] (b ∷ bs) s k g at = absurd s
   lanes_settled [] (x ∷ xs) bs s k g at = absurd s

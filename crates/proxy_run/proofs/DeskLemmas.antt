@@ -1,5 +1,5 @@
 -- What serving in lanes comes to over the desk of a journal.
-use Rattle.std.proofs.Common.{◌≡◌, ◌⊎◌, inl, inr, ⊎_elim, ℕ, All, List, [], ◌∷◌, ◌++◌, Contains, Option, None, true, false, map, Result, Ok, Err, refl, sym, ap, ◌∙◌, subst, arith}
+use Rattle.std.proofs.Common.{◌≡◌, inl, inr, ℕ, All, Bool, List, [], ◌∷◌, ◌++◌, Contains, Option, None, false, map, Result, Ok, Err, refl, sym, ap, ◌∙◌, subst}
 use Rattle.std.specs.Prelude.{slice_index_or}
 use Rattle.edge_kit.specs.Causes.{Rose}
 use Rattle.edge_kit.specs.declared.bytes.PubKey.{PubKey}
@@ -15,7 +15,6 @@ use Rattle.desk_machine.specs.declared.call.DeskCall.TheVariants as call
 use Rattle.desk_machine.specs.declared.call.DeskReply.{DeskReply}
 use Rattle.desk_machine.specs.declared.call.DeskReply.TheVariants as reply
 use Rattle.desk_machine.specs.declared.call.Outcome.{Outcome}
-use Rattle.desk_machine.specs.declared.call.Outcome.TheVariants as outcome
 use Rattle.desk_machine.specs.declared.open_grant.OpenGrant.{OpenGrant}
 use Rattle.desk_machine.specs.declared.event.DeskEvent.{DeskEvent}
 use Rattle.desk_lock.specs.declared.types.Entry.{Entry}
@@ -47,10 +46,11 @@ use Rattle.serve_run.proofs.DeskLemmas.{because_disk, failed_rose}
 use Rattle.door_lanes.specs.Runs.{Served as DoorServed}
 use Rattle.door_lanes.specs.declared.lanes.LoopEnd.{LoopEnd}
 use Rattle.door_lanes.specs.declared.lanes.LoopEnd.TheVariants as loop
+use Rattle.proxy_api.specs.Signing.{outcome_of}
 use Rattle.proxy_lanes.specs.Lanes.{AttendsBy, LaneSeen, idle_lanes}
-use Rattle.proxy_run.specs.Ends.{ClosesLanes, ServesDesk, Shares, handed_out, terms_in}
+use Rattle.proxy_run.specs.Ends.{ClosesLanes, ServesDesk, Shares, signatures, terms_in}
 use Rattle.proxy_run.specs.Parts.{Parts}
-use Rattle.proxy_run.proofs.BegunLemmas.{lanes_said, said, sent}
+use Rattle.proxy_run.proofs.BegunLemmas.{lanes_said, said, settled}
 use Rattle.proxy_run.proofs.HandLemmas.{settled_spans}
 use Rattle.proxy_run.proofs.LaneLemmas.{in_settled, messages_granted}
 
@@ -72,13 +72,13 @@ module _ {D C : Type 0} (moment : D → ℕ) (leaves : D → ℕ → List ℕ �
   abbrev made : List (DeskCall × DeskReply)
   made = calls_of s.ran.shared.log
 
-  spans_all : (lane : ℕ) (grant : OpenGrant) → Contains (slice_index_or (handed_out s) lane []) grant → Spans s.ran.shared.log lane grant outcome.Sent
-  spans_all lane grant h =
-      let settled : Contains (slice_index_or (map (λ (l : LaneSeen). l.desk) s.ran.lanes) lane []) (sent grant) =
-      in_settled see (terms_in clock options) options.connections before.door now.door (idle_lanes before.lanes) s.ran.lanes s.lanes_end s.ran.served lane grant h in
-      settled_spans moment leaves faults ended lane grant outcome.Sent reply.Settled
-      (λ xs ys zs c from turns legal e. spans from ended turns lane xs ys zs c reply.Settled grant outcome.Sent legal e) opened s.ran.shared.log s.ran.shared.history
-      (subst (λ (l : List (DeskCall × DeskReply)). Contains l (sent grant)) (sym (s.ran.shared.own_is lane)) settled)
+  spans_all : (lane : ℕ) (grant : OpenGrant) (begun : Bool) → Contains (slice_index_or (signatures s) lane []) (grant, begun) → Spans s.ran.shared.log lane grant (outcome_of begun)
+  spans_all lane grant begun h =
+      let there : Contains (slice_index_or (map (λ (l : LaneSeen). l.desk) s.ran.lanes) lane []) (settled (grant, begun)) =
+      in_settled see (terms_in clock options) options.connections before.door now.door (idle_lanes before.lanes) s.ran.lanes s.lanes_end s.ran.served lane (grant, begun) h in
+      settled_spans moment leaves faults ended lane grant (outcome_of begun) reply.Settled
+      (λ xs ys zs c from turns legal e. spans from ended turns lane xs ys zs c reply.Settled grant (outcome_of begun) legal e) opened s.ran.shared.log s.ran.shared.history
+      (subst (λ (l : List (DeskCall × DeskReply)). Contains l (settled (grant, begun))) (sym (s.ran.shared.own_is lane)) there)
 
   closings : ClosesIdleKeys s.ran.shared.log
   closings front later key turn e closing =
@@ -96,7 +96,7 @@ module _ {D C : Type 0} (moment : D → ℕ) (leaves : D → ℕ → List ℕ �
     granted_safe = λ state signed stands are covered.
         granted_safe state made signed (path_machine moment leaves faults opened ended made s.ran.shared.path state stands).0 are covered;
     safe = λ state signed stands are covered.
-        safe state made _ signed (path_machine moment leaves faults opened ended made s.ran.shared.path state stands).0 (messages_granted s.ran.shared.log (handed_out s) outcome.Sent spans_all) are covered;
+        safe state made _ signed (path_machine moment leaves faults opened ended made s.ran.shared.path state stands).0 (messages_granted s.ran.shared.log (signatures s) spans_all) are covered;
   }
 
   -- ---- why it ended

@@ -1,5 +1,5 @@
 -- Who settles a grant was given it before, by a call of its own.
-use Rattle.std.proofs.Common.{◌≡◌, ◌≢◌, ◌⊎◌, ◌==◌, ℕ, cond, Bool, true, false, List, [], ◌∷◌, ◌++◌, Contains, refl, sym, ap, ◌∙◌, subst, inl, inr, ⊎_elim, eq-eqb, ne_eqb, append-nil, append_assoc, arith}
+use Rattle.std.proofs.Common.{◌≡◌, ◌⊎◌, ◌==◌, ℕ, cond, Bool, true, false, List, [], ◌∷◌, ◌++◌, Contains, refl, sym, ap, ◌∙◌, subst, inl, inr, ⊎_elim, eq-eqb, ne_eqb, append-nil, append_assoc, arith}
 use Rattle.std.proofs.lemmas.List.Elements.{Contains-append_cases, Contains-push_cases}
 use mathlib.Core.Logic.{dite}
 use native.Mathlib.Decide.{ℕ_discrete}
@@ -103,7 +103,7 @@ module _ {D : Type 0} (moment : D → ℕ) (leaves : D → ℕ → List ℕ → 
 
   -- by a law on what lies between the two
   pub settled_spans : ((xs ys zs : List (DeskCall × DeskReply)) (c : DeskCall) → (s : Seen D) (log : History) → Legal (DeskStep moment leaves faults) MayMake [] s log t
-          → own k log ≡ xs ++ (c, reply.Granted grant) ∷ (ys ++ (call.Settle grant o, r) ∷ zs) → Spans log k grant o)
+      → own k log ≡ xs ++ (c, reply.Granted grant) ∷ (ys ++ (call.Settle grant o, r) ∷ zs) → Spans log k grant o)
       → (s : Seen D) (log : History) → Legal (DeskStep moment leaves faults) MayMake [] s log t → Contains (own k log) (call.Settle grant o, r) → Spans log k grant o
   settled_spans spans s log l h =
       let at = settled_in [] s log l h in

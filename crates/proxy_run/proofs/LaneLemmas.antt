@@ -1,5 +1,5 @@
 -- What lanes handed out, within the one history of all of them.
-use Rattle.std.proofs.Common.{◌≡◌, ◌⊎◌, ℕ, zero, suc, Bool, List, [], ◌∷◌, ◌++◌, Contains, flat_map, map, Option, Some, None, Result, refl, sym, ap, ◌∙◌, subst, inl, inr, ⊎_elim, arith}
+use Rattle.std.proofs.Common.{ℕ, suc, cond, Bool, true, false, List, [], ◌∷◌, ◌++◌, Contains, flat_map, map, Option, Result, sym, subst, inl, inr, ⊎_elim}
 use Rattle.std.specs.Prelude.{slice_index_or}
 use Rattle.std.proofs.lemmas.List.Elements.{Contains-append_cases, Contains-append_left, Contains-append_right, Contains-push}
 use Rattle.edge_kit.specs.declared.bytes.PubKey.{PubKey}
@@ -20,9 +20,10 @@ use Rattle.door_lanes.specs.Doors.{DoorSeen}
 use Rattle.door_lanes.specs.Runs.{Served as DoorServed}
 use Rattle.door_lanes.specs.declared.lanes.LoopEnd.{LoopEnd}
 use Rattle.proxy_api.specs.Attending.{Terms}
+use Rattle.proxy_api.specs.Signing.{outcome_of}
 use Rattle.proxy_lanes.specs.Lanes.{AttendsBy, LaneSeen}
-use Rattle.proxy_run.specs.Begun.{begun_in, joined, message_of, messages_of}
-use Rattle.proxy_run.proofs.BegunLemmas.{lanes_settled, sent}
+use Rattle.proxy_run.specs.Begun.{Signed, joined, message_of, sent_by, sent_of, signed_in}
+use Rattle.proxy_run.proofs.BegunLemmas.{lanes_settled, settled}
 use Rattle.proxy_run.proofs.HandLemmas.{contains_cases, contains_none}
 
 module _ {X A : Type 0} (f : X → List A) where
@@ -61,16 +62,20 @@ spanned_granted log k g o m s h =
     let there : Contains (calls_of log) (s.asked, reply.Granted g) = subst (λ (l : History). Contains (calls_of l) (s.asked, reply.Granted g)) (sym s.log_is) (calls_at s.before turn _) in
     flat_from granted_by (calls_of log) m (s.asked, reply.Granted g) there (granted_one s.asked g m s.granted h)
 
--- so is each message of grants that were handed out, where each of these has its place in the history
-pub messages_granted : (log : History) (handed : List (List OpenGrant)) (o : Outcome) → ((k : ℕ) (g : OpenGrant) → Contains (slice_index_or handed k []) g → Spans log k g o)
-    → (m : PubKey × Message) → Contains (messages_of (joined handed)) m → Contains (granted_in (calls_of log)) m
-messages_granted log handed o spans m h =
-    let at = flat_to (λ (g : OpenGrant). message_of g.key g.message) (joined handed) m h in
-    let place = joined_at handed at.0 at.1 in
-    spanned_granted log place.0 at.0 o m (spans place.0 at.0 place.1) at.2
+sent_granted : (log : History) (k : ℕ) (g : OpenGrant) (b : Bool) (o : Outcome) (m : PubKey × Message) → Spans log k g o → Contains (cond b (message_of g.key g.message) []) m → Contains (granted_in (calls_of log)) m
+sent_granted log k g true o m s h = spanned_granted log k g o m s h
+sent_granted log k g false o m s h = contains_none m h
 
--- what lanes handed out they settled as sent
-pub in_settled : {C : Type 0} (see : C → LinkSeen) (terms : Terms) (wanted : ℕ) (before now : DoorSeen C) (befores nows : List LaneSeen) (result : Result (Unit {0}) LoopEnd) (served : DoorServed (AttendsBy see terms) wanted before now befores nows result) (k : ℕ) (g : OpenGrant)
-    → Contains (slice_index_or (begun_in see terms wanted before now befores nows result served) k []) g → Contains (slice_index_or (map (λ (lane : LaneSeen). lane.desk) nows) k []) (sent g)
+-- so is each message whose signature was handed out, where each grant has its place in the history
+pub messages_granted : (log : History) (signed : List (List Signed)) → ((k : ℕ) (g : OpenGrant) (b : Bool) → Contains (slice_index_or signed k []) (g, b) → Spans log k g (outcome_of b))
+    → (m : PubKey × Message) → Contains (sent_of (joined signed)) m → Contains (granted_in (calls_of log)) m
+messages_granted log signed spans m h =
+    let at = flat_to sent_by (joined signed) m h in
+    let place = joined_at signed at.0 at.1 in
+    sent_granted log place.0 at.0.0 at.0.1 (outcome_of at.0.1) m (spans place.0 at.0.0 at.0.1 place.1) at.2
+
+-- what lanes had signed they settled
+pub in_settled : {C : Type 0} (see : C → LinkSeen) (terms : Terms) (wanted : ℕ) (before now : DoorSeen C) (befores nows : List LaneSeen) (result : Result (Unit {0}) LoopEnd) (served : DoorServed (AttendsBy see terms) wanted before now befores nows result) (k : ℕ) (g : Signed)
+    → Contains (slice_index_or (signed_in see terms wanted before now befores nows result served) k []) g → Contains (slice_index_or (map (λ (lane : LaneSeen). lane.desk) nows) k []) (settled g)
 in_settled see terms wanted before now befores nows result (inl none) k g h = contains_none g h
 in_settled see terms wanted before now befores nows result (inr ran) k g h = lanes_settled see terms befores ran.visits nows ran.served k g h

@@ -1,4 +1,5 @@
 mod HandLemmas
 mod BegunLemmas
 mod LaneLemmas
+mod EquipLemmas
 mod DeskLemmas

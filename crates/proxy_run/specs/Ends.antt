@@ -1,12 +1,11 @@
 -- How a signing proxy ends that served over the desk of a journal.
-use Rattle.std.specs.Prelude.{◌≡◌, ◌⊎◌, ◌++◌, ℕ, false, List, [], All, Contains, length, slice_index_or, Option, Some, Result, Ok, Err}
+use Rattle.std.specs.Prelude.{◌≡◌, ◌⊎◌, ◌++◌, ℕ, Bool, false, List, [], All, Contains, length, slice_index_or, Option, Some, Result, Ok, Err}
 use Rattle.edge_kit.specs.declared.bytes.PubKey.{PubKey}
 use Rattle.edge_kit.specs.declared.disk.Disks.{Disks}
 use Rattle.edge_clock.specs.Clocks.{IsNow}
 use Rattle.slash_defs.specs.declared.message.Message.{Message}
 use Rattle.slash_defs.specs.Lists.{SafeList}
 use Rattle.desk_machine.specs.States.{State}
-use Rattle.desk_machine.specs.declared.call.Outcome.TheVariants as outcome
 use Rattle.desk_machine.specs.declared.event.DeskEvent.{DeskEvent}
 use Rattle.desk_machine.specs.declared.open_grant.OpenGrant.{OpenGrant}
 use Rattle.signer_link.specs.declared.reply.Told.{Told}
@@ -31,8 +30,9 @@ use Rattle.journal_commands.specs.Views.{Output, ClosedBy}
 use Rattle.journal_commands.specs.Openings.{HadDeskAt, NotOpened}
 use Rattle.serve_run.specs.Ends.{ClosesIdleKeys, IsTwin}
 use Rattle.proxy_api.specs.Attending.{Terms, terms_of}
+use Rattle.proxy_api.specs.Signing.{outcome_of}
 use Rattle.proxy_lanes.specs.Lanes.{ProxyRan, idle_lanes}
-use Rattle.proxy_run.specs.Begun.{begun_in, joined, messages_of}
+use Rattle.proxy_run.specs.Begun.{Signed, joined, sent_of, signed_in}
 use Rattle.proxy_run.specs.Parts.{Parts}
 
 -- another access to a signing service: it tells what this one has told, with counts of its own at 0
@@ -59,29 +59,29 @@ pub record Shares {D C : Type 0} (moment : D → ℕ) (leaves : D → ℕ → Li
   pub ran : ProxyRan moment leaves faults see (terms_in clock options) options.connections opened ended before.lanes now.lanes before.door now.door lanes_end
   pub closes : ClosesLanes lanes_end before.out now.out result
 
--- the grants of the signatures that each lane handed out, or began to
-abbrev pub handed_out : {D C : Type 0} {moment : D → ℕ} {leaves : D → ℕ → List ℕ → Type 0} {faults : D → ℕ} {see : C → LinkSeen} {clock : Option ℕ} {options : ProxyOptions} {opened ended : Seen D} {before now : Parts C} {result : Status}
-    → Shares moment leaves faults see clock options opened ended before now result → List (List OpenGrant)
-handed_out {see = see} {clock = clock} {options = options} {before = before} {now = now} s =
-    begun_in see (terms_in clock options) options.connections before.door now.door (idle_lanes before.lanes) s.ran.lanes s.lanes_end s.ran.served
+-- the signatures that each lane was given by its service
+abbrev pub signatures : {D C : Type 0} {moment : D → ℕ} {leaves : D → ℕ → List ℕ → Type 0} {faults : D → ℕ} {see : C → LinkSeen} {clock : Option ℕ} {options : ProxyOptions} {opened ended : Seen D} {before now : Parts C} {result : Status}
+    → Shares moment leaves faults see clock options opened ended before now result → List (List Signed)
+signatures {see = see} {clock = clock} {options = options} {before = before} {now = now} s =
+    signed_in see (terms_in clock options) options.connections before.door now.door (idle_lanes before.lanes) s.ran.lanes s.lanes_end s.ran.served
 
 -- Lanes served over the desk. What holds of it: each image of the disks opens to what the calls made; what the desk stood for stands for
--- what its machine makes of the calls; each signature that a lane handed out, or began to, lies between the grant of it and the settling of
--- that as sent, and in between nobody closed the grant's key; a key is closed only where no grant of it is in any hand; and whatever was
--- signed before, safe and covered once the key is active, is safe next to all that the desk gave leave for, and next to all messages whose
--- signatures were handed out.
+-- what its machine makes of the calls; the grant of each signature that a service gave was given to its lane by one call and settled by a
+-- later one, as sent where a byte of the reply was sent and else as dropped, and in between nobody closed the grant's key; a key is closed
+-- only where no grant of it is in any hand; and whatever was signed before, safe and covered once the key is active, is safe next to all
+-- that the desk gave leave for, and next to all messages whose signatures were handed out, or begun to be.
 pub record ServesDesk {D C : Type 0} (moment : D → ℕ) (leaves : D → ℕ → List ℕ → Type 0) (faults : D → ℕ) (see : C → LinkSeen) (clock : Option ℕ) (options : ProxyOptions)
     (opened ended : Seen D) (before now : Parts C) (result : Status) : Type 0 where
   pub shares : Shares moment leaves faults see clock options opened ended before now result
   pub images : Images moment leaves faults opened ended (calls_of shares.ran.shared.log)
   pub machine : (state : State) → DeskStands opened.contents state → CanMake state (calls_of shares.ran.shared.log) × DeskStands ended.contents (state_after state (calls_of shares.ran.shared.log))
       × (ended.contents.events ≡ opened.contents.events ++ noted_of state (calls_of shares.ran.shared.log))
-  pub spans : (lane : ℕ) (grant : OpenGrant) → Contains (slice_index_or (handed_out shares) lane []) grant → Spans shares.ran.shared.log lane grant outcome.Sent
+  pub spans : (lane : ℕ) (grant : OpenGrant) (begun : Bool) → Contains (slice_index_or (signatures shares) lane []) (grant, begun) → Spans shares.ran.shared.log lane grant (outcome_of begun)
   pub closings : ClosesIdleKeys shares.ran.shared.log
   pub granted_safe : (state : State) (signed : List (PubKey × Message)) → DeskStands opened.contents state → SafeList signed → All (CoveredOnceActive state (calls_of shares.ran.shared.log)) signed
       → SafeList (signed ++ granted_in (calls_of shares.ran.shared.log))
   pub safe : (state : State) (signed : List (PubKey × Message)) → DeskStands opened.contents state → SafeList signed → All (CoveredOnceActive state (calls_of shares.ran.shared.log)) signed
-      → SafeList (signed ++ messages_of (joined (handed_out shares)))
+      → SafeList (signed ++ sent_of (joined (signatures shares)))
 
 -- the desk was shared so and ended: its disks are handed back, and what it noted is handed out
 pub record DeskShared {D C : Type 0} (moment : D → ℕ) (leaves : D → ℕ → List ℕ → Type 0) (faults : D → ℕ) (see : C → LinkSeen) (clock : Option ℕ) (options : ProxyOptions)

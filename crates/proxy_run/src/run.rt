@@ -81,12 +81,7 @@ where
 }
 
 /// No desk was opened.
-fn unopened<D, S, R>(
-    status: Status,
-    disks: Disks<D>,
-    signers: Vec<S>,
-    door: R,
-) -> ProxyEnd<D, S, R>
+fn unopened<D, S, R>(status: Status, disks: Disks<D>, signers: Vec<S>, door: R) -> ProxyEnd<D, S, R>
     ensures { (result.status ≡ status) × (result.disks ≡ disks) × (result.events.items ≡ []) × (result.signers ≡ signers) × (result.door ≡ door) }
 {
     ProxyEnd {

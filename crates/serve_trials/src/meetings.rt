@@ -19,6 +19,8 @@ const NAP: u64 = 1;
 pub enum Step {
     /// A signing begins.
     Sign,
+    /// A signing begins after another one began.
+    SecondSign,
     /// A vote was posted.
     Post,
     /// A connection is to be accepted.
@@ -30,6 +32,7 @@ impl Step {
     pub fn read(word: &str) -> Option<Step> {
         match word {
             "sign" => Some(Step::Sign),
+            "second-sign" => Some(Step::SecondSign),
             "post" => Some(Step::Post),
             "accept" => Some(Step::Accept),
             _ => None,
@@ -41,6 +44,7 @@ impl Step {
 #[derive(Drop)]
 pub struct Flags {
     sign: AtomicBool,
+    second_sign: AtomicBool,
     post: AtomicBool,
     accept: AtomicBool,
     waits: Vec<(Step, Step)>,
@@ -52,6 +56,7 @@ impl Flags {
     pub fn new(waits: Vec<(Step, Step)>) -> Self {
         Flags {
             sign: AtomicBool::new(false),
+            second_sign: AtomicBool::new(false),
             post: AtomicBool::new(false),
             accept: AtomicBool::new(false),
             waits,
@@ -72,6 +77,7 @@ impl Flags {
     fn flag(&self, step: Step) -> &AtomicBool {
         match step {
             Step::Sign => &self.sign,
+            Step::SecondSign => &self.second_sign,
             Step::Post => &self.post,
             Step::Accept => &self.accept,
         }
@@ -80,12 +86,20 @@ impl Flags {
     /// Comes to a meeting. The first one that comes waits for the other side, if it is to; the later ones don't.
     fn meet<T: Clock>(&self, step: Step, clock: &T) {
         if self.flag(step).swap(true, Ordering::SeqCst) {
+            self.come_again(step);
             return;
         }
         for (own, other) in self.waits.as_slice() {
             if *own == step {
                 self.wait_for(*other, clock);
             }
+        }
+    }
+
+    /// Notes that a step has come once more, where one waits for that.
+    fn come_again(&self, step: Step) {
+        if step == Step::Sign {
+            self.come(Step::SecondSign);
         }
     }
 

@@ -1,6 +1,6 @@
 //! Plays: their acts, and what is written of each run.
 use crate::meetings::Flags;
-use crate::runs::{Left, PlayLane, outside_of, run};
+use crate::runs::{Left, PlayLane, PlaySigner, outside_of, run};
 use crate::scenes::Scene;
 use edge_kit::{Disks, MemDisk, MemLink, Root};
 use std::alloc::{AllocError, Global};
@@ -84,6 +84,7 @@ fn scene_after<T: Print>(
     show_kept(rt, alloc, &ending.disks, genesis)?;
     show_waits(rt, scene, late_waits)?;
     show_lanes(rt, scene, ending.lanes)?;
+    show_signers(rt, scene, ending.signers)?;
     show_sent(rt, alloc, ending.door.door.into_finished())?;
     scene.hold(alloc, &ending.disks)
 }
@@ -143,6 +144,18 @@ fn show_lanes<T: Print>(rt: &T, scene: &Scene, lanes: Vec<PlayLane<T>>) -> io::R
         let requests = lane.signer.requests;
         let nodes = lane.nodes.into_nodes().len();
         println!(rt; "  a lane: requests {requests}, nodes {nodes}")?;
+    }
+    Ok(())
+}
+
+/// Writes how many requests the signer of each lane of a signing proxy had.
+fn show_signers<T: Print>(rt: &T, scene: &Scene, signers: Vec<PlaySigner<T>>) -> io::Result<()> {
+    if scene.text("lanes").is_none() {
+        return Ok(());
+    }
+    for signer in signers {
+        let requests = signer.requests;
+        println!(rt; "  a lane: requests {requests}")?;
     }
     Ok(())
 }

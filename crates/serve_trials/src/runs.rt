@@ -17,7 +17,7 @@ use validator_cli::{Ending, LaneEnd, run_validator};
 type PlayDoor<'a, T> = MeetingDoor<'a, T, MemDoor>;
 
 /// The signer of a run.
-type PlaySigner<'a, T> = MeetingSigner<'a, T, MemSigner>;
+pub type PlaySigner<'a, T> = MeetingSigner<'a, T, MemSigner>;
 
 /// What a run gives back.
 type PlayEnding<'a, T> = Ending<MemDisk, PlaySigner<'a, T>, ChainNode<'a>, PlayDoor<'a, T>>;

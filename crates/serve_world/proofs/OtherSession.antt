@@ -16,7 +16,7 @@ use Rattle.check_sign.specs.declared.open.OpenFault.{OpenFault}
 use Rattle.check_sign.specs.declared.open.OpenFault.TheVariants as open_fault
 use Rattle.world_law.specs.Worlds.{Event}
 use Rattle.program_end.specs.declared.status.Status.{Status}
-use Rattle.command_line.specs.Plans.{session, serve, merge, show, rehearse, shown, nothing}
+use Rattle.command_line.specs.Plans.{session, serve, proxy, merge, show, rehearse, shown, nothing}
 use Rattle.validator_cli.specs.Endings.{IsUntouched, Outside, RunEnds}
 use Rattle.serve_world.specs.Others.{AreOfAnother, OtherIdles}
 use Rattle.serve_world.specs.SessionRunning.{Idle, LeftBy, StaysSo}
@@ -107,6 +107,7 @@ module _ {D : Type 0} (shows : D → List ℕ → Type 0) (moment : D → ℕ) (
   other_idles (show root journal) disks_before disks_now before now noted ended ends genesis client past files other visible stop left =
       show_idles shows moment leaves faults root genesis disks_before disks_now client past files other visible left before now noted ended journal ends
   other_idles (serve options) disks_before disks_now before now noted ended ends genesis client past files other visible stop left = absurd other
+  other_idles (proxy options) disks_before disks_now before now noted ended ends genesis client past files other visible stop left = absurd other
   other_idles (rehearse number clients steps) disks_before disks_now before now noted ended ends genesis client past files other visible stop left = absurd other
   other_idles shown disks_before disks_now before now noted ended ends genesis client past files other visible stop left = absurd other
   other_idles nothing disks_before disks_now before now noted ended ends genesis client past files other visible stop left = absurd other

@@ -20,7 +20,7 @@ use Rattle.program_end.specs.declared.status.Status.{Status}
 use Rattle.journal_commands.specs.Views.{View}
 use Rattle.journal_commands.specs.Openings.{DeskEnded, HadDesk}
 use Rattle.journal_commands.specs.Merging.{DeskMergeEnds}
-use Rattle.command_line.specs.Plans.{session, serve, merge, show, rehearse, shown, nothing}
+use Rattle.command_line.specs.Plans.{session, serve, proxy, merge, show, rehearse, shown, nothing}
 use Rattle.session_run.specs.Ends.{Ends}
 use Rattle.validator_cli.specs.Endings.{Outside, RunEnds, bench_at, wires_of}
 use Rattle.serve_world.specs.Events.{calls_of, session_events, turn_events}
@@ -173,6 +173,7 @@ command_goes_on shows moment leaves faults genesis (show root journal) is = λ d
     showed shows moment leaves faults genesis journal disks_before disks_now before now noted ended client past files visible stop left (subst R is ending)
 command_goes_on shows moment leaves faults genesis (session root journal fork signer_at watch) is = absurd is
 command_goes_on shows moment leaves faults genesis (serve options) is = absurd is
+command_goes_on shows moment leaves faults genesis (proxy options) is = absurd is
 command_goes_on shows moment leaves faults genesis (rehearse number clients steps) is = absurd is
 command_goes_on shows moment leaves faults genesis shown is = absurd is
 command_goes_on shows moment leaves faults genesis nothing is = absurd is

@@ -1,6 +1,6 @@
 //! Words of the command line, and the plans that they are.
 use crate::reading::{push_digits, push_ended};
-use command_line::{PathText, Plan, ServeOptions, Usage, plan};
+use command_line::{PathText, Plan, ProxyOptions, ServeOptions, Usage, plan};
 use edge_kit::{Root, push_hex};
 use plan_places::{token_path, with_token};
 use service_url::ServiceUrl;
@@ -91,6 +91,7 @@ fn push_plan(alloc: Global, planned: &Plan, out: &mut String) -> Result<(), Allo
             push_signing(out, fork, signer.is_some(), *watch)
         }
         Plan::Serve(options) => push_options(alloc, out, options),
+        Plan::Proxy(options) => push_proxy(alloc, out, options),
         Plan::Merge { genesis, journal } => {
             push_place(alloc, out, "merge", genesis, Some(journal))
         }
@@ -175,5 +176,33 @@ fn push_door(out: &mut String, options: &ServeOptions) -> Result<(), AllocError>
     write!(
         out,
         " {listen} {token} {watch} {slots} {connections} {lanes}"
+    )
+}
+
+/// Appends the options of a signing proxy.
+fn push_proxy(alloc: Global, out: &mut String, options: &ProxyOptions) -> Result<(), AllocError> {
+    push_place(
+        alloc,
+        out,
+        "proxy",
+        &options.genesis,
+        Some(&options.journal),
+    )?;
+    push_service(out, &options.signer)?;
+    push_lanes(out, options)
+}
+
+/// Appends when the chain of a signing proxy began, where it answers, its token, when it ends, how many lanes it has, and
+/// whether it is quiet.
+fn push_lanes(out: &mut String, options: &ProxyOptions) -> Result<(), AllocError> {
+    let genesis_time = options.genesis_time;
+    let listen = options.listen;
+    let token = options.token.as_str();
+    let connections = options.connections;
+    let lanes = options.lanes.get();
+    let quiet = options.quiet;
+    write!(
+        out,
+        " {genesis_time} {listen} {token} {connections} {lanes} {quiet}"
     )
 }
