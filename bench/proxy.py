@@ -56,8 +56,8 @@ class Proxy:
             self.take_in(range(first, min(keys, first + 50)))
 
     def start(self):
-        with open(self.errors, 'a') as told:
-            self.child = subprocess.Popen(self.words, stdin=subprocess.DEVNULL, stdout=subprocess.PIPE, stderr=told)
+        with open(self.errors, 'a') as said:
+            self.child = subprocess.Popen(self.words, stdin=subprocess.DEVNULL, stdout=subprocess.PIPE, stderr=said)
         children.append(self.child)
         for _ in range(600):
             reply = exchange(self.port, request('GET', '/upcheck'))
@@ -66,8 +66,8 @@ class Proxy:
             if self.child.poll() is not None:
                 break
             time.sleep(0.1)
-        with open(self.errors) as told:
-            sys.exit('bench/proxy.sh: the proxy does not serve; status %s: %s%s' % (self.child.poll(), self.child.stdout.read() if self.child.poll() is not None else '', told.read()))
+        with open(self.errors) as said:
+            sys.exit('bench/proxy.sh: the proxy does not serve; status %s: %s%s' % (self.child.poll(), self.child.stdout.read() if self.child.poll() is not None else '', said.read()))
 
     def take_in(self, keys):
         body = {'keystores': [json.dumps({'pubkey': key(n)[2:]}) for n in keys], 'passwords': ['x'] * len(keys)}
@@ -89,30 +89,30 @@ class Proxy:
 
     def kept(self):
         """What `show` says is kept of the journal: for each key the blocks and the votes."""
-        told = subprocess.run([program, 'show', '--genesis', GENESIS, '--journal', self.journal], capture_output=True, text=True)
-        if told.returncode:
-            fault('show over the journal ends with %d: %s%s' % (told.returncode, told.stdout, told.stderr))
-        return {words[0]: (int(words[3]), int(words[5])) for words in map(str.split, told.stdout.splitlines()) if len(words) > 5}
+        said = subprocess.run([program, 'show', '--genesis', GENESIS, '--journal', self.journal], capture_output=True, text=True)
+        if said.returncode:
+            fault('show over the journal ends with %d: %s%s' % (said.returncode, said.stdout, said.stderr))
+        return {words[0]: (int(words[3]), int(words[5])) for words in map(str.split, said.stdout.splitlines()) if len(words) > 5}
 
 # ---- times
 
-def rate_of(told):
-    return '%.0f, %.2f, %.2f' % (told[0], 1000 * at_share(told[1], 0.5), 1000 * at_share(told[1], 0.99))
+def rate_of(said):
+    return '%.0f, %.2f, %.2f' % (said[0], 1000 * at_share(said[1], 0.5), 1000 * at_share(said[1], 0.99))
 
 def throughput(proxy, each):
     """A line for each delay of the service and each number of clients. What 16 get through the proxy of what they get of the service with a delay of 20 ms."""
     first, share = 100_000, 0
-    print('| ms a signature | connections | through the proxy: signatures a second, median ms, 99th ms | the service alone | share |\n|---|---|---|---|---|')
+    print('| ms a signature | connections | through the proxy: signatures a second, median ms, 99th ms | the service itself | share |\n|---|---|---|---|---|')
     for delay in (0, 20):
         service.set(delay=delay / 1000)
         for connections in (1, 4, 16):
             through = votes_over(proxy.port, range(MANY_KEYS), connections, first, each)
-            alone = votes_over(service.port, range(MANY_KEYS), connections, first, each)
-            first, share = first + 50_000, through[0] / alone[0]
-            print('| %d | %d | %s | %s | %.2f |' % (delay, connections, rate_of(through), rate_of(alone), share), flush=True)
-            for told in (through, alone):
-                if told[2]:
-                    fault('a vote of %d connections was not signed: %s' % (connections, told[2]))
+            straight = votes_over(service.port, range(MANY_KEYS), connections, first, each)
+            first, share = first + 50_000, through[0] / straight[0]
+            print('| %d | %d | %s | %s | %.2f |' % (delay, connections, rate_of(through), rate_of(straight), share), flush=True)
+            for said in (through, straight):
+                if said[2]:
+                    fault('a vote of %d connections was not signed: %s' % (connections, said[2]))
     service.set(delay=0)
     return share
 
@@ -124,7 +124,7 @@ def two_syncs(file, sync):
     return time.perf_counter() - begun
 
 def added(proxy, rounds=20, turns=25):
-    """The medians of one signature through the proxy and of the service alone, and of two syncs of the same disk, in turns: seconds."""
+    """The medians of one signature through the proxy and of the service itself, and of two syncs of the same disk, in turns: seconds."""
     times = collections.defaultdict(list)
     file = os.open(os.path.join(folder, 'raw'), os.O_WRONLY | os.O_CREAT | os.O_APPEND, 0o600)
     for turn in range(rounds * turns):
@@ -146,8 +146,8 @@ def slot_at_once(proxy):
     for place, count in enumerate((64, 256, 512)):
         texts = [sign_request(n % MANY_KEYS, vote_body(900_000 + 100 * place + n // MANY_KEYS, 900_001 + 100 * place + n // MANY_KEYS)) for n in range(count)]
         # (votes of one key may be decided in any order: those of a later epoch first do no harm)
-        (through, others), (alone, _) = at_once(proxy.port, texts), at_once(service.port, texts)
-        print('%d votes at once, 20 ms: the last in %.3f s through the proxy, %.3f by the service alone' % (count, (through or [0])[-1], (alone or [0])[-1]), flush=True)
+        (through, others), (straight, _) = at_once(proxy.port, texts), at_once(service.port, texts)
+        print('%d votes at once, 20 ms: the last in %.3f s through the proxy, %.3f by the service itself' % (count, (through or [0])[-1], (straight or [0])[-1]), flush=True)
         if others:
             fault('of %d votes at once %d were signed; what came of the others: %s' % (count, len(through), dict(others)))
     service.set(delay=0)
@@ -164,11 +164,11 @@ def idle(proxy, for_seconds=3):
 def scene_times():
     proxy = Proxy('times', MANY_KEYS)
     share = throughput(proxy, max(1, min(5, seconds / 12)))
-    goal('16 connections and 20 ms: %.2f of what the service alone gives; wanted at least 0.9' % share, share >= 0.9)
+    goal('16 connections and 20 ms: %.2f of what the service itself gives; wanted at least 0.9' % share, share >= 0.9)
     slot_at_once(proxy)
     of = added(proxy)
     more = of['proxy'] - of['service']
-    print('one signature, medians: %.3f ms through the proxy, %.3f by the service alone: the proxy adds %.3f ms; twice 200 bytes and a sync: %.3f ms by fsync, %.3f by fdatasync'
+    print('one signature, medians: %.3f ms through the proxy, %.3f by the service itself: the proxy adds %.3f ms; twice 200 bytes and a sync: %.3f ms by fsync, %.3f by fdatasync'
           % tuple(1000 * it for it in (of['proxy'], of['service'], more, of['fsync'], of['fdatasync'])))
     goal('what the proxy adds is %.2f times two syncs; wanted at most 2.5' % (more / of['fsync']), more <= 2.5 * of['fsync'])
     idle(proxy)
@@ -341,21 +341,21 @@ def by_curl(port):
         path = os.path.join(folder, 'body')
         with open(path, 'w') as file:
             json.dump(body, file)
-        told = subprocess.run(['curl', '-sS', '-m', '20', '-w', ' %{http_code}', '-H', 'Content-Type: application/json', *words, '--data-binary', '@' + path, 'http://127.0.0.1:%d%s%s' % (port, SIGN, key(0))], capture_output=True, text=True)
-        is_right = told.stdout == json.dumps({'signature': signature_of(key(0), signing_root(body))}, separators=(',', ':')) + ' 200'
+        said = subprocess.run(['curl', '-sS', '-m', '20', '-w', ' %{http_code}', '-H', 'Content-Type: application/json', *words, '--data-binary', '@' + path, 'http://127.0.0.1:%d%s%s' % (port, SIGN, key(0))], capture_output=True, text=True)
+        is_right = said.stdout == json.dumps({'signature': signature_of(key(0), signing_root(body))}, separators=(',', ':')) + ' 200'
         print('| curl | %s | %d of 1 | |' % (what, is_right))
         if not is_right:
-            fault('curl, %s: %s %s' % (what, told.stdout[:200], told.stderr))
+            fault('curl, %s: %s %s' % (what, said.stdout[:200], said.stderr))
 
 def other_types(port):
     """The types of Web3Signer's API that the proxy does not take, and an exit as Deneb and later forks have it (EIP-7044)."""
-    told = []
+    said = []
     for kind in ('AGGREGATE_AND_PROOF', 'AGGREGATE_AND_PROOF_V2', 'VALIDATOR_REGISTRATION', 'DEPOSIT', 'BLOCK'):
-        told.append('%s %s' % (kind, word_of(exchange(port, sign_request(0, {'type': kind, 'fork_info': fork_info()})))))
+        said.append('%s %s' % (kind, word_of(exchange(port, sign_request(0, {'type': kind, 'fork_info': fork_info()})))))
     exit_body = {'type': 'VOLUNTARY_EXIT', 'fork_info': fork_info(), 'voluntary_exit': {'epoch': '90', 'validator_index': '7'}}
     exit_body['signingRoot'] = signing_root(exit_body, '0x03000000')
-    told.append('an exit under the version of Capella while the fork is a later one (EIP-7044): %s' % word_of(exchange(port, sign_request(0, exit_body))))
-    print('note: other types of the API: ' + '; '.join(told))
+    said.append('an exit under the version of Capella while the fork is a later one (EIP-7044): %s' % word_of(exchange(port, sign_request(0, exit_body))))
+    print('note: other types of the API: ' + '; '.join(said))
 
 def scene_forms():
     proxy = Proxy('forms', STORM_KEYS)
@@ -405,7 +405,7 @@ def drip(links, end):
                 links.remove(link)
         time.sleep(1)
 
-def signed_beside(proxy, until, first):
+def signed_meanwhile(proxy, until, first):
     """A client that asks for a vote after another until a moment: how many, and how long the longest took."""
     count, longest = 0, 0
     while time.time() < until:
@@ -418,16 +418,16 @@ def signed_beside(proxy, until, first):
         time.sleep(0.005)
     return count, longest
 
-def beside_hanging(lanes, keys, each):
+def next_to_hanging(lanes, keys, each):
     """The longest time of a signature next to peers that hang. The proxy then, and how many votes it signed."""
     proxy = Proxy('peers%s-%d' % (lanes, keys), keys, lanes)
-    count, longest = signed_beside(proxy, time.time() + 2, 1000)
+    count, longest = signed_meanwhile(proxy, time.time() + 2, 1000)
     quiet_files, quiet_longest = proxy.files(), longest
     links, until = hanging(proxy.port, each), time.time() + 35
     threading.Thread(target=drip, args=(links['drips'], until), daemon=True).start()
     time.sleep(0.5)
     during = proxy.files()
-    count, longest = signed_beside(proxy, until, 100_000)
+    count, longest = signed_meanwhile(proxy, until, 100_000)
     print('%s lanes, %d keys: %d peers that hang, %d of each kind: %d votes of another client signed in 35 s, the longest in %.3f s (%.3f s without them); open files %d before, %d with them, %d then'
           % (lanes or 4, keys, 4 * each, each, count, longest, quiet_longest, quiet_files, during, proxy.files()), flush=True)
     for link in sum(links.values(), []):
@@ -480,7 +480,7 @@ def lingering(proxy, for_seconds=10):
     for peer in peers:
         peer.start()
     time.sleep(1)
-    count, longest = signed_beside(proxy, end - 1, 4_000_000)
+    count, longest = signed_meanwhile(proxy, end - 1, 4_000_000)
     print('%d peers that have their replies and do not hang up, as many as may leave: %d votes of another client signed in %d s, the longest in %.3f s' % (PLACES, count, for_seconds - 2, longest), flush=True)
     for peer in peers:
         peer.join()
@@ -499,7 +499,7 @@ def large_bodies(proxy, count=8, size=16 << 20):
     print('%d peers, each with all but the last byte of a body of %d MiB: resident %d KiB before, %d with them, %d after (%s)' % (count, size >> 20, before, held, proxy.resident(), word_of(reply)), flush=True)
 
 def scene_peers():
-    proxy = beside_hanging(LANES, STORM_KEYS, 10)
+    proxy = next_to_hanging(LANES, STORM_KEYS, 10)
     growth(proxy)
     full_of_silence(proxy)
     lingering(proxy)
@@ -509,7 +509,7 @@ def scene_peers():
 def scene_lists():
     """Peers that hang, some of which read nothing of a list of so many keys that the system does not take it for them at once."""
     for lanes in (LANES, None):
-        beside_hanging(lanes, 1000, 10).stop()
+        next_to_hanging(lanes, 1000, 10).stop()
 
 # ---- ends
 
@@ -533,8 +533,8 @@ def scene_ends():
     leave_early(proxy.port, sign_request(0, vote_body(5, 6))[:-5])
     proxy.take_in([1])
     proxy.stop()
-    with open(proxy.errors) as told:
-        print('--quiet: %s' % ('; '.join(mask(line) for line in list(told)[quiet:]) or 'no line'))
+    with open(proxy.errors) as said:
+        print('--quiet: %s' % ('; '.join(mask(line) for line in list(said)[quiet:]) or 'no line'))
 
 MASKS = [('0x[0-9a-f]{96}', 'KEY'), ('0x[0-9a-f]{64}', 'ROOT'), (r'\d+\.\d+\.\d+\.\d+:\d+', 'HOST:PORT'), (r'/\S+\.[ab]\b', 'PATH'), (r'validator \d\S*', 'validator VERSION')]
 
@@ -547,8 +547,8 @@ def standard_errors():
     """How many lines of each form the proxies wrote to standard error."""
     lines = []
     for path in errors:
-        with open(path, errors='replace') as told:
-            lines += told.read().splitlines()
+        with open(path, errors='replace') as said:
+            lines += said.read().splitlines()
     print('lines of standard error, by form:')
     for form, count in sorted(collections.Counter(map(mask, lines)).items()):
         print('  %d: %s' % (count, form))

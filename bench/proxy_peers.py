@@ -1,5 +1,5 @@
 """What stands around the signing proxy in `proxy.sh`: a signing service in a process of its own, clients, requests and the roots that are signed for them, and
-what of all that was signed is slashable, each by the public rules alone."""
+what of all that was signed is slashable, each by the public rules only."""
 import bisect, collections, hashlib, heapq, itertools, json, multiprocessing, pickle, random, re, select, socket, time
 
 GENESIS, ZERO, TOKEN = '0x' + '5a' * 32, '0x' + '00' * 32, 'a-token-of-36-characters-0123456789'
@@ -164,10 +164,10 @@ def votes_over(port, keys, connections, first, seconds):
         pipes.append(mine)
     barrier.wait()
     begun = time.perf_counter()
-    told = [pipe.recv() for pipe in pipes]
+    said = [pipe.recv() for pipe in pipes]
     taken = time.perf_counter() - begun
-    times = sorted(itertools.chain.from_iterable(times for times, _ in told))
-    return len(times) / taken, times, next((failed for _, failed in told if failed), None)
+    times = sorted(itertools.chain.from_iterable(times for times, _ in said))
+    return len(times) / taken, times, next((failed for _, failed in said if failed), None)
 
 class Ask:
     """A request that is sent over a connection of its own next to others."""
@@ -260,8 +260,8 @@ class Service:
         forked.Process(target=self.answer_all, daemon=True).start()
         self.listening.close()
 
-    def set(self, **told):
-        self.pipe.send(told)
+    def set(self, **said):
+        self.pipe.send(said)
         self.pipe.recv()
 
     def take(self):
@@ -270,12 +270,12 @@ class Service:
         return self.pipe.recv()
 
     def control(self):
-        told = self.other.recv()
-        if told is None:
+        said = self.other.recv()
+        if said is None:
             self.other.send((self.noted, self.count))
             self.noted, self.count = [], 0
         else:
-            self.other.send(self.state.update(told))
+            self.other.send(self.state.update(said))
 
     def answer_all(self):
         self.poll = select.epoll()
