@@ -19,7 +19,7 @@ CALLED = '(?:GET|POST|DELETE) ' + WORDS['TARGET']
 def pattern_of(form):
     """What lines have this form of the table."""
     parts = re.split(r'(\b(?:KEY: STATUS: MESSAGE|X\.Y|%s|[NMKDSRQ])\b|\.\.$)' % '|'.join(word for word in WORDS if len(word) > 3 or word == 'URL'), form)
-    words = {**WORDS, 'KEY: STATUS: MESSAGE': OUTCOME, **({'CALL': CALLED} if form.startswith('Keymanager API') else {})}
+    words = {**WORDS, 'KEY: STATUS: MESSAGE': OUTCOME, **({'CALL': CALLED} if form.startswith(('Keymanager API', 'Signing API')) else {})}
     return re.compile(''.join(words[part] if part in words else re.escape(part) for part in parts))
 
 def table():
@@ -30,12 +30,12 @@ def table():
     return [(form, pattern_of(form), cell.endswith('*')) for cell in rows for form in re.findall('`([^`]+)`', cell)]
 
 FORMS = table()
-if len(FORMS) != 26:
+if len(FORMS) != 30:
     raise SystemExit('bench: the table of docs/RUNBOOK.md has %d forms of lines: look at standard_error.py' % len(FORMS))
 
 # What sentences next to the table say: what is also reported with `--quiet`: a key that ended with `error`, and a request that was refused, of
 # whatever method.
-REFUSED = re.compile(r'Keymanager API: (?:%s: error(?:: %s)?|[ ->@-~]+: [345]\d\d(?: %s)?)' % (WORDS['KEY'], WORDS['MESSAGE'], WORDS['BODY']))
+REFUSED = re.compile(r'(?:Keymanager API: %s: error(?:: %s)?|(?:Keymanager|Signing) API: [ ->@-~]+: [345]\d\d(?: %s)?)' % (WORDS['KEY'], WORDS['MESSAGE'], WORDS['BODY']))
 
 def unfit(lines, quiet=False):
     """The lines of which the table has no form, and, where the program is to be quiet, those that are news."""
