@@ -25,6 +25,7 @@ use Rattle.validator_cli.specs.Endings.{Outside, IsSessionComplete, SessionEnds,
 abbrev pub domains_of : Domains → Plan → Domains
 domains_of none (plan.Session genesis journal fork signer watch) = record { fork = fork; genesis = genesis }
 domains_of none (plan.Serve options) = none
+domains_of none (plan.Proxy options) = none
 domains_of none (plan.Merge genesis journal) = none
 domains_of none (plan.Show genesis journal) = none
 domains_of none (plan.Rehearse number size) = none
@@ -34,6 +35,7 @@ domains_of none (plan.Shown text) = none
 abbrev pub watch_of : Bool → Plan → Bool
 watch_of none (plan.Session genesis journal fork signer watch) = watch
 watch_of none (plan.Serve options) = none
+watch_of none (plan.Proxy options) = none
 watch_of none (plan.Merge genesis journal) = none
 watch_of none (plan.Show genesis journal) = none
 watch_of none (plan.Rehearse number size) = none
