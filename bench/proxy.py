@@ -10,7 +10,7 @@ except SystemExit as why:
 program = os.path.abspath(sys.argv[1])
 seconds = int(sys.argv[2]) if len(sys.argv) > 2 else 60
 scenes = sys.argv[3:] or ['times', 'storm', 'forms', 'peers', 'lists', 'ends']
-LANES, MANY_KEYS, STORM_KEYS, PLACES = 16, 64, 4, 64
+LANES, MANY_KEYS, STORM_KEYS, PLACES, EXITS = 16, 64, 4, 256, 64
 folder = tempfile.mkdtemp(prefix='proxy-', dir=os.environ.get('FOLDER'))
 wrong, errors, children = [], [], []
 service = Service()
@@ -476,12 +476,12 @@ def lingering(proxy, for_seconds=10):
             except OSError:
                 pass
 
-    peers = [threading.Thread(target=linger, daemon=True) for _ in range(PLACES)]
+    peers = [threading.Thread(target=linger, daemon=True) for _ in range(EXITS)]
     for peer in peers:
         peer.start()
     time.sleep(1)
     count, longest = signed_meanwhile(proxy, end - 1, 4_000_000)
-    print('%d peers that have their replies and do not hang up, as many as may leave: %d votes of another client signed in %d s, the longest in %.3f s' % (PLACES, count, for_seconds - 2, longest), flush=True)
+    print('%d peers that have their replies and do not hang up, as many as may leave: %d votes of another client signed in %d s, the longest in %.3f s' % (EXITS, count, for_seconds - 2, longest), flush=True)
     for peer in peers:
         peer.join()
 

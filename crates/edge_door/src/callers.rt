@@ -13,9 +13,17 @@ pub enum Callers {
 }
 
 impl Callers {
-    /// How many connections wait at most, and how many leave at most. Validator clients may send the requests of a slot over
-    /// as many connections, next to slow peers, and there are up to 64 lanes.
-    pub(crate) fn places(self) -> usize {
+    /// How many connections wait at most. Validator clients may send the requests of a slot over as many connections, next to
+    /// slow peers.
+    pub(crate) fn waiting_places(self) -> usize {
+        match self {
+            Callers::KeyManagers => 8,
+            Callers::ValidatorClients => 256,
+        }
+    }
+
+    /// How many connections leave at most. There are up to 64 lanes.
+    pub(crate) fn leaving_places(self) -> usize {
         match self {
             Callers::KeyManagers => 8,
             Callers::ValidatorClients => 64,

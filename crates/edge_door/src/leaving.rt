@@ -106,7 +106,7 @@ impl<S: Read + Write + OpenStream + Drop> Exit<S> {
 
     /// Whether there is a place for one more, of those that there are where these call.
     pub(crate) fn has_place(&self, callers: Callers) -> bool {
-        self.leaving.len() < callers.places()
+        self.leaving.len() < callers.leaving_places()
     }
 
     /// Whether no connection leaves.

@@ -228,9 +228,22 @@ impl<'a, N: Net + Eprint + Clock + Drop> Lobby<'a, N> {
         }
     }
 
+    // Lets the connections wait that the listener accepts now, as far as there are places for them, and says whether any came: so
+    // many that come at once do not stand in the system's queue, which is short.
+    fn admit(&mut self, listener: &N::Listener) -> io::Result<bool> {
+        let mut has_come = false;
+        'connections: for _ in 0..u64::MAX {
+            if !self.admit_next(listener)? {
+                return Ok(has_come);
+            }
+            has_come = true;
+        }
+        Ok(has_come)
+    }
+
     // Lets the next connection wait that the listener accepts now, where there is a place for one, and says whether one
     // came. What passes is waited out, and reported once.
-    fn admit(&mut self, listener: &N::Listener) -> io::Result<bool> {
+    fn admit_next(&mut self, listener: &N::Listener) -> io::Result<bool> {
         if !self.room.has_place(self.callers) {
             return Ok(false);
         }

@@ -39,7 +39,7 @@ use std::rt::Clock;
 ///
 /// Where validator clients call, lanes take turns at the door, each of which hands a connection back and takes the next, and
 /// several are served at a time. Then a request for a signature, for the keys, or whether anyone is there, needs no token, and
-/// is given once it is whole. 64 wait at most, 64 leave, and a request is seen within 2 milliseconds. `finish` waits for none
+/// is given once it is whole. 256 wait at most, 64 leave, and a request is seen within 2 milliseconds. `finish` waits for none
 /// that leaves, unless there is no place for one more: `accept` goes on with them. What is left of a reply was sent by `hang_up`,
 /// and a connection whose peer has ended it, or was silent for half a second since, leaves at the next look. A time goes on from
 /// turn to turn, so that none of a peer that is slow begins anew. Only what passes while no lane is at the door does not count,

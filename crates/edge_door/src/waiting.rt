@@ -92,7 +92,7 @@ impl<S: Read + Write + OpenStream + Drop> Room<S> {
 
     /// Whether there is a place for one more, of those that there are where these call.
     pub(crate) fn has_place(&self, callers: Callers) -> bool {
-        self.waiting.len() < callers.places()
+        self.waiting.len() < callers.waiting_places()
     }
 
     /// Lets a connection wait whose request may last so long from now on, and be silent so long. Where the system does not
