@@ -30,13 +30,22 @@ impl Callers {
         }
     }
 
-    /// For how many milliseconds the door waits at most before it looks again whether a connection came, more of one came in
-    /// or can be sent, or its halt was raised. A signature that is wanted waits for that long at most, and it is worth less
-    /// the later it comes; the request of a key manager has time.
-    pub(crate) fn longest_look(self) -> u64 {
+    /// For how many microseconds the door waits after a look that found something, or the first of a turn, before it looks again
+    /// whether a connection came, more of one came in or can be sent, or its halt was raised.
+    pub(crate) fn first_look(self) -> u64 {
         match self {
-            Callers::KeyManagers => 50,
-            Callers::ValidatorClients => 2,
+            Callers::KeyManagers => 1_000,
+            Callers::ValidatorClients => 100,
+        }
+    }
+
+    /// For how many microseconds it waits the next time, where it waited for so many and then found nothing. A signature that
+    /// is wanted waits for a look, and it is worth less the later it comes: so where validator clients call, the waits grow
+    /// slowly, and requests that follow each other are seen soon. The request of a key manager has time.
+    pub(crate) fn later_look(self, microseconds: u64) -> u64 {
+        match self {
+            Callers::KeyManagers => microseconds.saturating_mul(2).min(50_000),
+            Callers::ValidatorClients => microseconds.saturating_add(microseconds / 8).min(2_000),
         }
     }
 

@@ -137,7 +137,7 @@ impl<'a, N: Net + Eprint + Clock + Drop> Lobby<'a, N> {
         listener: &N::Listener,
     ) -> io::Result<Option<Waiting<N::Stream>>> {
         self.resume();
-        let mut nap = 1;
+        let mut nap = self.callers.first_look();
         'looks: for _ in 0..u64::MAX {
             if self.halt.is_raised() {
                 self.send_out();
@@ -150,7 +150,7 @@ impl<'a, N: Net + Eprint + Clock + Drop> Lobby<'a, N> {
                         return Ok(Some(waiting));
                     }
                 }
-                Look::More => nap = 1,
+                Look::More => nap = self.callers.first_look(),
                 _ => nap = self.look_later(nap),
             }
         }
@@ -167,7 +167,7 @@ impl<'a, N: Net + Eprint + Clock + Drop> Lobby<'a, N> {
     // one more to leave. Once the halt is raised none comes any more, and no peer is asked for the body of its request.
     pub(crate) fn go_on(&mut self, listener: &N::Listener) {
         self.resume();
-        let mut nap = 1;
+        let mut nap = self.callers.first_look();
         'looks: for _ in 0..u64::MAX {
             if self.halt.is_raised() {
                 return self.send_out();
@@ -180,7 +180,7 @@ impl<'a, N: Net + Eprint + Clock + Drop> Lobby<'a, N> {
                 return;
             }
             nap = match found {
-                Look::More => 1,
+                Look::More => self.callers.first_look(),
                 _ => self.look_later(nap),
             };
         }
@@ -203,13 +203,13 @@ impl<'a, N: Net + Eprint + Clock + Drop> Lobby<'a, N> {
 
     // Lets all connections leave.
     fn send_out(&mut self) {
-        let mut nap = 1;
+        let mut nap = self.callers.first_look();
         'looks: for _ in 0..u64::MAX {
             if self.exit.is_empty() {
                 return;
             }
             nap = if self.exit.work(&self.handle) {
-                1
+                self.callers.first_look()
             } else {
                 self.look_later(nap)
             };
@@ -268,12 +268,10 @@ impl<'a, N: Net + Eprint + Clock + Drop> Lobby<'a, N> {
         }
     }
 
-    // Waits for that many milliseconds, and gives for how many to wait the next time.
-    fn look_later(&self, milliseconds: u64) -> u64 {
-        thread::sleep(&self.handle, Duration::from_millis(milliseconds));
-        milliseconds
-            .saturating_mul(2)
-            .min(self.callers.longest_look())
+    // Waits for that many microseconds, and gives for how many to wait the next time.
+    fn look_later(&self, microseconds: u64) -> u64 {
+        thread::sleep(&self.handle, Duration::from_micros(microseconds));
+        self.callers.later_look(microseconds)
     }
 
     // Reports a failure that passes, where that was not reported yet, and waits a little. What validator clients have sent
