@@ -81,7 +81,7 @@ abbrev pub AreLent : Option ℕ → ℕ → Type 0
 AreLent None n = Unit {0}
 AreLent (Some m) n = n ≤ m
 
--- a known count rose by so many, and fell by so many
+-- a known count rose by the first number, and fell by the second
 abbrev pub Moves : Option ℕ → Option ℕ → ℕ → ℕ → Type 0
 Moves None new more less = new ≡ None
 Moves (Some n) None more less = ⊥
@@ -135,7 +135,7 @@ abbrev pub OnlyLast : {X : Type 0} → X → List X → Type 0
 OnlyLast x [] = Unit {0}
 OnlyLast x (y ∷ ys) = (y ≡ x → ys ≡ []) × OnlyLast x ys
 
--- Each of these calls handed back just as many as the answer before it gave: one, or none. So many before the first, and so many are left.
+-- Each of these calls handed back just as many as the answer before it gave: one, or none. The numbers are those of connections not handed back before the first call and after the last.
 abbrev pub HandsOn : {C : Type 0} → ℕ → List (Asked C) → ℕ → Type 0
 HandsOn n [] m = m ≡ n
 HandsOn n (x ∷ xs) m = (length (returned x.0) ≡ n) × HandsOn (length (connection_in x.1)) xs m

@@ -19,7 +19,7 @@ DoorPass C = Seat (Held (CountedSeen C) (Option C) (Taken C)) (View (CountedSeen
 abbrev pub IsDoorPass : {C : Type 0} → SharedDoor C → DoorPass C → Type 0
 IsDoorPass s p = IsPassAt TakeStep MayAsk s p
 
--- its pass, which hands back with each turn what the turn before gave it, and was given so many that it did not hand back yet
+-- its pass, which hands back with each turn what the turn before gave it; the number is that of connections not handed back yet
 abbrev pub IsUsedPass : {C : Type 0} → SharedDoor C → DoorPass C → ℕ → Type 0
 IsUsedPass s p n = IsDoorPass s p × HandsOn 0 (made p) n
 

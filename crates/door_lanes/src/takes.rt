@@ -6,7 +6,7 @@ use crate::counted::Taken;
 
 /// Takes connections of a door that others may share, and hands them back.
 pub(crate) trait Takes<C> {
-    /// It may take a connection. It was given so many that it did not hand back yet: one, or none.
+    /// It may take a connection. This is the number of those that it was given and did not hand back yet: one, or none.
     ghost ready: { Self → ℕ → Type 0 };
 
     /// Its own calls, one after another, handed these back and had these answers.

@@ -50,6 +50,11 @@ member_name member.SubcommitteeIndex = codes "subcommittee_index"
 member_name member.AggregatorIndex = codes "aggregator_index"
 member_name member.Contribution = codes "contribution"
 member_name member.SelectionProof = codes "selection_proof"
+member_name member.Aggregate = codes "aggregate"
+member_name member.CommitteeBits = codes "committee_bits"
+member_name member.FeeRecipient = codes "fee_recipient"
+member_name member.GasLimit = codes "gas_limit"
+member_name member.Timestamp = codes "timestamp"
 
 -- no fork, signing data, header or attestation data has it
 abbrev pub is_in_bodies : Member → Bool

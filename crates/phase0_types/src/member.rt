@@ -2,7 +2,7 @@
 ghost use Rattle.std.specs.Prelude.{◌≡◌, IsTrue};
 ghost use Rattle.phase0_types.specs.Members.{member_name, is_in_bodies};
 
-/// A member of a container (Beacon API; consensus-specs, "Phase 0" and "Altair", "Containers").
+/// A member of a container (Beacon API; consensus-specs, "Containers" of each fork; builder-specs, "Containers").
 #[derive(Clone, Copy, PartialEq, Eq, Debug)]
 pub enum Member {
     PreviousVersion,
@@ -52,6 +52,11 @@ pub enum Member {
     AggregatorIndex,
     Contribution,
     SelectionProof,
+    Aggregate,
+    CommitteeBits,
+    FeeRecipient,
+    GasLimit,
+    Timestamp,
 }
 
 impl Member {
@@ -115,6 +120,11 @@ impl Member {
             Member::AggregatorIndex => "aggregator_index",
             Member::Contribution => "contribution",
             Member::SelectionProof => "selection_proof",
+            Member::Aggregate => "aggregate",
+            Member::CommitteeBits => "committee_bits",
+            Member::FeeRecipient => "fee_recipient",
+            Member::GasLimit => "gas_limit",
+            Member::Timestamp => "timestamp",
             _ => "",
         }
     }

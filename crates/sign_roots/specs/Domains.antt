@@ -21,6 +21,7 @@ domain_type kind.AggregateAndProof = 6 ∷ 0 ∷ 0 ∷ 0 ∷ []
 domain_type kind.SyncCommittee = 7 ∷ 0 ∷ 0 ∷ 0 ∷ []
 domain_type kind.SyncCommitteeSelectionProof = 8 ∷ 0 ∷ 0 ∷ 0 ∷ []
 domain_type kind.ContributionAndProof = 9 ∷ 0 ∷ 0 ∷ 0 ∷ []
+domain_type kind.ApplicationBuilder = 0 ∷ 0 ∷ 0 ∷ 1 ∷ []
 
 -- the fork's previous version before its epoch, and its current one from there on (`get_domain`)
 abbrev pub version_at : Fork → ℕ → List ℕ

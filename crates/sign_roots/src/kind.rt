@@ -2,7 +2,7 @@
 ghost use Rattle.std.specs.Prelude.{◌≡◌};
 ghost use Rattle.sign_roots.specs.Domains.{domain_type};
 
-/// What a signature is for (consensus-specs, "Domain types" of phase 0 and of Altair).
+/// What a signature is for (consensus-specs, "Domain types" of phase 0 and of Altair; builder-specs).
 #[derive(Clone, Copy, PartialEq, Eq, Debug)]
 pub enum DomainKind {
     /// A block, or its header.
@@ -26,6 +26,9 @@ pub enum DomainKind {
     SyncCommitteeSelectionProof,
     /// The contribution of a sync subcommittee, with its aggregator and the proof of its choice.
     ContributionAndProof,
+    /// What an application asks for that the beacon chain does not: a registration with builders. It is signed under
+    /// the version at genesis and a genesis root of zeros (builder-specs, `DOMAIN_APPLICATION_BUILDER`).
+    ApplicationBuilder,
 }
 
 impl DomainKind {
@@ -44,6 +47,7 @@ impl DomainKind {
             DomainKind::SyncCommittee => [7, 0, 0, 0],
             DomainKind::SyncCommitteeSelectionProof => [8, 0, 0, 0],
             DomainKind::ContributionAndProof => [9, 0, 0, 0],
+            DomainKind::ApplicationBuilder => [0, 0, 0, 1],
         }
     }
 }
