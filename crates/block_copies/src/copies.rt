@@ -7,7 +7,8 @@ use phase0_blocks::{
 use phase0_types::BoundedList;
 use std::alloc::{AllocError, Global};
 
-fn bounded_copy<T: Copy + Drop, const LIMIT: usize>(
+/// The same list again. The error is want of memory.
+pub fn bounded_copy<T: Copy + Drop, const LIMIT: usize>(
     alloc: Global,
     items: &BoundedList<T, LIMIT>,
 ) -> Result<BoundedList<T, LIMIT>, AllocError>

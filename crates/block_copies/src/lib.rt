@@ -3,4 +3,4 @@
 
 mod copies;
 
-pub use copies::{attestation_copy, block_copy};
+pub use copies::{attestation_copy, block_copy, bounded_copy};
