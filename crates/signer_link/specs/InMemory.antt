@@ -29,7 +29,8 @@ Lacks s key = Contains s.lacking.items key
 abbrev pub IsFull : MemSigner → Type 0
 IsFull s = vec_capacity s.told ≤ vec_len s.told
 
--- memory can run out for a call: there is no room to keep it, or a whole block goes with it, whose copy takes memory
+-- memory can run out for a call: there is no room to keep it, or a whole block or an aggregate goes with it, whose copy
+-- takes memory
 abbrev pub MayLack : MemSigner → Bool → Type 0
 MayLack s true = Unit {0}
 MayLack s false = IsFull s
@@ -49,15 +50,15 @@ sign_found found.Fault key root = reply.Fault
 sign_found found.Lacking key root = reply.NoKey None
 sign_found found.Held key root = reply.Signed (mem_signature key root)
 
--- the answer for the signature of a root, with or without a whole block: a fault at a call that is to fail, else by whether
--- it holds the key
+-- the answer for the signature of a root, with or without a whole block or an aggregate: a fault at a call that is to fail,
+-- else by whether it holds the key
 abbrev pub MemSigns : MemSigner → Bool → PubKey → List ℕ → SignReply → Type 0
-MemSigns s with_block key root (reply.Signed signature) = (¬ (FailsNext s)) × (¬ (Lacks s key)) × (signature ≡ mem_signature key root)
-MemSigns s with_block key root (reply.NoKey status) = (¬ (FailsNext s)) × Lacks s key × (status ≡ None)
-MemSigns s with_block key root (reply.Denied status) = ⊥
-MemSigns s with_block key root reply.Fault = FailsNext s
-MemSigns s with_block key root (reply.BadAnswer body) = ⊥
-MemSigns s with_block key root reply.OutOfMemory = MayLack s with_block
+MemSigns s with_list key root (reply.Signed signature) = (¬ (FailsNext s)) × (¬ (Lacks s key)) × (signature ≡ mem_signature key root)
+MemSigns s with_list key root (reply.NoKey status) = (¬ (FailsNext s)) × Lacks s key × (status ≡ None)
+MemSigns s with_list key root (reply.Denied status) = ⊥
+MemSigns s with_list key root reply.Fault = FailsNext s
+MemSigns s with_list key root (reply.BadAnswer body) = ⊥
+MemSigns s with_list key root reply.OutOfMemory = MayLack s with_list
 
 -- the answer where a key is to be taken in
 abbrev pub MemImports : MemSigner → PubKey → ImportReply → Type 0

@@ -1,3 +1,4 @@
+pub mod Aggregates
 pub mod Outcomes
 pub mod Signing
 pub mod Keeping

@@ -1,14 +1,14 @@
 //! What a signer that tells its calls keeps of them, one that tells none keeping nothing: a list of calls with their
 //! answers, and `None`. Before the service is asked a signer makes room (`make_room`) and copies what it will keep
-//! (`sign_call`); behind its answer it keeps both (`tell_sign` and the like). Its twin begins with them (`kept_copy`).
+//! (`sign_call`, `plain_call`); after its answer it keeps both (`tell_sign` and the like). Its twin begins with them (`kept_copy`).
 ghost use Rattle.std.specs.Prelude.{◌≡◌, ◌⊎◌, ◌<◌, ◌++◌, ◌∷◌, [], true, vec_len, vec_capacity, IfOk, OnOk};
 ghost use Rattle.edge_kit.specs.Tellings.{Tells};
-ghost use Rattle.signer_link.specs.Keeping.{HasRoom, IsReady, kept, told_ready};
+ghost use Rattle.signer_link.specs.Keeping.{HasRoom, IsReady, kept, told_plain_ready, told_ready};
 ghost use Rattle.signer_link.specs.Outcomes.{delete_given, import_given, sign_given};
-ghost use Rattle.signer_link.specs.Signing.{asked, imported, told_delete, told_import, told_plain};
+ghost use Rattle.signer_link.specs.Signing.{asked, imported, plainly_asked, told_delete, told_import};
 
 use crate::reply::{DeleteReply, ImportReply, SignReply, Told};
-use crate::request::{ImportCall, PlainCall, SignCall, SignRequest};
+use crate::request::{ImportCall, PlainCall, PlainRequest, SignCall, SignRequest};
 use edge_kit::{Items, PubKey};
 use slash_defs::Message;
 use std::alloc::{AllocError, Global};
@@ -51,7 +51,7 @@ fn call_copy(alloc: Global, call: &Told) -> Result<Told, AllocError>
 {
     match call {
         Told::Sign(call, answer) => Ok(Told::Sign(call.copy(alloc)?, sign_copy(alloc, answer)?)),
-        Told::Plain(call, answer) => Ok(Told::Plain(*call, sign_copy(alloc, answer)?)),
+        Told::Plain(call, answer) => Ok(Told::Plain(call.copy(alloc)?, sign_copy(alloc, answer)?)),
         Told::Import(call, answer) => Ok(Told::Import(
             import_call_copy(alloc, call)?,
             import_copy(alloc, answer)?,
@@ -116,18 +116,38 @@ pub fn tell_sign(
     }
 }
 
-/// Keeps a call for another signature, likewise.
+/// What is to be kept of a call for another signature, where calls are kept. The error is want of memory.
+pub fn plain_call(
+    alloc: Global,
+    told: &Option<Vec<Told>>,
+    key: &PubKey,
+    request: &PlainRequest,
+) -> Result<Option<PlainCall>, AllocError>
+    ensures { IfOk result (λ call. IsReady told.now call (plainly_asked key.now request.now)) }
+{
+    if told.is_none() {
+        return Ok(None);
+    }
+    let request = request.copy(alloc)?;
+    Ok(Some(PlainCall { key: *key, request }))
+}
+
+/// Keeps a call for another signature with its answer, where calls are kept, and hands the answer on.
+/// Where memory lacks nothing is kept, and the answer is `OutOfMemory`.
 pub fn tell_plain(
     alloc: Global,
     told: &mut Option<Vec<Told>>,
-    call: PlainCall,
+    call: Option<PlainCall>,
     answer: SignReply,
 ) -> SignReply
     requires { HasRoom told.old }
-    ensures told { Tells (kept told.old) (kept told.new) (told_plain call result) }
+    ensures told { Tells (kept told.old) (kept told.new) (told_plain_ready call result) }
     ensures answer { (result ≡ answer) ⊎ (result ≡ SignReply.OutOfMemory) }
 {
     let Some(calls) = told else {
+        return answer;
+    };
+    let Some(call) = call else {
         return answer;
     };
     match sign_copy(alloc, &answer) {
@@ -139,7 +159,7 @@ pub fn tell_plain(
     }
 }
 
-/// Keeps a call to take a key in, likewise.
+/// Keeps a call to take a key in, similarly.
 pub fn tell_import(
     alloc: Global,
     told: &mut Option<Vec<Told>>,
@@ -167,7 +187,7 @@ pub fn tell_import(
     }
 }
 
-/// Keeps a call to give a key up, likewise.
+/// Keeps a call to give a key up, similarly.
 pub fn tell_delete(
     alloc: Global,
     told: &mut Option<Vec<Told>>,

@@ -1,6 +1,7 @@
 //! The service that signs: what it is asked, what it replies, and one in memory.
 #![tactic(auto)]
 
+mod aggregate;
 pub mod keeping;
 mod laws;
 mod mem_signer;
@@ -9,6 +10,7 @@ mod request;
 mod signer;
 mod version;
 
+pub use aggregate::Aggregate;
 pub use laws::plain_law;
 pub use mem_signer::MemSigner;
 pub use reply::{DeleteReply, ImportReply, SignReply, Told};

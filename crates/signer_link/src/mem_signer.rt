@@ -3,7 +3,7 @@ ghost use Rattle.std.specs.Prelude.{◌≡◌, ◌≤◌, ◌++◌, ◌∷◌, [
 ghost use Rattle.edge_kit.specs.Causes.{Rose};
 ghost use Rattle.edge_kit.specs.Tellings.{Tells};
 ghost use Rattle.signer_link.specs.Outcomes.{CountsDenial, delete_denied, delete_failed, delete_given, import_denied, import_failed, import_given, sign_denied, sign_failed, sign_given};
-ghost use Rattle.signer_link.specs.Plain.{plain_root};
+ghost use Rattle.signer_link.specs.Plain.{is_aggregate, plain_root};
 ghost use Rattle.signer_link.specs.Signing.{asked, has_block, imported, plainly_asked, told_delete, told_import, told_plain, told_sign};
 ghost use Rattle.signer_link.specs.InMemory.{FailsNext, IsCounted, IsFull, Lacks, MemDeletes, MemImports, MemSigns, lacking_deleted, lacking_imported, lacking_without, mem_signature, sign_found};
 ghost use Rattle.slash_defs.specs.Signing.{signing_root_of};
@@ -111,20 +111,20 @@ impl MemSigner {
     fn sign_other(&mut self, request: &PlainRequest, key: PubKey) -> SignReply
         ensures told { self.new.told.items ≡ self.old.told.items ++ told_plain (plainly_asked key request.now) result }
         ensures fault { result ≡ SignReply.Fault → Rose self.old.faults self.new.faults }
-        ensures reply { MemSigns self.old false key (plain_root request.now) result }
+        ensures reply { MemSigns self.old (is_aggregate request.now.object) key (plain_root request.now) result }
         ensures lacking { self.new.lacking.items ≡ self.old.lacking.items }
         ensures counted { IsCounted self.old self.new (sign_given result) (sign_failed result) }
         ensures denied { sign_denied result ≡ false }
     {
+        let Ok(copy) = request.copy(self.alloc) else {
+            return SignReply::OutOfMemory;
+        };
         if self.told.reserve(1).is_err() {
             return SignReply::OutOfMemory;
         }
         let found = self.begin(&key);
         let root = request.signing_root();
-        let call = PlainCall {
-            key,
-            request: *request,
-        };
+        let call = PlainCall { key, request: copy };
         keep(
             &mut self.told,
             Told::Plain(call, signed(found, &key, &root)),
@@ -224,7 +224,7 @@ impl Signer for MemSigner {
         ensures fault { result ≡ SignReply.Fault → Rose self.old.faults self.new.faults }
         ensures denials { 0 ≤ 0 }
         ensures denied { CountsDenial (sign_denied result) 0 0 }
-        ensures reply { MemSigns self.old false (G.granted_key grant.now) (plain_root request.now) result }
+        ensures reply { MemSigns self.old (is_aggregate request.now.object) (G.granted_key grant.now) (plain_root request.now) result }
         ensures lacking { self.new.lacking.items ≡ self.old.lacking.items }
         ensures counted { IsCounted self.old self.new (sign_given result) (sign_failed result) }
     {

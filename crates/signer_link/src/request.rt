@@ -1,11 +1,13 @@
 //! What the signing service is asked.
 ghost use Rattle.std.specs.Prelude.{◌≡◌, true, IfOk, OnErr};
 ghost use Rattle.signer_link.specs.Signing.{has_block, is_block};
-ghost use Rattle.signer_link.specs.Plain.{plain_domain, plain_epoch, plain_kind, plain_object_root, plain_root};
+ghost use Rattle.signer_link.specs.Plain.{is_aggregate, plain_epoch, plain_kind, plain_object_root, plain_root};
 
+use crate::aggregate::Aggregate;
 use crate::version::BlockVersion;
 use altair_types::{ContributionAndProof, SyncAggregatorSelectionData};
 use block_copies::block_copy;
+use duty_types::ValidatorRegistration;
 use edge_kit::{Items, PubKey, Root};
 use phase0_blocks::{BeaconBlock, VoluntaryExit};
 use phase0_types::{AttestationData, BeaconBlockHeader, Fork, Shaped};
@@ -48,7 +50,7 @@ impl SignObject {
     }
 }
 
-/// What goes to the service beside the key and the message of the grant. The type of the request is the
+/// What goes to the service next to the key and the message of the grant. The type of the request is the
 /// message's: `BLOCK_V2` for a block, `ATTESTATION` for a vote.
 #[derive(Drop, Debug)]
 pub struct SignRequest {
@@ -79,7 +81,7 @@ impl SignRequest {
 }
 
 /// What is signed that is no block and no vote, and so can be in no slashable pair.
-#[derive(Clone, Copy, PartialEq, Eq, Debug)]
+#[derive(Drop, Debug)]
 pub enum PlainObject {
     /// The epoch that a proposer reveals its randomness for (Web3Signer: `RANDAO_REVEAL`).
     RandaoReveal { epoch: u64 },
@@ -94,9 +96,56 @@ pub enum PlainObject {
     SyncCommitteeSelectionProof(SyncAggregatorSelectionData),
     /// The contribution of a sync subcommittee (`SYNC_COMMITTEE_CONTRIBUTION_AND_PROOF`).
     SyncCommitteeContributionAndProof(ContributionAndProof),
+    /// An aggregate with its aggregator (`AGGREGATE_AND_PROOF`, `AGGREGATE_AND_PROOF_V2`).
+    Aggregate(Aggregate),
+    /// A registration with builders (`VALIDATOR_REGISTRATION`), which goes to the service without a fork and a chain.
+    ValidatorRegistration(ValidatorRegistration),
 }
 
 impl PlainObject {
+    /// The root that is to be signed for it under a fork, of the chain with this root of its genesis validators: its own,
+    /// under the domain of its kind and epoch (consensus-specs, `get_epoch_signature`, `get_slot_signature`,
+    /// `VoluntaryExit`, `get_aggregate_and_proof_signature`, `get_sync_committee_message`,
+    /// `get_sync_committee_selection_proof`, `get_contribution_and_proof_signature`; builder-specs,
+    /// `ValidatorRegistrationV1`). Takes no memory.
+    pub fn signing_root(&self, fork: Fork, genesis: Root) -> Root
+        ensures { result.0 ≡ plain_root (record { fork = fork; genesis = genesis; object = self.now }) }
+    {
+        let domains = Domains::new(fork, genesis);
+        signing_root(self.root(), domains.domain(self.kind(), self.epoch()))
+    }
+
+    /// The same object again. The error is want of memory, which only an aggregate takes.
+    pub fn copy(&self, alloc: Global) -> Result<PlainObject, AllocError>
+        ensures same { IfOk result (λ copy. copy ≡ self.now) }
+        ensures memory { OnErr result (is_aggregate self.now ≡ true) }
+    {
+        match self {
+            PlainObject::RandaoReveal { epoch } => Ok(PlainObject::RandaoReveal { epoch: *epoch }),
+            PlainObject::AggregationSlot { slot } => {
+                Ok(PlainObject::AggregationSlot { slot: *slot })
+            }
+            PlainObject::VoluntaryExit(exit) => Ok(PlainObject::VoluntaryExit(*exit)),
+            PlainObject::SyncCommitteeMessage {
+                slot,
+                beacon_block_root,
+            } => Ok(PlainObject::SyncCommitteeMessage {
+                slot: *slot,
+                beacon_block_root: *beacon_block_root,
+            }),
+            PlainObject::SyncCommitteeSelectionProof(choice) => {
+                Ok(PlainObject::SyncCommitteeSelectionProof(*choice))
+            }
+            PlainObject::SyncCommitteeContributionAndProof(given) => {
+                Ok(PlainObject::SyncCommitteeContributionAndProof(*given))
+            }
+            PlainObject::ValidatorRegistration(registration) => {
+                Ok(PlainObject::ValidatorRegistration(*registration))
+            }
+            PlainObject::Aggregate(aggregate) => Ok(PlainObject::Aggregate(aggregate.copy(alloc)?)),
+        }
+    }
+
     /// The kind of the domain that it is signed under, which is no proposer's and no attester's.
     fn kind(&self) -> DomainKind
         ensures { result ≡ plain_kind self.now }
@@ -108,10 +157,12 @@ impl PlainObject {
             PlainObject::SyncCommitteeMessage { .. } => DomainKind::SyncCommittee,
             PlainObject::SyncCommitteeSelectionProof(_) => DomainKind::SyncCommitteeSelectionProof,
             PlainObject::SyncCommitteeContributionAndProof(_) => DomainKind::ContributionAndProof,
+            PlainObject::Aggregate(_) => DomainKind::AggregateAndProof,
+            PlainObject::ValidatorRegistration(_) => DomainKind::ApplicationBuilder,
         }
     }
 
-    /// The epoch of its domain.
+    /// The epoch of its domain; that of genesis for a registration, which is signed under the version at genesis.
     fn epoch(&self) -> u64
         ensures { result ≡ plain_epoch self.now }
     {
@@ -124,6 +175,8 @@ impl PlainObject {
             PlainObject::SyncCommitteeContributionAndProof(given) => {
                 given.contribution.slot / SLOTS_PER_EPOCH
             }
+            PlainObject::Aggregate(aggregate) => aggregate.slot() / SLOTS_PER_EPOCH,
+            PlainObject::ValidatorRegistration(_) => 0,
         }
     }
 
@@ -142,37 +195,42 @@ impl PlainObject {
             } => *beacon_block_root,
             PlainObject::SyncCommitteeSelectionProof(choice) => choice.root(),
             PlainObject::SyncCommitteeContributionAndProof(given) => given.root(),
+            PlainObject::Aggregate(aggregate) => aggregate.root(),
+            PlainObject::ValidatorRegistration(registration) => registration.root(),
         }
     }
 }
 
-/// What goes to the service beside the key for what is no block and no vote.
-#[derive(Clone, Copy, PartialEq, Eq, Debug)]
+/// What goes to the service next to the key for what is no block and no vote.
+#[derive(Drop, Debug)]
 pub struct PlainRequest {
-    /// The chain's fork.
+    /// The fork that it is signed under: the chain's; of an exit from Deneb on Capella's (EIP-7044); of a registration the
+    /// version at genesis.
     pub fork: Fork,
-    /// The root of the chain's genesis validators.
+    /// The root of the chain's genesis validators; zeros for a registration.
     pub genesis: Root,
     /// What is to be signed.
     pub object: PlainObject,
 }
 
 impl PlainRequest {
-    /// The root that is to be signed: the object's, under the domain of its kind and epoch
-    /// (consensus-specs, `get_epoch_signature`, `get_slot_signature`, `VoluntaryExit`, `get_sync_committee_message`,
-    /// `get_sync_committee_selection_proof`, `get_contribution_and_proof_signature`).
+    /// The same request again. The error is want of memory, which only an aggregate takes.
+    pub fn copy(&self, alloc: Global) -> Result<PlainRequest, AllocError>
+        ensures same { IfOk result (λ copy. copy ≡ self.now) }
+        ensures memory { OnErr result (is_aggregate self.now.object ≡ true) }
+    {
+        Ok(PlainRequest {
+            fork: self.fork,
+            genesis: self.genesis,
+            object: self.object.copy(alloc)?,
+        })
+    }
+
+    /// The root that is to be signed: the object's, under the domain of its kind and epoch.
     pub fn signing_root(&self) -> Root
         ensures { result.0 ≡ plain_root self.now }
     {
-        signing_root(self.object.root(), self.domain())
-    }
-
-    /// The domain of the object's kind and epoch.
-    fn domain(&self) -> [u8; 32]
-        ensures { result ≡ plain_domain self.now }
-    {
-        let domains = Domains::new(self.fork, self.genesis);
-        domains.domain(self.object.kind(), self.object.epoch())
+        self.object.signing_root(self.fork, self.genesis)
     }
 }
 
@@ -200,10 +258,23 @@ impl SignCall {
 }
 
 /// A call for another signature: the key, and what is to be signed.
-#[derive(Clone, Copy, PartialEq, Eq, Debug)]
+#[derive(Drop, Debug)]
 pub struct PlainCall {
     pub key: PubKey,
     pub request: PlainRequest,
+}
+
+impl PlainCall {
+    /// The same call again. The error is want of memory, which only an aggregate takes.
+    pub fn copy(&self, alloc: Global) -> Result<PlainCall, AllocError>
+        ensures same { IfOk result (λ copy. copy ≡ self.now) }
+        ensures memory { OnErr result (is_aggregate self.now.request.object ≡ true) }
+    {
+        Ok(PlainCall {
+            key: self.key,
+            request: self.request.copy(alloc)?,
+        })
+    }
 }
 
 /// A call to take a key in: the key, and the bytes of its keystore's text (EIP-2335) and of its password.

@@ -1,9 +1,9 @@
 //! The versions of a block.
 ghost use Rattle.std.specs.Prelude.{◌≡◌};
-ghost use Rattle.signer_link.specs.Versions.{version_name, version_of};
+ghost use Rattle.signer_link.specs.Versions.{is_from_electra, version_name, version_named, version_of};
 
-/// The fork whose container a block is, as far as this program knows them (Web3Signer: `version` of a
-/// `beacon_block`). A header has the same form and the same root in each of them.
+/// The fork whose container a block or an aggregate is, as far as this program knows them (Web3Signer: `version` of a
+/// `beacon_block` and of an `aggregate_and_proof`). A header has the same form and the same root in each of them.
 #[derive(Clone, Copy, PartialEq, Eq, Debug)]
 pub enum BlockVersion {
     Phase0,
@@ -31,18 +31,33 @@ impl BlockVersion {
         }
     }
 
+    /// The version that a name means, if it is one.
+    pub fn named(name: &str) -> Option<BlockVersion>
+        ensures { result ≡ version_named name.now }
+    {
+        match name {
+            "PHASE0" => Some(BlockVersion::Phase0),
+            "ALTAIR" => Some(BlockVersion::Altair),
+            "BELLATRIX" => Some(BlockVersion::Bellatrix),
+            "CAPELLA" => Some(BlockVersion::Capella),
+            "DENEB" => Some(BlockVersion::Deneb),
+            "ELECTRA" => Some(BlockVersion::Electra),
+            "FULU" => Some(BlockVersion::Fulu),
+            _ => None,
+        }
+    }
+
     /// The version that a request names; the newest one, `FULU`, for every other name.
     pub fn of_name(name: &str) -> BlockVersion
         ensures { result ≡ version_of name.now }
     {
-        match name {
-            "PHASE0" => BlockVersion::Phase0,
-            "ALTAIR" => BlockVersion::Altair,
-            "BELLATRIX" => BlockVersion::Bellatrix,
-            "CAPELLA" => BlockVersion::Capella,
-            "DENEB" => BlockVersion::Deneb,
-            "ELECTRA" => BlockVersion::Electra,
-            _ => BlockVersion::Fulu,
-        }
+        BlockVersion::named(name).unwrap_or(BlockVersion::Fulu)
+    }
+
+    /// Whether an aggregate has the container of Electra: from Electra on.
+    pub fn is_from_electra(self) -> bool
+        ensures { result ≡ is_from_electra self }
+    {
+        matches!(self, BlockVersion::Electra | BlockVersion::Fulu)
     }
 }

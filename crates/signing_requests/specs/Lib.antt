@@ -3,3 +3,4 @@ pub mod Refusals
 pub mod Steps
 pub mod Objects
 pub mod Requests
+pub mod Networks

@@ -10,3 +10,4 @@ abbrev pub refusal_reply : SigningRefusal → Reply
 refusal_reply (refusal.BadMember m) = message_reply 400 (codes "bad member: " ++ member_name m)
 refusal_reply refusal.GenesisDiffers = message_reply 400 (codes "genesis differs")
 refusal_reply refusal.SigningRootDiffers = message_reply 400 (codes "signing root differs")
+refusal_reply refusal.UnknownNetwork = message_reply 400 (codes "unknown network")

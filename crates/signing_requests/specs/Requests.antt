@@ -13,13 +13,18 @@ use Rattle.phase0_types.specs.declared.fault.ReadFault.{ReadFault as ShapeFault}
 use Rattle.phase0_types.specs.declared.fork.Fork.{Fork}
 use Rattle.phase0_types.specs.declared.member.Member.TheVariants as shape
 use Rattle.altair_types.specs.Containers.{sync_aggregator_selection_data, contribution_and_proof}
+use Rattle.duty_types.specs.Containers.{aggregate_and_proof, electra_aggregate_and_proof, validator_registration}
 use Rattle.sign_roots.specs.declared.domains.Domains.{Domains}
 use Rattle.signer_link.specs.Objects.{root}
-use Rattle.signer_link.specs.Versions.{version_of}
+use Rattle.signer_link.specs.Versions.{is_from_electra, version_named, version_of}
 use Rattle.signer_link.specs.declared.version.BlockVersion.{BlockVersion}
 use Rattle.signing_requests.specs.Members.{inside}
 use Rattle.signing_requests.specs.Steps.{◌>>=◌}
-use Rattle.signing_requests.specs.Objects.{ObjectValue, block_is, header_is, vote_is, reveal_is, slot_is, exit_is, sync_message_is, sync_choice_is, contribution_is, said, fork_from, signed_root}
+use Rattle.signing_requests.specs.Objects.{ObjectValue, block_is, header_is, vote_is, reveal_is, slot_is, exit_is, sync_message_is, sync_choice_is, contribution_is, aggregate_is, versioned_aggregate_is, electra_aggregate_is, registration_is, said, fork_from, signed_root}
+use Rattle.signing_requests.specs.Networks.{network_of, signing_domains}
+use Rattle.signing_requests.specs.declared.chain.Chain.{Chain}
+use Rattle.signing_requests.specs.declared.chain.Chain.TheVariants as chain
+use Rattle.signing_requests.specs.declared.chain.Network.{Network}
 use Rattle.signing_requests.specs.declared.member.SigningMember.{SigningMember}
 use Rattle.signing_requests.specs.declared.member.SigningMember.TheVariants as member
 use Rattle.signing_requests.specs.declared.refusal.SigningRefusal.{SigningRefusal}
@@ -28,7 +33,7 @@ use Rattle.signing_requests.specs.declared.kind.SigningType.{SigningType}
 use Rattle.signing_requests.specs.declared.kind.SigningType.TheVariants as type
 use Rattle.signing_requests.specs.declared.request.SigningRequest.{SigningRequest}
 
--- what a request asks for: a signature by this key, for the chain and the fork that it names, of this
+-- what a request asks for: a signature by this key, of this, and the chain and the fork that it is signed under
 pub record RequestValue : Type 0 where
   pub key : PubKey
   pub domains : Domains
@@ -64,6 +69,9 @@ type_named name = if bytes_eq name (codes "ATTESTATION") then Some type.Attestat
     else if bytes_eq name (codes "SYNC_COMMITTEE_MESSAGE") then Some type.SyncCommitteeMessage
     else if bytes_eq name (codes "SYNC_COMMITTEE_SELECTION_PROOF") then Some type.SyncCommitteeSelectionProof
     else if bytes_eq name (codes "SYNC_COMMITTEE_CONTRIBUTION_AND_PROOF") then Some type.SyncCommitteeContributionAndProof
+    else if bytes_eq name (codes "AGGREGATE_AND_PROOF") then Some type.AggregateAndProof
+    else if bytes_eq name (codes "AGGREGATE_AND_PROOF_V2") then Some type.AggregateAndProofV2
+    else if bytes_eq name (codes "VALIDATOR_REGISTRATION") then Some type.ValidatorRegistration
     else None
 
 abbrev pub type_at : Data → Result SigningType SigningRefusal
@@ -90,6 +98,15 @@ domains_at info = do
 
 abbrev pub chain_at : Data → Result Domains SigningRefusal
 chain_at d = object_in member.ForkInfo (get (codes "fork_info") d) >>= domains_at
+
+-- a registration names no chain: it is signed under the version at genesis of the chain that is served, which must be known
+abbrev pub at_genesis : Option Network → Result Chain SigningRefusal
+at_genesis None = Err refusal.UnknownNetwork
+at_genesis (Some n) = Ok (chain.AtGenesis n.genesis_fork_version)
+
+abbrev pub chain_for : SigningType → Root → Data → Result Chain SigningRefusal
+chain_for type.ValidatorRegistration genesis d = at_genesis (network_of genesis)
+chain_for t genesis d = chain_at d >>= (λ domains. Ok (chain.Named domains))
 
 -- ---- what is to be signed
 
@@ -149,6 +166,28 @@ abbrev pub contribution_at : Data → Result ObjectValue SigningRefusal
 contribution_at d = found member.ContributionAndProof (get (codes "contribution_and_proof") d)
     >>= (λ c. shaped member.ContributionAndProof contribution_is (read_at contribution_and_proof None c))
 
+abbrev pub aggregate_at : Data → Result ObjectValue SigningRefusal
+aggregate_at d = found member.AggregateAndProof (get (codes "aggregate_and_proof") d)
+    >>= (λ a. shaped member.AggregateAndProof aggregate_is (read_at aggregate_and_proof None a))
+
+-- an aggregate of the fork that is named, whose container is Electra's or that of the forks before it
+abbrev pub aggregate_of : BlockVersion → Data → Result ObjectValue SigningRefusal
+aggregate_of version a =
+    if is_from_electra version then shaped (member.Inside shape.Details) (electra_aggregate_is version) (read_at electra_aggregate_and_proof None a)
+    else shaped (member.Inside shape.Details) (versioned_aggregate_is version) (read_at aggregate_and_proof None a)
+
+abbrev pub versioned_aggregate_in : Data → Result ObjectValue SigningRefusal
+versioned_aggregate_in a = do
+  version ← found member.Version (option_and_then version_named (text_in (codes "version") a))
+  found (member.Inside shape.Details) (get (codes "data") a) >>= aggregate_of version
+
+abbrev pub versioned_aggregate_at : Data → Result ObjectValue SigningRefusal
+versioned_aggregate_at d = object_in member.AggregateAndProof (get (codes "aggregate_and_proof") d) >>= versioned_aggregate_in
+
+abbrev pub registration_at : Data → Result ObjectValue SigningRefusal
+registration_at d = found member.ValidatorRegistration (get (codes "validator_registration") d)
+    >>= (λ r. shaped member.ValidatorRegistration registration_is (read_at validator_registration None r))
+
 abbrev pub said_by : SigningType → Data → Result ObjectValue SigningRefusal
 said_by type.Attestation d = vote_at d
 said_by type.BlockV2 d = block_at d
@@ -158,6 +197,9 @@ said_by type.VoluntaryExit d = exit_at d
 said_by type.SyncCommitteeMessage d = sync_message_at d
 said_by type.SyncCommitteeSelectionProof d = sync_choice_at d
 said_by type.SyncCommitteeContributionAndProof d = contribution_at d
+said_by type.AggregateAndProof d = aggregate_at d
+said_by type.AggregateAndProofV2 d = versioned_aggregate_at d
+said_by type.ValidatorRegistration d = registration_at d
 
 -- ---- the root that the request names
 
@@ -180,19 +222,28 @@ abbrev pub is_another : Option Root → List ℕ → Bool
 is_another None bytes = false
 is_another (Some named) bytes = not (bytes_eq named.0 bytes)
 
--- what is signed is of this chain, and of the root that the request names, if it names one
-abbrev pub checked : Root → RequestValue → Option Root → Result RequestValue SigningRefusal
-checked genesis a named =
-    if is_another (Some a.domains.genesis) genesis.0 then Err refusal.GenesisDiffers
-    else (if is_another named (signed_root a.domains a.said) then Err refusal.SigningRootDiffers else Ok a)
+-- what is signed is of the root that the request names, if it names one
+abbrev pub rooted : RequestValue → Option Root → Result RequestValue SigningRefusal
+rooted a named = if is_another named (signed_root a.domains a.said) then Err refusal.SigningRootDiffers else Ok a
+
+-- the request names a chain with another root of its genesis validators
+abbrev pub is_of_another : Root → Chain → Bool
+is_of_another genesis (chain.Named domains) = is_another (Some domains.genesis) genesis.0
+is_of_another genesis (chain.AtGenesis version) = false
+
+-- what is signed is of this chain, and of the root that the request names
+abbrev pub checked : Root → PubKey → Chain → ObjectValue → Option Root → Result RequestValue SigningRefusal
+checked genesis key c s named =
+    if is_of_another genesis c then Err refusal.GenesisDiffers
+    else rooted (record { key = key; domains = signing_domains c s; said = s }) named
 
 abbrev pub members_of : Root → PubKey → Data → Result RequestValue SigningRefusal
 members_of genesis key d = do
   t ← type_at d
-  domains ← chain_at d
+  c ← chain_for t genesis d
   s ← said_by t d
   named ← root_at d
-  checked genesis (record { key = key; domains = domains; said = s }) named
+  checked genesis key c s named
 
 -- what a target's identifier and a body ask for of the chain with this root of its genesis validators
 unfoldable pub asked_of : List ℕ → Root → List ℕ → Result RequestValue SigningRefusal

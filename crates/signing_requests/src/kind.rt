@@ -27,6 +27,12 @@ pub(crate) enum SigningType {
     SyncCommitteeSelectionProof,
     /// The contribution of a sync subcommittee.
     SyncCommitteeContributionAndProof,
+    /// An aggregate of the forks up to Deneb.
+    AggregateAndProof,
+    /// An aggregate of the fork that it names.
+    AggregateAndProofV2,
+    /// A registration with builders.
+    ValidatorRegistration,
 }
 
 /// The type that a name means, if it is one.
@@ -44,6 +50,9 @@ fn type_named(name: &str) -> Option<SigningType>
         "SYNC_COMMITTEE_CONTRIBUTION_AND_PROOF" => {
             Some(SigningType::SyncCommitteeContributionAndProof)
         }
+        "AGGREGATE_AND_PROOF" => Some(SigningType::AggregateAndProof),
+        "AGGREGATE_AND_PROOF_V2" => Some(SigningType::AggregateAndProofV2),
+        "VALIDATOR_REGISTRATION" => Some(SigningType::ValidatorRegistration),
         _ => None,
     }
 }

@@ -2,6 +2,8 @@
 //! for, or the first check that it fails, and the replies to refusals.
 #![tactic(auto)]
 
+mod aggregates;
+mod chain;
 mod kind;
 mod member;
 mod objects;

@@ -12,8 +12,8 @@ pub enum SigningMember {
     /// The body, which is a JSON object.
     Body,
     /// What kind of thing is to be signed: one of `ATTESTATION`, `BLOCK_V2`, `RANDAO_REVEAL`, `AGGREGATION_SLOT`,
-    /// `VOLUNTARY_EXIT`, `SYNC_COMMITTEE_MESSAGE`, `SYNC_COMMITTEE_SELECTION_PROOF` and
-    /// `SYNC_COMMITTEE_CONTRIBUTION_AND_PROOF`.
+    /// `AGGREGATE_AND_PROOF`, `AGGREGATE_AND_PROOF_V2`, `VOLUNTARY_EXIT`, `SYNC_COMMITTEE_MESSAGE`,
+    /// `SYNC_COMMITTEE_SELECTION_PROOF`, `SYNC_COMMITTEE_CONTRIBUTION_AND_PROOF` and `VALIDATOR_REGISTRATION`.
     Type,
     /// The object with the fork and the chain.
     ForkInfo,
@@ -25,7 +25,8 @@ pub enum SigningMember {
     Attestation,
     /// The object with the block or its header.
     BeaconBlock,
-    /// The fork whose container a whole block is: `PHASE0`. Next to a header every name is taken.
+    /// The fork whose container a whole block is: `PHASE0`. Next to a header every name is taken. The fork whose container an
+    /// aggregate is, of those up to `FULU`.
     Version,
     /// The whole block (consensus-specs, `BeaconBlock`).
     Block,
@@ -44,6 +45,10 @@ pub enum SigningMember {
     SyncAggregatorSelectionData,
     /// The contribution of a sync subcommittee (consensus-specs, `ContributionAndProof`).
     ContributionAndProof,
+    /// The aggregate (consensus-specs, `AggregateAndProof`), or the object with its version and the aggregate.
+    AggregateAndProof,
+    /// The registration with builders (builder-specs, `ValidatorRegistrationV1`).
+    ValidatorRegistration,
     /// A member inside one of the containers.
     Inside(phase0_types::Member),
     /// The root that is to be signed, 32 bytes.
@@ -75,6 +80,8 @@ impl SigningMember {
             SigningMember::SyncCommitteeMessage => "sync_committee_message",
             SigningMember::SyncAggregatorSelectionData => "sync_aggregator_selection_data",
             SigningMember::ContributionAndProof => "contribution_and_proof",
+            SigningMember::AggregateAndProof => "aggregate_and_proof",
+            SigningMember::ValidatorRegistration => "validator_registration",
             SigningMember::Inside(member) => member.name(),
             SigningMember::SigningRoot => "signingRoot",
             SigningMember::SigningRootInSnakeCase => "signing_root",

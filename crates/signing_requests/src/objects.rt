@@ -5,16 +5,19 @@ ghost use Rattle.phase0_types.specs.Reading.{read_at};
 ghost use Rattle.phase0_types.specs.Containers.{attestation_data, beacon_block, beacon_block_header, voluntary_exit};
 ghost use Rattle.altair_types.specs.Containers.{contribution_and_proof, sync_aggregator_selection_data};
 ghost use Rattle.std.specs.Prelude.{None};
-ghost use Rattle.signing_requests.specs.Objects.{said, block_is, contribution_is, exit_is, header_is, sync_choice_is, vote_is};
-ghost use Rattle.signing_requests.specs.Requests.{block_at, block_in, contribution_at, exit_at, reveal_at, reveal_in, said_by, shaped, slot_at, slot_in, sync_choice_at, sync_message_at, sync_message_in, version_in, vote_at, whole_block};
+ghost use Rattle.signing_requests.specs.Objects.{said, block_is, contribution_is, exit_is, header_is, registration_is, sync_choice_is, vote_is};
+ghost use Rattle.duty_types.specs.Containers.{validator_registration};
+ghost use Rattle.signing_requests.specs.Requests.{block_at, block_in, contribution_at, exit_at, registration_at, reveal_at, reveal_in, said_by, shaped, slot_at, slot_in, sync_choice_at, sync_message_at, sync_message_in, version_in, vote_at, whole_block};
 ghost use Rattle.signing_requests.specs.Steps.{GivesAs, ReadsAs};
 
+use crate::aggregates::{aggregate_in, versioned_aggregate_in};
 use crate::kind::SigningType;
 use crate::member::{SigningMember, member_of};
 use crate::refusal::{SigningRefusal, SigningStop};
 use crate::request::SigningObject;
 use crate::texts::object_of;
 use altair_types::{ContributionAndProof, SyncAggregatorSelectionData};
+use duty_types::ValidatorRegistration;
 use edge_kit::Root;
 use json_members::{bytes_in, number_in, text_in};
 use phase0_blocks::{BeaconBlock, VoluntaryExit};
@@ -40,6 +43,9 @@ pub(crate) fn object_in(
         SigningType::SyncCommitteeMessage => Ok(sync_message_of(value)?),
         SigningType::SyncCommitteeSelectionProof => sync_choice_in(alloc, value),
         SigningType::SyncCommitteeContributionAndProof => contribution_in(alloc, value),
+        SigningType::AggregateAndProof => aggregate_in(alloc, value),
+        SigningType::AggregateAndProofV2 => versioned_aggregate_in(alloc, value),
+        SigningType::ValidatorRegistration => registration_in(alloc, value),
     }
 }
 
@@ -253,6 +259,30 @@ fn read_contribution(alloc: Global, json: &Value) -> Result<SigningObject, Signi
         }
         Err(fault) => Err(SigningStop::Refused(SigningRefusal::BadMember(member_of(
             SigningMember::ContributionAndProof,
+            fault,
+        )))),
+    }
+}
+
+/// A registration with builders.
+fn registration_in(alloc: Global, value: &Value) -> Result<SigningObject, SigningStop>
+    ensures { GivesAs said result (registration_at (view value.now)) }
+{
+    match value.get("validator_registration") {
+        Some(json) => read_registration(alloc, json),
+        None => Err(SigningStop::Refused(SigningRefusal::BadMember(
+            SigningMember::ValidatorRegistration,
+        ))),
+    }
+}
+
+fn read_registration(alloc: Global, json: &Value) -> Result<SigningObject, SigningStop>
+    ensures { GivesAs said result (shaped SigningMember.ValidatorRegistration registration_is (read_at validator_registration None (view json.now))) }
+{
+    match ValidatorRegistration::read_value(alloc, json)? {
+        Ok(given) => Ok(SigningObject::Plain(PlainObject::ValidatorRegistration(given))),
+        Err(fault) => Err(SigningStop::Refused(SigningRefusal::BadMember(member_of(
+            SigningMember::ValidatorRegistration,
             fault,
         )))),
     }

@@ -5,10 +5,11 @@ ghost use Rattle.json_members.specs.Reading.{json_of};
 ghost use Rattle.phase0_types.specs.Reading.{read_at};
 ghost use Rattle.phase0_types.specs.Containers.{fork};
 ghost use Rattle.signing_requests.specs.Objects.{fork_from, said, signed_root};
-ghost use Rattle.signing_requests.specs.Requests.{asked_of, asking, chain_at, checked, domains_at, fork_at, genesis_at, is_another, members_of, object_in, shaped};
+ghost use Rattle.signing_requests.specs.Requests.{asked_of, asking, chain_at, chain_for, checked, domains_at, fork_at, genesis_at, is_another, members_of, object_in, rooted, shaped};
 ghost use Rattle.signing_requests.specs.Steps.{GivesAs};
 
-use crate::kind::type_of;
+use crate::chain::{Chain, network_of};
+use crate::kind::{SigningType, type_of};
 use crate::member::{SigningMember, member_of};
 use crate::objects::object_in;
 use crate::refusal::{SigningRefusal, SigningStop};
@@ -27,6 +28,11 @@ use std::alloc::Global;
 /// absent, `signing_root`, which both may be absent; that the request is of this chain; and that the root which it names is the
 /// one that is signed under the fork that it names. Of a `beacon_block` with a `block_header` no `block` is looked at, and every `version` is
 /// taken: one that is absent or unknown counts as the newest that is known. Members that the type does not name are ignored.
+///
+/// An exit whose fork is Deneb's or a later one is signed under Capella's version (EIP-7044), and a registration, of which no
+/// `fork_info` is looked at, under the version at genesis and a genesis root of zeros (builder-specs): both where the chain is
+/// mainnet, Hoodi or Sepolia. On other chains an exit is signed under the fork that the request names, and a registration is
+/// refused.
 ///
 /// # Errors
 ///
@@ -64,10 +70,10 @@ fn read_members(
     ensures { GivesAs asking result (members_of genesis.now key (view value.now)) }
 {
     let kind = type_of(value)?;
-    let domains = chain_of(alloc, value)?;
+    let chain = chain_for(alloc, kind, genesis, value)?;
     let object = object_in(alloc, kind, value)?;
     match root_of(value) {
-        Ok(named) => checked(genesis, key, domains, object, named),
+        Ok(named) => checked(genesis, key, chain, object, named),
         Err(refusal) => Err(SigningStop::Refused(refusal)),
     }
 }
@@ -76,15 +82,28 @@ fn read_members(
 fn checked(
     genesis: &Root,
     key: PubKey,
+    chain: Chain,
+    object: SigningObject,
+    named: Option<Root>,
+) -> Result<SigningRequest, SigningStop>
+    ensures { GivesAs asking result (checked genesis.now key chain (said object) named) }
+{
+    if chain.is_of_another(genesis) {
+        return Err(SigningStop::Refused(SigningRefusal::GenesisDiffers));
+    }
+    let domains = chain.signing_domains(&object);
+    rooted(key, domains, object, named)
+}
+
+/// What is asked for, where it is of the root that the request names, if it names one.
+fn rooted(
+    key: PubKey,
     domains: Domains,
     object: SigningObject,
     named: Option<Root>,
 ) -> Result<SigningRequest, SigningStop>
-    ensures { GivesAs asking result (checked genesis.now (record { key = key; domains = domains; said = said object }) named) }
+    ensures { GivesAs asking result (rooted (record { key = key; domains = domains; said = said object }) named) }
 {
-    if domains.genesis.0.as_slice() != genesis.0.as_slice() {
-        return Err(SigningStop::Refused(SigningRefusal::GenesisDiffers));
-    }
     if names_another(named, &domains, &object) {
         return Err(SigningStop::Refused(SigningRefusal::SigningRootDiffers));
     }
@@ -105,7 +124,26 @@ fn names_another(named: Option<Root>, domains: &Domains, object: &SigningObject)
     }
 }
 
-/// The chain and the fork that a request is of.
+/// The chain that a request of this type is of. A registration names none, and is signed under the version at genesis of the
+/// chain that is served.
+fn chain_for(
+    alloc: Global,
+    kind: SigningType,
+    genesis: &Root,
+    value: &Value,
+) -> Result<Chain, SigningStop>
+    ensures { GivesAs (λ c. c) result (chain_for kind genesis.now (view value.now)) }
+{
+    match kind {
+        SigningType::ValidatorRegistration => match network_of(genesis) {
+            Some(network) => Ok(Chain::AtGenesis(network.genesis_fork_version)),
+            None => Err(SigningStop::Refused(SigningRefusal::UnknownNetwork)),
+        },
+        _ => Ok(Chain::Named(chain_of(alloc, value)?)),
+    }
+}
+
+/// The chain and the fork that a request names.
 fn chain_of(alloc: Global, value: &Value) -> Result<Domains, SigningStop>
     ensures { GivesAs (λ d. d) result (chain_at (view value.now)) }
 {

@@ -15,6 +15,8 @@ pub enum SigningRefusal {
     GenesisDiffers,
     /// The request names another root than that of what is to be signed.
     SigningRootDiffers,
+    /// The request is for a registration with builders, and of the chain that is served the version at genesis is not known.
+    UnknownNetwork,
 }
 
 impl SigningRefusal {
@@ -35,6 +37,7 @@ impl SigningRefusal {
                 400,
                 "signing root differs",
             ),
+            SigningRefusal::UnknownNetwork => Reply::of_message(alloc, 400, "unknown network"),
         }
     }
 }

@@ -38,7 +38,7 @@ impl SigningObject {
             SigningObject::Block(block) => block_root(domains, block),
             SigningObject::Header { version, header } => header_root(domains, *version, header),
             SigningObject::Vote(details) => vote_root(domains, details),
-            SigningObject::Plain(object) => plain_root(domains, *object),
+            SigningObject::Plain(object) => plain_root(domains, object),
         }
     }
 }
@@ -71,10 +71,10 @@ fn vote_root(domains: &Domains, details: &AttestationData) -> Root
 }
 
 /// And for what is no block and no vote.
-fn plain_root(domains: &Domains, object: PlainObject) -> Root
-    ensures { result.0 ≡ signed_root domains.now (said (SigningObject.Plain object)) }
+fn plain_root(domains: &Domains, object: &PlainObject) -> Root
+    ensures { result.0 ≡ signed_root domains.now (said (SigningObject.Plain object.now)) }
 {
-    plain_request(domains, object).signing_root()
+    object.signing_root(domains.fork, domains.genesis)
 }
 
 /// What the service is asked for what is no block and no vote.
@@ -93,7 +93,7 @@ fn plain_request(domains: &Domains, object: PlainObject) -> PlainRequest
 pub struct SigningRequest {
     /// The key.
     pub key: PubKey,
-    /// The chain and the fork that the request names.
+    /// The chain and the fork that it is signed under.
     pub domains: Domains,
     /// What is to be signed.
     pub object: SigningObject,
@@ -185,9 +185,9 @@ pub enum Wanted {
     Propose {
         /// The message, whose root is the one that is signed.
         message: Message,
-        /// What goes to the service beside it: the fork and the chain of the request, and the object.
+        /// What goes to the service next to it: the fork and the chain of the request, and the object.
         request: SignRequest,
     },
-    /// What can be in no slashable pair: the desk is asked for leave alone.
+    /// What can be in no slashable pair: the desk is only asked for leave.
     Allow(PlainRequest),
 }

@@ -9,11 +9,9 @@ use Rattle.service_url.specs.Services.{Service}
 use Rattle.http_call.specs.Calls.{IsCall, called_text}
 use Rattle.http_call.proofs.CallLemmas.{appends_nothing, front_none, unanswered}
 use Rattle.edge_kit.specs.Tellings.{Tells}
-use Rattle.signer_link.specs.declared.request.SignCall.{SignCall}
 use Rattle.signer_link.specs.declared.reply.SignReply.{SignReply}
 use Rattle.signer_link.specs.declared.reply.Told.{Told}
-use Rattle.signer_link.specs.Keeping.{IsReady, kept, told_ready}
-use Rattle.signer_link.specs.Signing.{told_sign}
+use Rattle.signer_link.specs.Keeping.{IsReady, kept, told_by}
 use Rattle.web3_signer.specs.Web3Calls.{IsWeb3Call}
 
 -- memory ran out before the call
@@ -50,6 +48,6 @@ asked reading lacks url method path body sent h i xs ys f g answer told b c t =
     record { response = c.response; call = subst B b c.call; means = told_means (reading c.response) lacks answer told c.means t }
 
 -- what was made ready to be told is told
-pub ready_told : (told : Option (Vec Told)) (call : Option SignCall) (given : SignCall) (answer : SignReply) (now : Option (List Told)) → IsReady told call given → Tells (kept told) now (told_ready call answer) → Tells (kept told) now (told_sign given answer)
-ready_told None call given answer now ready tells = tt
-ready_told (Some calls) call given answer now ready tells = subst (λ c. Tells (Some calls.items) now (told_ready c answer)) ready tells
+pub ready_told : {C : Type 0} (tell : C → SignReply → List Told) (told : Option (Vec Told)) (call : Option C) (given : C) (answer : SignReply) (now : Option (List Told)) → IsReady told call given → Tells (kept told) now (told_by tell call answer) → Tells (kept told) now (tell given answer)
+ready_told tell None call given answer now ready tells = tt
+ready_told tell (Some calls) call given answer now ready tells = subst (λ c. Tells (Some calls.items) now (told_by tell c answer)) ready tells

@@ -88,7 +88,7 @@ only_item no_items = None
 only_item (item d no_items) = Some d
 only_item (item d (item e others)) = None
 
--- the status of the one key, and the message beside it, which is empty where there is no such text
+-- the status of the one key, and the message next to it, which is empty where there is no such text
 abbrev pub key_status : Data → Option (List ℕ × List ℕ)
 key_status d = option_map (λ status. (status, unwrap_or (text_at (codes "message") d) [])) (text_at (codes "status") d)
 

@@ -19,8 +19,12 @@ use Rattle.phase0_blocks.specs.Blocks.{beacon_block_value}
 use Rattle.phase0_blocks.specs.Operations.{voluntary_exit_value}
 use Rattle.altair_types.specs.Containers.{sync_aggregator_selection_data, contribution_and_proof}
 use Rattle.altair_types.specs.SyncCommittees.{sync_aggregator_selection_data_value, contribution_and_proof_value}
+use Rattle.duty_types.specs.Containers.{aggregate_and_proof, electra_aggregate_and_proof, validator_registration}
+use Rattle.duty_types.specs.Values.{aggregate_and_proof_value, electra_aggregate_and_proof_value, validator_registration_value}
 use Rattle.signer_link.specs.Plain.{plain_root}
 use Rattle.signer_link.specs.Versions.{version_name}
+use Rattle.signer_link.specs.declared.aggregate.Aggregate.{Aggregate}
+use Rattle.signer_link.specs.declared.aggregate.Aggregate.TheVariants as aggregate
 use Rattle.signer_link.specs.declared.request.SignObject.{SignObject}
 use Rattle.signer_link.specs.declared.request.SignObject.TheVariants as made_of
 use Rattle.signer_link.specs.declared.request.SignRequest.{SignRequest}
@@ -48,7 +52,7 @@ fork_info f genesis =
     object (member (codes "fork") (write fork (fork_value f))
     (member (codes "genesis_validators_root") (string (hex_text genesis.0)) no_members))
 
--- `beacon_block` of a header or a whole block, under its name, and its version
+-- an object under its name, next to the name of its version: `beacon_block` of a header or a whole block, `aggregate_and_proof`
 abbrev pub versioned : List ℕ → List ℕ → Data → Data
 versioned name version value =
     object (member name value
@@ -59,12 +63,15 @@ abbrev pub type_of : Message → List ℕ
 type_of (message.Block slot root) = codes "BLOCK_V2"
 type_of (message.Vote source target root) = codes "ATTESTATION"
 
--- the members of each request, with those that stand behind
+-- the members of each request, with those that stand after them
+abbrev pub without_chain : Data → List ℕ → Members → Members
+without_chain root type after =
+    member (codes "signingRoot") root
+    (member (codes "type") (string type) after)
+
+-- and of each that is of a chain
 abbrev pub with_root : Data → Data → List ℕ → Members → Members
-with_root info root type behind =
-    member (codes "fork_info") info
-    (member (codes "signingRoot") root
-    (member (codes "type") (string type) behind))
+with_root info root type after = member (codes "fork_info") info (without_chain root type after)
 
 -- a root
 abbrev pub root_data : List ℕ → Data
@@ -85,6 +92,17 @@ sign_data request m = object (with_object request.object (with_root (fork_info r
 abbrev pub sync_message_data : ℕ → Root → Data
 sync_message_data slot block = object (member (codes "beacon_block_root") (root_data block.0) (member (codes "slot") (string (decimal slot)) no_members))
 
+-- an aggregate, next to the name of its version where it has one, and the type of its request
+abbrev pub aggregate_data : Aggregate → Data
+aggregate_data (aggregate.Unnamed given) = write aggregate_and_proof (aggregate_and_proof_value given)
+aggregate_data (aggregate.UpToDeneb version given) = versioned (codes "data") (version_name version) (write aggregate_and_proof (aggregate_and_proof_value given))
+aggregate_data (aggregate.FromElectra version given) = versioned (codes "data") (version_name version) (write electra_aggregate_and_proof (electra_aggregate_and_proof_value given))
+
+abbrev pub aggregate_type : Aggregate → List ℕ
+aggregate_type (aggregate.Unnamed given) = codes "AGGREGATE_AND_PROOF"
+aggregate_type (aggregate.UpToDeneb version given) = codes "AGGREGATE_AND_PROOF_V2"
+aggregate_type (aggregate.FromElectra version given) = codes "AGGREGATE_AND_PROOF_V2"
+
 -- the object of another signature, its name in the request, and the request's type
 abbrev pub object_data : PlainObject → Data
 object_data (plain.RandaoReveal epoch) = one_member (codes "epoch") (string (decimal epoch))
@@ -93,6 +111,8 @@ object_data (plain.VoluntaryExit exit) = write voluntary_exit (voluntary_exit_va
 object_data (plain.SyncCommitteeMessage slot block) = sync_message_data slot block
 object_data (plain.SyncCommitteeSelectionProof choice) = write sync_aggregator_selection_data (sync_aggregator_selection_data_value choice)
 object_data (plain.SyncCommitteeContributionAndProof given) = write contribution_and_proof (contribution_and_proof_value given)
+object_data (plain.Aggregate given) = aggregate_data given
+object_data (plain.ValidatorRegistration given) = write validator_registration (validator_registration_value given)
 
 abbrev pub plain_name : PlainObject → List ℕ
 plain_name (plain.RandaoReveal epoch) = codes "randao_reveal"
@@ -101,6 +121,8 @@ plain_name (plain.VoluntaryExit exit) = codes "voluntary_exit"
 plain_name (plain.SyncCommitteeMessage slot block) = codes "sync_committee_message"
 plain_name (plain.SyncCommitteeSelectionProof choice) = codes "sync_aggregator_selection_data"
 plain_name (plain.SyncCommitteeContributionAndProof given) = codes "contribution_and_proof"
+plain_name (plain.Aggregate given) = codes "aggregate_and_proof"
+plain_name (plain.ValidatorRegistration given) = codes "validator_registration"
 
 abbrev pub plain_type : PlainObject → List ℕ
 plain_type (plain.RandaoReveal epoch) = codes "RANDAO_REVEAL"
@@ -109,10 +131,17 @@ plain_type (plain.VoluntaryExit exit) = codes "VOLUNTARY_EXIT"
 plain_type (plain.SyncCommitteeMessage slot block) = codes "SYNC_COMMITTEE_MESSAGE"
 plain_type (plain.SyncCommitteeSelectionProof choice) = codes "SYNC_COMMITTEE_SELECTION_PROOF"
 plain_type (plain.SyncCommitteeContributionAndProof given) = codes "SYNC_COMMITTEE_CONTRIBUTION_AND_PROOF"
+plain_type (plain.Aggregate given) = aggregate_type given
+plain_type (plain.ValidatorRegistration given) = codes "VALIDATOR_REGISTRATION"
 
--- the members of each request, and the object under its name
+-- the members next to the object: a registration is of no chain
+abbrev pub plain_others : PlainObject → Data → Data → Members
+plain_others (plain.ValidatorRegistration given) info root = without_chain root (codes "VALIDATOR_REGISTRATION") no_members
+plain_others o info root = with_root info root (plain_type o) no_members
+
+-- they, and the object under its name
 abbrev pub plain_members : PlainObject → Data → Data → Members
-plain_members o info root = put (plain_name o) (object_data o) (with_root info root (plain_type o) no_members)
+plain_members o info root = put (plain_name o) (object_data o) (plain_others o info root)
 
 abbrev pub plain_data : PlainRequest → Data
 plain_data request = object (plain_members request.object (fork_info request.fork request.genesis) (root_data (plain_root request)))

@@ -12,7 +12,7 @@ use serde_json::Value;
 use signer_link::{DeleteReply, ImportReply, SignReply};
 use std::alloc::{AllocError, Global};
 
-/// The status of the one key of a keystores call, and the message beside it.
+/// The status of the one key of a keystores call, and the message next to it.
 #[derive(Drop)]
 struct KeyStatus {
     status: String,

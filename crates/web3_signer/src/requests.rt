@@ -15,7 +15,9 @@ use json_members::Object;
 use phase0_blocks::BeaconBlock;
 use phase0_types::{BeaconBlockHeader, Fork, Shaped};
 use serde_json::{Value, json};
-use signer_link::{BlockVersion, PlainObject, PlainRequest, SignObject, SignRequest};
+use signer_link::{
+    Aggregate, BlockVersion, PlainObject, PlainRequest, SignObject, SignRequest,
+};
 use slash_defs::Message;
 use std::alloc::{AllocError, Global};
 
@@ -86,8 +88,20 @@ fn header_value(
     ensures { IfOk result (λ v. view v ≡ web3.versioned (codes "block_header") (version_name version) (write beacon_block_header (beacon_block_header_value header.now))) }
 {
     let header = header.to_value(alloc)?;
+    versioned(alloc, "block_header", version, header)
+}
+
+/// An object under its name, next to the name of its version.
+fn versioned(
+    alloc: Global,
+    name: &str,
+    version: BlockVersion,
+    value: Value,
+) -> Result<Value, AllocError>
+    ensures { IfOk result (λ v. view v ≡ object (put (codes "version") (string (version_name version)) (put name.now (view value) no_members))) }
+{
     let object = Object::new(alloc)
-        .with_value(alloc, "block_header", header)?
+        .with_value(alloc, name, value)?
         .with_text(alloc, "version", version.name())?;
     Ok(object.value())
 }
@@ -117,12 +131,18 @@ fn with_member(
     Ok(object.value())
 }
 
-/// The members of each request to sign.
+/// The members of each request to sign that is of a chain.
 fn members_of(alloc: Global, info: Value, root: &str, kind: &str) -> Result<Object, AllocError>
     ensures { IfOk result (λ object. built object ≡ web3.with_root (view info) (string root.now) kind.now no_members) }
 {
+    root_members(alloc, root, kind)?.with_value(alloc, "fork_info", info)
+}
+
+/// The members of each request to sign.
+fn root_members(alloc: Global, root: &str, kind: &str) -> Result<Object, AllocError>
+    ensures { IfOk result (λ object. built object ≡ web3.without_chain (string root.now) kind.now no_members) }
+{
     Object::new(alloc)
-        .with_value(alloc, "fork_info", info)?
         .with_text(alloc, "signingRoot", root)?
         .with_text(alloc, "type", kind)
 }
@@ -156,32 +176,33 @@ pub(crate) fn plain_body(alloc: Global, request: &PlainRequest) -> Result<Vec<u8
     Ok(text.into_bytes())
 }
 
+/// The request for another signature: the members of each request, and the object under its name.
 fn plain_value(alloc: Global, request: &PlainRequest) -> Result<Value, AllocError>
     ensures { IfOk result (λ v. view v ≡ web3.plain_data request.now) }
 {
-    let info = fork_info(alloc, &request.fork, &request.genesis)?;
     let root = hex_text(alloc, &request.signing_root().0)?;
-    plain_object_value(alloc, &request.object, info, root.as_str())
+    let value = object_data(alloc, &request.object)?;
+    let object = plain_others(alloc, request, root.as_str())?.with_value(
+        alloc,
+        plain_name(&request.object),
+        value,
+    )?;
+    Ok(object.value())
 }
 
-/// The request for another signature: the members of each request, and the object under its name.
-fn plain_object_value(
-    alloc: Global,
-    given: &PlainObject,
-    info: Value,
-    root: &str,
-) -> Result<Value, AllocError>
-    ensures { IfOk result (λ v. view v ≡ object (web3.plain_members given.now (view info) (string root.now))) }
+/// The members next to the object. A registration is of no chain.
+fn plain_others(alloc: Global, request: &PlainRequest, root: &str) -> Result<Object, AllocError>
+    ensures { IfOk result (λ object. built object ≡ web3.plain_others request.now.object (web3.fork_info request.now.fork request.now.genesis) (string root.now)) }
 {
-    let value = object_data(alloc, given)?;
-    with_member(
-        alloc,
-        plain_name(given),
-        value,
-        info,
-        root,
-        plain_type(given),
-    )
+    match &request.object {
+        PlainObject::ValidatorRegistration(_) => {
+            root_members(alloc, root, "VALIDATOR_REGISTRATION")
+        }
+        given => {
+            let info = fork_info(alloc, &request.fork, &request.genesis)?;
+            members_of(alloc, info, root, plain_type(given))
+        }
+    }
 }
 
 /// The name of the object in the request.
@@ -195,6 +216,8 @@ fn plain_name(given: &PlainObject) -> &'static str
         PlainObject::SyncCommitteeMessage { .. } => "sync_committee_message",
         PlainObject::SyncCommitteeSelectionProof(_) => "sync_aggregator_selection_data",
         PlainObject::SyncCommitteeContributionAndProof(_) => "contribution_and_proof",
+        PlainObject::Aggregate(_) => "aggregate_and_proof",
+        PlainObject::ValidatorRegistration(_) => "validator_registration",
     }
 }
 
@@ -211,6 +234,8 @@ fn plain_type(given: &PlainObject) -> &'static str
         PlainObject::SyncCommitteeContributionAndProof(_) => {
             "SYNC_COMMITTEE_CONTRIBUTION_AND_PROOF"
         }
+        PlainObject::Aggregate(aggregate) => aggregate_type(aggregate),
+        PlainObject::ValidatorRegistration(_) => "VALIDATOR_REGISTRATION",
     }
 }
 
@@ -228,6 +253,35 @@ fn object_data(alloc: Global, given: &PlainObject) -> Result<Value, AllocError>
         } => sync_message_value(alloc, *slot, beacon_block_root),
         PlainObject::SyncCommitteeSelectionProof(choice) => choice.to_value(alloc),
         PlainObject::SyncCommitteeContributionAndProof(given) => given.to_value(alloc),
+        PlainObject::Aggregate(aggregate) => aggregate_data(alloc, aggregate),
+        PlainObject::ValidatorRegistration(registration) => registration.to_value(alloc),
+    }
+}
+
+/// The type of a request for an aggregate.
+fn aggregate_type(given: &Aggregate) -> &'static str
+    ensures { result.now ≡ web3.aggregate_type given.now }
+{
+    match given {
+        Aggregate::Unnamed(_) => "AGGREGATE_AND_PROOF",
+        Aggregate::UpToDeneb { .. } | Aggregate::FromElectra { .. } => "AGGREGATE_AND_PROOF_V2",
+    }
+}
+
+/// An aggregate, next to the name of its version where it has one.
+fn aggregate_data(alloc: Global, given: &Aggregate) -> Result<Value, AllocError>
+    ensures { IfOk result (λ v. view v ≡ web3.aggregate_data given.now) }
+{
+    match given {
+        Aggregate::Unnamed(aggregate) => aggregate.to_value(alloc),
+        Aggregate::UpToDeneb { version, aggregate } => {
+            let value = aggregate.to_value(alloc)?;
+            versioned(alloc, "data", *version, value)
+        }
+        Aggregate::FromElectra { version, aggregate } => {
+            let value = aggregate.to_value(alloc)?;
+            versioned(alloc, "data", *version, value)
+        }
     }
 }
 

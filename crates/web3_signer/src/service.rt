@@ -16,10 +16,10 @@ use http::Method;
 use http_call::call;
 use service_url::ServiceUrl;
 use signer_link::keeping::{
-    kept_copy, make_room, sign_call, tell_delete, tell_import, tell_plain, tell_sign,
+    kept_copy, make_room, plain_call, sign_call, tell_delete, tell_import, tell_plain, tell_sign,
 };
 use signer_link::{
-    DeleteReply, ImportReply, PlainCall, PlainRequest, SignReply, SignRequest, Signer, Told,
+    DeleteReply, ImportReply, PlainRequest, SignReply, SignRequest, Signer, Told,
 };
 use slash_defs::{Granted, Message};
 use std::alloc::{AllocError, Global};
@@ -128,14 +128,14 @@ impl<L: Link + Drop> Web3Signer<L> {
             Ok(body) => body,
             Err(_) => return SignReply::OutOfMemory,
         };
+        let call = match plain_call(alloc, &self.told, key, request) {
+            Ok(call) => call,
+            Err(_) => return SignReply::OutOfMemory,
+        };
         if make_room(&mut self.told).is_err() {
             return SignReply::OutOfMemory;
         }
         let answer = self.ask_to_sign(key, body);
-        let call = PlainCall {
-            key: *key,
-            request: *request,
-        };
         let answer = tell_plain(alloc, &mut self.told, call, answer);
         count_denied(&mut self.denials, matches!(&answer, SignReply::Denied(_)));
         answer
@@ -196,7 +196,7 @@ impl<L: Link + Drop> Signer for Web3Signer<L> {
         }
     }
 
-    /// Has what is no block and no vote signed by the grant's key, likewise.
+    /// Has what is no block and no vote signed by the grant's key, similarly.
     fn sign_plain<G: Granted>(&mut self, request: &PlainRequest, grant: &G) -> SignReply
         ensures told { Tells (kept self.old.told) (kept self.new.told) (told_plain (plainly_asked (G.granted_key grant.now) request.now) result) }
         ensures later { L.faults self.old.link ≤ L.faults self.new.link }
@@ -214,7 +214,7 @@ impl<L: Link + Drop> Signer for Web3Signer<L> {
     /// `POST /eth/v1/keystores`).
     ///
     /// `Imported`, `Duplicate` and `Refused` as the status of the one key in the answer says, `Refused` with the
-    /// message beside it; at another HTTP status than 200 with `status` and its number. `BadAnswer` and `Fault`
+    /// message next to it; at another HTTP status than 200 with `status` and its number. `BadAnswer` and `Fault`
     /// as for `sign`.
     fn import(&mut self, key: &PubKey, keystore: &str, password: &str) -> ImportReply
         ensures told { Tells (kept self.old.told) (kept self.new.told) (told_import (imported key.now keystore.now password.now) result) }
