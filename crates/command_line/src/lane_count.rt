@@ -5,7 +5,7 @@ ghost use Rattle.command_line.specs.Serving.{lanes_at};
 use edge_kit::read_quoted;
 use std::marker::Model;
 
-/// In how many lanes duties are done beside each other, which contracts see as that number: 1 to 64.
+/// In how many lanes duties are done at the same time, which contracts see as that number: 1 to 64.
 #[derive(Clone, Copy, Debug)]
 pub struct LaneCount {
     count: u64,

@@ -20,9 +20,9 @@ pub struct ProxyOptions {
     pub genesis_time: u64,
     /// Where requests for signatures, and those of the Keymanager API, are answered.
     pub listen: ListenAddress,
-    /// The token that requests of the Keymanager API must carry.
+    /// The token that requests of the Keymanager API need. Requests for signatures need none.
     pub token: TokenText,
-    /// After how many connections it ends.
+    /// After how many connections, of all lanes, it ends.
     pub connections: u64,
     /// In how many lanes connections are served at the same time.
     pub lanes: LaneCount,

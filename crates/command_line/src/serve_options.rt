@@ -28,7 +28,7 @@ pub struct ServeOptions {
     pub slots: u64,
     /// After how many connections the Keymanager API ends.
     pub connections: u64,
-    /// In how many lanes duties are done beside each other.
+    /// In how many lanes duties are done at the same time.
     pub lanes: LaneCount,
     /// Of how many epochs before the one at hand everything that was signed is kept.
     pub keep_epochs: KeptEpochs,

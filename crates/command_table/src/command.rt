@@ -9,7 +9,7 @@ use crate::row::Row;
 use clap::{Arg, ArgAction, Command};
 use std::alloc::{AllocError, Global};
 
-/// What an operator needs beside the list of commands: the options of each.
+/// What an operator needs next to the list of commands: the options of each.
 const OPTIONS_AT_A_GLANCE: &str = "Options of session:
       --genesis <HEX32>
           Genesis validators root of the chain: 0x and 64 hex digits [required]
@@ -39,12 +39,12 @@ Options of serve:
       --watch
           A key that becomes active signs only once it was told not live in the two epochs after
       --slots <N>
-          Duties end after so many slots; for tests and scripts [default: no end]
+          Duties end after that many slots; for tests and scripts [default: no end]
       --connections <N>
-          The Keymanager API ends after so many connections; for tests and scripts
+          The Keymanager API ends after that many connections; for tests and scripts
           [default: no end]
       --lanes <N>
-          How many duties are done beside each other, 1 to 64 [default: 4]
+          How many duties are done at the same time, 1 to 64 [default: 4]
       --keep-epochs <N>
           Of how many epochs before the one at hand everything signed is kept, 2 or more, or all
           [default: 64]
@@ -70,7 +70,7 @@ Options of proxy:
           Requests of the Keymanager API must carry it, requests for signatures need none: 1 to 256
           characters from ! to ~ [required]; --token-file PATH in its place names a file that holds it
       --connections <N>
-          Ends after so many connections; for tests and scripts [default: no end]
+          Ends after that many connections; for tests and scripts [default: no end]
       --lanes <N>
           How many connections are served at the same time, 1 to 64 [default: 4]
       --quiet
@@ -135,19 +135,19 @@ const SERVE: [Row; 13] = [
     Row::Choice {
         id: "slots",
         name: "N",
-        about: "Duties end after so many slots; for tests and scripts [default: no end]",
+        about: "Duties end after that many slots; for tests and scripts [default: no end]",
         is_required: false,
     },
     Row::Choice {
         id: "connections",
         name: "N",
-        about: "The Keymanager API ends after so many connections;{n}for tests and scripts [default: no end]",
+        about: "The Keymanager API ends after that many connections;{n}for tests and scripts [default: no end]",
         is_required: false,
     },
     Row::Choice {
         id: "lanes",
         name: "N",
-        about: "How many duties are done beside each other, 1 to 64 [default: 4]",
+        about: "How many duties are done at the same time, 1 to 64 [default: 4]",
         is_required: false,
     },
     Row::Choice {
@@ -202,7 +202,7 @@ const PROXY: [Row; 9] = [
     Row::Choice {
         id: "connections",
         name: "N",
-        about: "Ends after so many connections; for tests and scripts{n}[default: no end]",
+        about: "Ends after that many connections; for tests and scripts{n}[default: no end]",
         is_required: false,
     },
     Row::Choice {
@@ -368,7 +368,7 @@ pub fn proxy<'a>(alloc: Global) -> Result<Command<'a>, AllocError>
     ensures { IfOk result (λ c. shape_of c ≡ proxy_shape) }
 {
     let command = Command::new(alloc, "proxy").about(
-        "Stands between validator clients and a signing service, and signs nothing slashable",
+        "Stands between validator clients and a signing service: nothing slashable by its journal is signed",
     );
     with_rows(alloc, command, &PROXY)
 }

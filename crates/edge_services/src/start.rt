@@ -15,7 +15,7 @@ use std::rt::Clock;
 /// Reports on standard error how a server begins, a line each: the version of the program, the chain, where the server takes
 /// connections, and the services that it calls, of each node with the version that it says it has. Of a server that is quiet
 /// it reports none of that. In both cases it reports a node of another chain, or of one that began at another moment than the
-/// first node says. How a signing proxy begins it reports likewise, without nodes. Of other words it reports nothing.
+/// first node says. How a signing proxy begins it reports similarly, without nodes. Of other words it reports nothing.
 ///
 /// # Errors
 ///

@@ -31,7 +31,7 @@ impl<S, E: Eprint> ToldSigner<S, E> {
         }
     }
 
-    // Reports that what came of an import, of so many bytes, cannot be read. No byte of it is shown: it may have what was sent.
+    // Reports that what came of an import, of that many bytes, cannot be read. No byte of it is shown: it may have what was sent.
     fn report_import(&self, count: usize) {
         self.report("POST", KEYSTORES, format_args!("{count} bytes"));
     }

@@ -37,7 +37,7 @@ stays_tells (Some x) (Some y) (Some z) more p q = q ∙ ap (λ l. l ++ more) p
 abbrev pub with_door : {K C : Type 0} → Hall K C → DoorSeen C → Hall K C
 with_door a door = record { seat = a.seat; door = door }
 
--- so many connections were served, and no disk has failed
+-- that many connections were served, and no disk has failed
 pub record VisitedSoFar {K C : Type 0} (leads : Leads K) (see : C → LinkSeen) (start : Option ℕ) (token : List ℕ) (genesis_time served : ℕ) (a b : Hall K C) : Type 0 where
   pub visits : List (Visit C)
   pub path : Path (Visits leads see start token genesis_time) a visits b

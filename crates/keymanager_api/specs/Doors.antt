@@ -1,4 +1,4 @@
--- A door with a desk and a signer beside it, as they are seen.
+-- A door with a desk and a signer next to it, as they are seen.
 use Rattle.std.specs.Prelude.{ℕ, List, Option}
 use Rattle.client_calls.specs.Seats.{Seat, SignerSeen, at_seat}
 use Rattle.keymanager_api.specs.Serving.{LinkSeen}

@@ -28,7 +28,7 @@ use Rattle.keymanager_api.specs.declared.serve.Served.TheVariants as served
 abbrev pub reply_in : Response → Reply
 reply_in r = record { status = r.status; body = r.body.items }
 
--- a response with a status, and no field beside those that each has
+-- a response with a status, and no field next to those that each has
 pub record IsBare (r : Response) : Type 0 where
   pub status : IsStatusCode r.status
   pub fields : parts_of r.fields.items ≡ []
@@ -100,7 +100,7 @@ pub record ReadsHead (head : Request) (link_before link_now : LinkSeen) : Type 0
   pub later : link_before.faults ≤ link_now.faults
 
 -- What became of a connection of which no request was read but this fault: the fault's reply, if there is one, was sent. Where the link
--- failed, which it did since so many faults were counted, none was.
+-- failed, which it did since that many faults were counted, none was.
 pub record EndsFaulty (f : WireFault) (held_before held_now : Option (List ℕ)) (faults_before faults_now : ℕ) (s : Served) : Type 0 where
   pub reply : Option Reply
   pub plan : IfSome reply (λ r. faulty_plan f ≡ Done r)

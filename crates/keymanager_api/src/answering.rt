@@ -21,7 +21,7 @@ use std::alloc::{AllocError, Global};
 
 /// Answers a request at an epoch, where this token is wanted (Keymanager API): `GET`, `POST` and `DELETE` of
 /// `/eth/v1/keystores` list the active keys, take keys in and give keys up. A request that fails a check is
-/// refused, and nothing is called. The response has no field beside those that each has.
+/// refused, and nothing is called. The response has no field next to those that each has.
 ///
 /// # Errors
 ///

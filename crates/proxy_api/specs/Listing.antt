@@ -1,5 +1,5 @@
--- What the proxy says of itself (Web3Signer API, `upcheck`, `eth2/publicKeys`; EIP-3030, `upcheck`).
-use Rattle.std.specs.Prelude.{List, map, codes}
+-- What the proxy says of itself (Web3Signer API, `upcheck`, `eth2/publicKeys`).
+use Rattle.std.specs.Prelude.{ℕ, List, map, codes}
 use Rattle.edge_kit.specs.Texts.{hex_text}
 use Rattle.edge_kit.specs.declared.bytes.PubKey.{PubKey}
 use Rattle.serde_json.specs.Data.{Data, string, array}
@@ -9,10 +9,11 @@ use Rattle.call_plans.specs.Plans.{Done, bind}
 use Rattle.client_calls.specs.Steps.{ClientPlan}
 use Rattle.key_custody.specs.Plans.{list_plan}
 use Rattle.keymanager_routes.specs.declared.reply.Reply.{Reply}
+use Rattle.proxy_api.specs.Forms.{plain_text}
 
--- `{"status":"OK"}`: the proxy serves
-abbrev pub upcheck_reply : Reply
-upcheck_reply = record { status = 200; body = codes "{\"status\":\"OK\"}" }
+-- the text `OK`: the proxy serves
+abbrev pub upcheck_text : List ℕ
+upcheck_text = plain_text (codes "OK")
 
 -- `["0x..",..]`
 abbrev pub key_text : PubKey → Data

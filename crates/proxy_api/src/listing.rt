@@ -1,27 +1,33 @@
 //! What the proxy says of itself.
-ghost use Rattle.std.specs.Prelude.{◌≡◌, IfOk, map};
+ghost use Rattle.std.specs.Prelude.{◌≡◌, ◌≤◌, IfOk, map};
 ghost use Rattle.std.specs.Result.{result_ok};
+ghost use Rattle.edge_kit.specs.Links.{Stays};
 ghost use Rattle.http.specs.StatusCode.{IsStatusCode};
 ghost use Rattle.serde_json.specs.View.{items_of, items_view, view};
 ghost use Rattle.client_calls.specs.Seats.{Ran, SignerSeen, at_seat};
-ghost use Rattle.proxy_api.specs.Listing.{key_text, keys_data, keys_plan, keys_reply, upcheck_reply};
+ghost use Rattle.proxy_api.specs.Listing.{key_text, keys_data, keys_plan, keys_reply, upcheck_text};
+ghost use Rattle.proxy_api.specs.Signing.{SendsRest};
 
+use crate::replying::send_rest;
 use desk_machine::DeskCalls;
-use edge_kit::{Items, PubKey, hex_text};
+use edge_kit::{Items, Link, PubKey, hex_text};
 use key_custody::list_keys;
+use keymanager_api::Served;
 use keymanager_routes::Reply;
 use serde_json::Value;
 use std::alloc::{AllocError, Global};
 
-/// The reply that says that the proxy serves. The error is want of memory.
-pub(crate) fn upcheck_reply(alloc: Global) -> Result<Reply, AllocError>
-    ensures { IfOk result (λ r. r ≡ upcheck_reply) }
+/// The reply that says that the proxy serves: the text `OK`.
+const UPCHECK_REPLY: &str =
+    "HTTP/1.1 200 OK\r\nContent-Type: text/plain; charset=utf-8\r\nContent-Length: 2\r\nConnection: close\r\n\r\nOK";
+
+/// Says that the proxy serves, and hangs up. Takes no memory.
+pub(crate) fn say_serving<L: Link>(link: &mut L) -> Served
+    ensures sends { SendsRest (L.held link.old) (L.held link.new) (L.faults link.old) (L.faults link.new) 200 upcheck_text result }
+    ensures coming { Stays (L.coming link.old) (L.coming link.new) }
+    ensures later { L.faults link.old ≤ L.faults link.new }
 {
-    let text = String::from_str(alloc, "{\"status\":\"OK\"}")?;
-    Ok(Reply {
-        status: 200,
-        body: Items::from_vec(text.into_bytes()),
-    })
+    send_rest(link, 200, UPCHECK_REPLY.as_bytes())
 }
 
 /// The reply that lists the active keys. The error is want of memory.

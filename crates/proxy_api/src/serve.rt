@@ -8,7 +8,8 @@ ghost use Rattle.keymanager_api.specs.Serving.{LinkSeen, ReadsHead};
 ghost use Rattle.proxy_api.specs.Routes.{identifier_of, wanted_for};
 ghost use Rattle.proxy_api.specs.Signing.{BySigning, DoesWanted, SignServes};
 
-use crate::listing::{list_public, upcheck_reply};
+use crate::form::form_of;
+use crate::listing::{list_public, say_serving};
 use crate::replying::reply_signed;
 use crate::route::{Wanted, identifier_of, read_wanted};
 use desk_machine::DeskCalls;
@@ -25,9 +26,10 @@ use std::alloc::{AllocError, Global};
 /// request has its reply as well.
 ///
 /// A request for a signature (`POST` of `/api/v1/eth2/sign/` and the public key after it) is answered by `sign_proxy::sign_reply`, for the
-/// chain with this root of its genesis validators; no token is looked at. The grant of a signature is settled as sent where a
+/// chain with this root of its genesis validators; no token is looked at. A signature is replied as the object with it where a
+/// field `Accept` names `application/json`, and else as a text. Its grant is settled as sent where a
 /// byte of the reply with it was sent, else as dropped. `GET` of `/api/v1/eth2/publicKeys` lists the active keys, and that of
-/// `/upcheck` says `{"status":"OK"}`, to anyone. Another method at one of these three is refused with status 405. Any other
+/// `/upcheck` says `OK`, as a text, to anyone. Another method at one of these three is refused with status 405. Any other
 /// request is one of the Keymanager API, answered as `keymanager_api::answer` does where this token is wanted.
 ///
 /// Where memory runs out, in reading, in what is done or in writing, the reply is status 503, from a constant text; in what is
@@ -144,7 +146,7 @@ fn do_wanted<L: Link, K: DeskCalls, S: Signer>(
             let reply = list_public(alloc, desk);
             finish(alloc, link, reply)
         }
-        Wanted::Upcheck => finish(alloc, link, upcheck_reply(alloc)),
+        Wanted::Upcheck => say_serving(link),
     }
 }
 
@@ -168,6 +170,7 @@ fn sign_wanted<L: Link, K: DeskCalls, S: Signer>(
 {
     let identifier = identifier_of(request.target.as_slice()).unwrap_or("");
     let body = request.body.as_slice();
+    let form = form_of(request.fields.as_slice());
     let ended = sign_reply(alloc, identifier, genesis, body, now, desk, signer);
-    reply_signed(alloc, link, ended, desk)
+    reply_signed(alloc, link, form, ended, desk)
 }

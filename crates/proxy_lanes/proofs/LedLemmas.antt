@@ -20,6 +20,7 @@ use Rattle.sign_proxy.specs.declared.signing.SignEnd.TheVariants as ending
 use Rattle.door_lanes.specs.Lanes.{Visit, Visits}
 use Rattle.proxy_api.specs.Attending.{Attends, AttendsAt, Terms}
 use Rattle.proxy_api.specs.Routes.{wanted_for}
+use Rattle.proxy_api.specs.declared.form.Form.{Form}
 use Rattle.proxy_api.specs.Signing.{ByPlan, DoesRead, DoesWanted, RepliesTo, settles_as}
 use Rattle.proxy_api.specs.declared.route.Wanted.{Wanted}
 use Rattle.proxy_api.specs.declared.route.Wanted.TheVariants as wanted
@@ -63,10 +64,10 @@ module _ {K : Type 0} (leads : K → List (DeskCall × DeskReply) → K → Type
   answers_led identifier genesis body now a b e (unread without stays) = same a b stays
 
   module _ (h i : Option (List ℕ)) (f g : ℕ) where
-    replies_led : (e : SignEnd) (m b : Seat K) (s : Served) → RepliesTo leads h i f g e m b s → Led m.desk b.desk
-    replies_led (ending.Refused given) m b s r = same m b r.0
-    replies_led ending.OutOfMemory m b s r = same m b r.0
-    replies_led (ending.Signed given grant) m b s r = (settles_as grant r.begun, r.settles)
+    replies_led : (form : Form) (e : SignEnd) (m b : Seat K) (s : Served) → RepliesTo form leads h i f g e m b s → Led m.desk b.desk
+    replies_led form (ending.Refused given) m b s r = same m b r.0
+    replies_led form ending.OutOfMemory m b s r = same m b r.0
+    replies_led form (ending.Signed given grant) m b s r = (settles_as grant r.begun, r.settles)
 
     plan_led : (plan : ClientPlan Reply) (a b : Seat K) (s : Served) → ByPlan leads plan h i f g a b s → Led a.desk b.desk
     plan_led plan a b s p = (desk_calls p.ran.steps, p.ran.desk)
@@ -75,9 +76,9 @@ module _ {K : Type 0} (leads : K → List (DeskCall × DeskReply) → K → Type
     wanted_led genesis now request (Err r) a b s p = plan_led _ a b s p
     wanted_led genesis now request (Ok (wanted.Keys what)) a b s p = plan_led _ a b s p
     wanted_led genesis now request (Ok wanted.Signature) a b s p =
-        both a.desk p.middle.desk b.desk (answers_led _ genesis request.body.items now a p.middle p.ended p.answers) (replies_led p.ended p.middle b s p.replies)
+        both a.desk p.middle.desk b.desk (answers_led _ genesis request.body.items now a p.middle p.ended p.answers) (replies_led _ p.ended p.middle b s p.replies)
     wanted_led genesis now request (Ok wanted.PublicKeys) a b s p = plan_led _ a b s p
-    wanted_led genesis now request (Ok wanted.Upcheck) a b s p = plan_led _ a b s p
+    wanted_led genesis now request (Ok wanted.Upcheck) a b s p = same a b p.0
 
     read_led : (token : List ℕ) (genesis : Root) (now : ℕ) (read : Result Request WireFault) (a b : Seat K) (s : Served) → DoesRead leads token genesis now read h i f g a b s → Led a.desk b.desk
     read_led token genesis now (Ok request) a b s p = wanted_led genesis now request (wanted_for token request) a b s p

@@ -19,6 +19,7 @@ use Rattle.sign_proxy.specs.declared.signing.SignEnd.{SignEnd}
 use Rattle.sign_proxy.specs.declared.signing.SignEnd.TheVariants as ending
 use Rattle.proxy_api.specs.Attending.{Attends, Terms}
 use Rattle.proxy_api.specs.Routes.{wanted_for}
+use Rattle.proxy_api.specs.declared.form.Form.{Form}
 use Rattle.proxy_api.specs.Signing.{ByPlan, BySigning, DoesRead, DoesWanted, RepliesTo, SignServes, settles_as}
 use Rattle.proxy_api.specs.declared.route.Wanted.{Wanted}
 use Rattle.proxy_api.specs.declared.route.Wanted.TheVariants as wanted
@@ -69,10 +70,10 @@ module _ {K : Type 0} (leads : K → List (DeskCall × DeskReply) → K → Type
   answers_seen identifier genesis body now a b e (unread without same) = unread without (ap (λ (s : Seat K). V s) same)
 
   module _ (h i : Option (List ℕ)) (f g : ℕ) where
-    replies_seen : (e : SignEnd) (m b : Seat K) (s : Served) → RepliesTo leads h i f g e m b s → RepliesTo Grew h i f g e (V m) (V b) s
-    replies_seen (ending.Refused given) m b s r = (ap (λ (x : Seat K). V x) r.0, r.1)
-    replies_seen ending.OutOfMemory m b s r = (ap (λ (x : Seat K). V x) r.0, r.1)
-    replies_seen (ending.Signed given grant) m b s r = record { begun = r.begun; sends = r.sends; settles = is m.desk b.desk (settles_as grant r.begun) r.settles; signer = r.signer }
+    replies_seen : (form : Form) (e : SignEnd) (m b : Seat K) (s : Served) → RepliesTo form leads h i f g e m b s → RepliesTo form Grew h i f g e (V m) (V b) s
+    replies_seen form (ending.Refused given) m b s r = (ap (λ (x : Seat K). V x) r.0, r.1)
+    replies_seen form ending.OutOfMemory m b s r = (ap (λ (x : Seat K). V x) r.0, r.1)
+    replies_seen form (ending.Signed given grant) m b s r = record { begun = r.begun; sends = r.sends; settles = is m.desk b.desk (settles_as grant r.begun) r.settles; signer = r.signer }
 
     plan_seen : (plan : ClientPlan Reply) (a b : Seat K) (s : Served) → ByPlan leads plan h i f g a b s → ByPlan Grew plan h i f g (V a) (V b) s
     plan_seen plan a b s p = record { reply = p.reply; ran = ran_seen plan a b p.reply p.ran; sends = p.sends }
@@ -83,7 +84,7 @@ module _ {K : Type 0} (leads : K → List (DeskCall × DeskReply) → K → Type
         ended = p.ended;
         middle = V p.middle;
         answers = answers_seen _ genesis request.body.items now a p.middle p.ended p.answers;
-        replies = replies_seen p.ended p.middle b s p.replies;
+        replies = replies_seen _ p.ended p.middle b s p.replies;
       }
 
       wanted_seen : (request : Request) (w : Result Wanted Refusal) (a b : Seat K) (s : Served) → DoesWanted leads genesis now request w h i f g a b s → DoesWanted Grew genesis now request w h i f g (V a) (V b) s
@@ -91,7 +92,7 @@ module _ {K : Type 0} (leads : K → List (DeskCall × DeskReply) → K → Type
       wanted_seen request (Ok (wanted.Keys what)) a b s p = plan_seen _ a b s p
       wanted_seen request (Ok wanted.Signature) a b s p = signing_seen request a b s p
       wanted_seen request (Ok wanted.PublicKeys) a b s p = plan_seen _ a b s p
-      wanted_seen request (Ok wanted.Upcheck) a b s p = plan_seen _ a b s p
+      wanted_seen request (Ok wanted.Upcheck) a b s p = (ap (λ (x : Seat K). V x) p.0, p.1)
 
       read_seen : (token : List ℕ) (read : Result Request WireFault) (a b : Seat K) (s : Served) → DoesRead leads token genesis now read h i f g a b s → DoesRead Grew token genesis now read h i f g (V a) (V b) s
       read_seen token (Ok request) a b s p = wanted_seen request (wanted_for token request) a b s p

@@ -22,6 +22,7 @@ use Rattle.door_lanes.specs.Runs.{LanesServed, SomeLaneFailed}
 use Rattle.proxy_api.specs.Attending.{Attends, Terms}
 use Rattle.proxy_api.specs.Routes.{wanted_for}
 use Rattle.proxy_api.specs.Signing.{DoesRead, DoesWanted, RepliesTo, outcome_of}
+use Rattle.proxy_api.specs.declared.form.Form.{Form}
 use Rattle.proxy_api.specs.declared.route.Wanted.{Wanted}
 use Rattle.proxy_api.specs.declared.route.Wanted.TheVariants as wanted
 use Rattle.proxy_lanes.specs.Lanes.{AttendsBy, Calls, Grew, LaneSeen}
@@ -58,16 +59,16 @@ begun_one x y m a grew h = ⊎_elim
     (λ none. contains_none y none)
     (contains_cases x [] y h)
 
-begun_by_settled : (h i : Option (List ℕ)) (f n : ℕ) (e : SignEnd) (m a : Seat Calls) (s : Served) (r : RepliesTo Grew h i f n e m a s) (g : Signed) → Contains (signed_by Grew h i f n e m a s r) g → Contains a.desk (settled g)
-begun_by_settled h i f n (ending.Refused given) m a s r g at = contains_none g at
-begun_by_settled h i f n ending.OutOfMemory m a s r g at = contains_none g at
-begun_by_settled h i f n (ending.Signed given grant) m a s r g at = begun_one (grant, r.begun) g m.desk a.desk r.settles at
+begun_by_settled : (form : Form) (h i : Option (List ℕ)) (f n : ℕ) (e : SignEnd) (m a : Seat Calls) (s : Served) (r : RepliesTo form Grew h i f n e m a s) (g : Signed) → Contains (signed_by Grew form h i f n e m a s r) g → Contains a.desk (settled g)
+begun_by_settled form h i f n (ending.Refused given) m a s r g at = contains_none g at
+begun_by_settled form h i f n ending.OutOfMemory m a s r g at = contains_none g at
+begun_by_settled form h i f n (ending.Signed given grant) m a s r g at = begun_one (grant, r.begun) g m.desk a.desk r.settles at
 
 begun_wanted_settled : (genesis : Root) (now : ℕ) (request : Request) (w : Result Wanted Refusal) (h i : Option (List ℕ)) (f n : ℕ) (b a : Seat Calls) (s : Served) (d : DoesWanted Grew genesis now request w h i f n b a s) (g : Signed)
     → Contains (signed_wanted Grew genesis now request w h i f n b a s d) g → Contains a.desk (settled g)
 begun_wanted_settled genesis now request (Err r) h i f n b a s d g at = contains_none g at
 begun_wanted_settled genesis now request (Ok (wanted.Keys what)) h i f n b a s d g at = contains_none g at
-begun_wanted_settled genesis now request (Ok wanted.Signature) h i f n b a s d g at = begun_by_settled h i f n d.ended d.middle a s d.replies g at
+begun_wanted_settled genesis now request (Ok wanted.Signature) h i f n b a s d g at = begun_by_settled _ h i f n d.ended d.middle a s d.replies g at
 begun_wanted_settled genesis now request (Ok wanted.PublicKeys) h i f n b a s d g at = contains_none g at
 begun_wanted_settled genesis now request (Ok wanted.Upcheck) h i f n b a s d g at = contains_none g at
 

@@ -10,6 +10,7 @@ use Rattle.desk_machine.specs.declared.call.DeskReply.{DeskReply}
 use Rattle.desk_machine.specs.declared.open_grant.OpenGrant.{OpenGrant}
 use Rattle.call_plans.specs.Paths.{Path}
 use Rattle.client_calls.specs.Seats.{Seat}
+use Rattle.http_wire.specs.Parts.{parts_of}
 use Rattle.http_wire.specs.declared.message.Request.{Request}
 use Rattle.http_wire.specs.declared.message.WireFault.{WireFault}
 use Rattle.keymanager_routes.specs.declared.refusal.Refusal.{Refusal}
@@ -22,8 +23,10 @@ use Rattle.door_lanes.specs.Lanes.{Visit, Visits}
 use Rattle.door_lanes.specs.Runs.{LanesServed, Served as DoorServed}
 use Rattle.door_lanes.specs.declared.lanes.LoopEnd.{LoopEnd}
 use Rattle.proxy_api.specs.Attending.{Attends, Terms}
+use Rattle.proxy_api.specs.Forms.{form_of}
 use Rattle.proxy_api.specs.Routes.{wanted_for}
 use Rattle.proxy_api.specs.Signing.{DoesRead, DoesWanted, RepliesTo}
+use Rattle.proxy_api.specs.declared.form.Form.{Form}
 use Rattle.proxy_api.specs.declared.route.Wanted.{Wanted}
 use Rattle.proxy_api.specs.declared.route.Wanted.TheVariants as wanted
 use Rattle.proxy_lanes.specs.Lanes.{AttendsBy, LaneSeen}
@@ -34,17 +37,17 @@ Signed = OpenGrant × Bool
 
 module _ {K : Type 0} (leads : K → List (DeskCall × DeskReply) → K → Type 0) where
   -- a request for a signature ended so: with a signature, whose reply was begun or not, or without one
-  abbrev pub signed_by : (held_before held_now : Option (List ℕ)) (faults_before faults_now : ℕ) (e : SignEnd) (middle after : Seat K) (s : Served) → RepliesTo leads held_before held_now faults_before faults_now e middle after s → List Signed
-  signed_by held_before held_now faults_before faults_now (ending.Refused given) middle after s r = []
-  signed_by held_before held_now faults_before faults_now ending.OutOfMemory middle after s r = []
-  signed_by held_before held_now faults_before faults_now (ending.Signed given grant) middle after s r = (grant, r.begun) ∷ []
+  abbrev pub signed_by : (form : Form) (held_before held_now : Option (List ℕ)) (faults_before faults_now : ℕ) (e : SignEnd) (middle after : Seat K) (s : Served) → RepliesTo form leads held_before held_now faults_before faults_now e middle after s → List Signed
+  signed_by form held_before held_now faults_before faults_now (ending.Refused given) middle after s r = []
+  signed_by form held_before held_now faults_before faults_now ending.OutOfMemory middle after s r = []
+  signed_by form held_before held_now faults_before faults_now (ending.Signed given grant) middle after s r = (grant, r.begun) ∷ []
 
   -- by what a request wants: only one for a signature has one
   abbrev pub signed_wanted : (genesis : Root) (now : ℕ) (request : Request) (w : Result Wanted Refusal) (held_before held_now : Option (List ℕ)) (faults_before faults_now : ℕ) (before after : Seat K) (s : Served)
       → DoesWanted leads genesis now request w held_before held_now faults_before faults_now before after s → List Signed
   signed_wanted genesis now request (Err r) held_before held_now faults_before faults_now before after s d = []
   signed_wanted genesis now request (Ok (wanted.Keys what)) held_before held_now faults_before faults_now before after s d = []
-  signed_wanted genesis now request (Ok wanted.Signature) held_before held_now faults_before faults_now before after s d = signed_by held_before held_now faults_before faults_now d.ended d.middle after s d.replies
+  signed_wanted genesis now request (Ok wanted.Signature) held_before held_now faults_before faults_now before after s d = signed_by (form_of (parts_of request.fields.items)) held_before held_now faults_before faults_now d.ended d.middle after s d.replies
   signed_wanted genesis now request (Ok wanted.PublicKeys) held_before held_now faults_before faults_now before after s d = []
   signed_wanted genesis now request (Ok wanted.Upcheck) held_before held_now faults_before faults_now before after s d = []
 

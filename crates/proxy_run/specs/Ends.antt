@@ -118,7 +118,7 @@ pub record NotEquipped {D C : Type 0} (disks_before disks_now : Disks D) (before
   pub parts : now ≡ before
   pub unnoted : events ≡ []
 
--- so many lanes, each with another access to the signing service
+-- that many lanes, each with another access to the signing service
 pub record HasLanes {C : Type 0} (signer : SignerSeen) (count : ℕ) (parts now : Parts C) : Type 0 where
   pub lanes : List SignerSeen
   pub count_is : length lanes ≡ count

@@ -25,7 +25,7 @@ use std::alloc::{AllocError, Global};
 use std::sync::Wait;
 use std::thread::Threads;
 
-/// What a run of a proxy leaves, beside what it was lent.
+/// What a run of a proxy leaves, next to what it was lent.
 #[derive(Drop)]
 pub struct ProxyEnd<D, S, R> {
     /// Why it ended.
@@ -36,14 +36,15 @@ pub struct ProxyEnd<D, S, R> {
     pub door: R,
     /// What the desk did, in order, as contracts speak of it; nothing where none was opened.
     pub events: Events,
-    /// The signing service of each lane; nothing where none were made.
+    /// The accesses to the signing service, one a lane; nothing where none were made.
     pub signers: Vec<S>,
 }
 
 /// Does what the options of a signing proxy say: makes another access to the signing service for each lane, and opens the desk
 /// of the journal on the disks at the epoch of the clock's moment, 0 before genesis; its keys are not watched. Then the lanes
 /// serve as many connections of the door as the options have, at the same time: requests for signatures (Web3Signer API,
-/// `eth2/sign`), and those of the Keymanager API.
+/// `eth2/sign`), for the active keys (`eth2/publicKeys`) and whether the proxy serves (`upcheck`), and those of the
+/// Keymanager API.
 ///
 /// The status is `Done` where as many connections were served, or no connection comes any more. With a line that closes the
 /// output it is `GenesisDiffers` where the journal has another root than the options, `Damaged` and

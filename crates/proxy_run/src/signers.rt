@@ -6,7 +6,7 @@ ghost use Rattle.proxy_run.specs.Ends.{IsMadeOf};
 use signer_link::Signer;
 use std::alloc::{AllocError, Global};
 
-/// So many other accesses to this signing service, each with counts of its own at 0. The error is want of memory.
+/// That many other accesses to this signing service, each with counts of its own at 0. The error is want of memory.
 pub(crate) fn make_signers<S: Signer + Drop>(
     alloc: Global,
     count: u64,

@@ -7,18 +7,15 @@ use Rattle.slash_defs.specs.declared.message.Message.{Message}
 use Rattle.desk_machine.specs.Making.{MaySettle}
 use Rattle.desk_machine.specs.declared.open_grant.OpenGrant.{OpenGrant}
 use Rattle.desk_machine.specs.declared.call.DeskCall.{DeskCall}
-use Rattle.desk_machine.specs.declared.call.DeskCall.TheVariants as call
 use Rattle.desk_machine.specs.declared.call.DeskReply.{DeskReply}
 use Rattle.desk_machine.specs.declared.call.DeskReply.TheVariants as reply
-use Rattle.desk_machine.specs.declared.call.Outcome.TheVariants.{Dropped}
 use Rattle.call_plans.specs.Paths.{Carries}
-use Rattle.client_calls.specs.Steps.{ClientStep, ClientPlan, Calls, Replies, Fits}
+use Rattle.client_calls.specs.Steps.{ClientPlan, Fits}
 use Rattle.client_calls.specs.Seats.{Seat, Does}
 use Rattle.signing_requests.specs.Objects.{wanted_of}
 use Rattle.signing_requests.specs.Requests.{asked_of, asking}
 use Rattle.signing_requests.specs.declared.request.SigningRequest.{SigningRequest}
 use Rattle.signing_requests.specs.declared.refusal.SigningRefusal.{SigningRefusal}
-use Rattle.sign_proxy.specs.Replies.{signature_reply}
 use Rattle.sign_proxy.specs.Plans.{SigningResult, WithReply, WithSignature, WithoutMemory, message_in, signing_plan}
 use Rattle.keymanager_routes.specs.declared.reply.Reply.{Reply}
 use Rattle.sign_proxy.specs.declared.signing.SignEnd.{SignEnd}
@@ -28,10 +25,6 @@ use Rattle.sign_proxy.specs.declared.signing.SignEnd.TheVariants as ending
 abbrev pub IsRead : List ℕ → Root → List ℕ → Result SigningRequest SigningRefusal → Type 0
 IsRead identifier genesis body (Ok a) = asked_of identifier genesis body ≡ Ok (asking a)
 IsRead identifier genesis body (Err r) = asked_of identifier genesis body ≡ Err r
-
--- a grant is dropped
-abbrev pub drop_of : OpenGrant → ClientStep
-drop_of grant = (Calls (call.Settle grant Dropped), Replies reply.Settled)
 
 -- a reply to what is not signed, where there is one; none where memory ran out, before its text or while it was made
 abbrev pub EndsUnsigned : Option Reply → SignEnd → Type 0
@@ -45,19 +38,17 @@ abbrev pub CanSettle : {K : Type 0} → (K → DeskCall → Type 0) → K → Si
 CanSettle allows desk (ending.Signed given under) = MaySettle (allows desk) (reply.Granted under)
 CanSettle allows desk e = Unit {0}
 
--- its reply, if it has one, has a status of three digits (RFC 9110, section 15)
+-- the reply to what is not signed has a status of three digits (RFC 9110, section 15)
 abbrev pub HasStatus : SignEnd → Type 0
 HasStatus (ending.Refused given) = IsStatusCode given.status
-HasStatus (ending.Signed given under) = IsStatusCode given.status
+HasStatus (ending.Signed given under) = Unit {0}
 HasStatus ending.OutOfMemory = Unit {0}
 
--- How it ends after a plan came to this: with its reply; with its signature, whose grant is open; or, where memory ran out, with neither,
--- and then the grant of a signature is dropped.
+-- How it ends after a plan came to this: with its reply; with its signature, whose grant is open; or, where memory ran out, with neither.
 abbrev pub EndsWith : {K : Type 0} → (K → List (DeskCall × DeskReply) → K → Type 0) → SigningResult → Seat K → Seat K → SignEnd → Type 0
 EndsWith leads (WithReply r) middle after (ending.Refused given) = (given ≡ r) × (after ≡ middle)
 EndsWith leads (WithReply r) middle after ending.OutOfMemory = after ≡ middle
-EndsWith leads (WithSignature signature grant) middle after (ending.Signed given under) = (given ≡ signature_reply signature) × (under ≡ grant) × (after ≡ middle)
-EndsWith leads (WithSignature signature grant) middle after ending.OutOfMemory = Does leads middle (drop_of grant) after
+EndsWith leads (WithSignature signature grant) middle after (ending.Signed given under) = (given ≡ signature) × (under ≡ grant) × (after ≡ middle)
 EndsWith leads WithoutMemory middle after ending.OutOfMemory = after ≡ middle
 EndsWith leads r middle after e = ⊥
 

@@ -5,4 +5,5 @@
 mod replies;
 mod signing;
 
+pub use replies::signature_reply;
 pub use signing::{SignEnd, sign_reply};

@@ -107,8 +107,8 @@ pub(crate) fn with_message(alloc: Global, status: u16, text: &str) -> SignEnd
     }
 }
 
-/// The reply with a signature. The error is want of memory.
-pub(crate) fn signature_reply(alloc: Global, signature: &Sig) -> Result<Reply, AllocError>
+/// The reply with a signature, status 200: the object with it. The error is want of memory.
+pub fn signature_reply(alloc: Global, signature: &Sig) -> Result<Reply, AllocError>
     ensures { IfOk result (λ r. r ≡ signature_reply signature.now) }
 {
     let text = signature_value(alloc, signature)?.to_string(alloc)?;

@@ -5,10 +5,10 @@ ghost use Rattle.desk_machine.specs.Making.{MaySettle};
 ghost use Rattle.client_calls.specs.Seats.{SignerSeen, at_seat, signer_seen};
 ghost use Rattle.signing_requests.specs.Objects.{wanted_of};
 ghost use Rattle.signing_requests.specs.Refusals.{refusal_reply};
-ghost use Rattle.sign_proxy.specs.Plans.{WithSignature, answered, message_in, signing_plan, signs, signs_plain, wanted_plan};
-ghost use Rattle.sign_proxy.specs.Signing.{Answers, CanSettle, Ends, EndsUnsigned, EndsWith, GrantedFor, HasStatus};
+ghost use Rattle.sign_proxy.specs.Plans.{answered, message_in, signing_plan, signs, signs_plain, wanted_plan};
+ghost use Rattle.sign_proxy.specs.Signing.{Answers, CanSettle, Ends, EndsUnsigned, GrantedFor, HasStatus};
 
-use crate::replies::{signature_reply, without_grant, without_signature};
+use crate::replies::{without_grant, without_signature};
 use desk_machine::{DeskCall, DeskCalls, DeskReply, Grant, Outcome};
 use edge_kit::{PubKey, Root, Sig};
 use keymanager_routes::Reply;
@@ -21,9 +21,9 @@ use std::alloc::Global;
 pub enum SignEnd {
     /// It was not signed: its reply. No grant of it is open.
     Refused(Reply),
-    /// It was signed: its reply, of status 200, with the signature, and the grant that it was signed under. The grant is open:
-    /// whoever sends the reply settles it, as sent where a byte of the reply was sent, else as dropped.
-    Signed { reply: Reply, grant: Grant },
+    /// It was signed: the signature, and the grant that it was signed under. The grant is open: whoever sends the reply, of
+    /// status 200, settles it, as sent where a byte of the reply was sent, else as dropped.
+    Signed { signature: Sig, grant: Grant },
     /// Memory ran out, at any point. The desk may have kept the message, and the service may have signed it; no grant of it is
     /// open.
     OutOfMemory,
@@ -35,7 +35,7 @@ pub enum SignEnd {
 /// is asked, under the grant. Without a signature the grant is settled as dropped. The epoch is at most the desk's limit of
 /// moments.
 ///
-/// The reply is the object with the signature, status 200, or an object with a message, which says why there is none: 400
+/// What comes of it is the signature, or a reply with a message, which says why there is none: 400
 /// where the request fails a check, and then nothing was called; 404 where the desk does not keep the key, or it is not
 /// active; 412 where the key is being closed, its watch does not let it sign, or its past forbids the message; 500 where the
 /// desk has no room or its disk failed; and of a signer that gave no signature 404 where it lacks the key, 412 where it
@@ -211,29 +211,10 @@ fn end_signing<K: DeskCalls>(alloc: Global, reply: SignReply, grant: Grant, desk
     ensures ends { (s : SignerSeen) → Ends K.leads (answered grant reply) (at_seat desk.old s) (at_seat desk.new s) result }
 {
     match reply {
-        SignReply::Signed(signature) => end_signed(alloc, &signature, grant, desk),
+        SignReply::Signed(signature) => SignEnd::Signed { signature, grant },
         reply => {
             drop_grant(grant, desk);
             without_signature(alloc, &reply)
-        }
-    }
-}
-
-/// Ends with a signature, where there is memory for its reply.
-fn end_signed<K: DeskCalls>(alloc: Global, signature: &Sig, grant: Grant, desk: &mut K) -> SignEnd
-    requires ready { K.ready desk.old }
-    requires settles { MaySettle (λ c. K.allows desk.old c) (DeskReply.Granted grant) }
-    ensures ready { K.ready desk.new }
-    ensures settles { CanSettle K.allows desk.new result }
-    ensures status { HasStatus result }
-    ensures granted { GrantedFor grant.key grant.message result }
-    ensures ends { (s : SignerSeen) → EndsWith K.leads (WithSignature signature.now grant) (at_seat desk.old s) (at_seat desk.new s) result }
-{
-    match signature_reply(alloc, signature) {
-        Ok(reply) => SignEnd::Signed { reply, grant },
-        Err(_) => {
-            drop_grant(grant, desk);
-            SignEnd::OutOfMemory
         }
     }
 }

@@ -3,6 +3,7 @@ ghost use Rattle.std.specs.Prelude.{◌≡◌, None};
 ghost use Rattle.serde_json.specs.View.{view};
 ghost use Rattle.duty_types.specs.Containers.{aggregate_and_proof, electra_aggregate_and_proof};
 ghost use Rattle.phase0_types.specs.Reading.{read_at};
+ghost use Rattle.phase0_types.specs.declared.member.Member.TheVariants.{Details};
 ghost use Rattle.signing_requests.specs.Members.{inside};
 ghost use Rattle.signing_requests.specs.Objects.{aggregate_is, electra_aggregate_is, said, versioned_aggregate_is};
 ghost use Rattle.signing_requests.specs.Requests.{aggregate_at, aggregate_of, shaped, versioned_aggregate_at, versioned_aggregate_in};
@@ -81,7 +82,7 @@ fn read_named(
     version: BlockVersion,
     json: &Value,
 ) -> Result<SigningObject, SigningStop>
-    ensures { GivesAs said result (shaped (SigningMember.Inside phase0_types.Member.Details) (versioned_aggregate_is version) (read_at aggregate_and_proof None (view json.now))) }
+    ensures { GivesAs said result (shaped (SigningMember.Inside Details) (versioned_aggregate_is version) (read_at aggregate_and_proof None (view json.now))) }
 {
     match AggregateAndProof::read_value(alloc, json)? {
         Ok(aggregate) => {
@@ -97,7 +98,7 @@ fn read_electra(
     version: BlockVersion,
     json: &Value,
 ) -> Result<SigningObject, SigningStop>
-    ensures { GivesAs said result (shaped (SigningMember.Inside phase0_types.Member.Details) (electra_aggregate_is version) (read_at electra_aggregate_and_proof None (view json.now))) }
+    ensures { GivesAs said result (shaped (SigningMember.Inside Details) (electra_aggregate_is version) (read_at electra_aggregate_and_proof None (view json.now))) }
 {
     match ElectraAggregateAndProof::read_value(alloc, json)? {
         Ok(aggregate) => {

@@ -24,7 +24,7 @@ use Rattle.journal_commands.specs.Merging.{IsMergeComplete, MergeEnds, Unread}
 use Rattle.journal_commands.specs.Showing.{IsShowComplete, ShowEnds}
 use Rattle.validator_cli.specs.Rehearsing.{IsRehearsalComplete, RehearsalEnds}
 
--- what the objects of a program tell beside its disks, and how often each failed: the input and the output, and the signer
+-- what the objects of a program tell next to its disks, and how often each failed: the input and the output, and the signer
 pub record Outside : Type 0 where
   pub view : View
   pub told : Option (List Told)

@@ -6,7 +6,7 @@ use serve_run::LaneEnd;
 
 /// The status, the objects that were handed in, and what the desk did, as contracts speak of it. `lanes` has the signing
 /// service and the nodes of each lane of the validator client, other accesses to those that were handed in; it is empty where
-/// none were made. `signers` has the signing service of each lane of the signing proxy likewise. `events` is empty where no
+/// none were made. `signers` has the signing service of each lane of the signing proxy in the same way. `events` is empty where no
 /// desk was opened.
 #[derive(Drop)]
 pub struct Ending<D, S, N, R> {

@@ -15,9 +15,7 @@ use json_members::Object;
 use phase0_blocks::BeaconBlock;
 use phase0_types::{BeaconBlockHeader, Fork, Shaped};
 use serde_json::{Value, json};
-use signer_link::{
-    Aggregate, BlockVersion, PlainObject, PlainRequest, SignObject, SignRequest,
-};
+use signer_link::{Aggregate, BlockVersion, PlainObject, PlainRequest, SignObject, SignRequest};
 use slash_defs::Message;
 use std::alloc::{AllocError, Global};
 

@@ -18,9 +18,7 @@ use service_url::ServiceUrl;
 use signer_link::keeping::{
     kept_copy, make_room, plain_call, sign_call, tell_delete, tell_import, tell_plain, tell_sign,
 };
-use signer_link::{
-    DeleteReply, ImportReply, PlainRequest, SignReply, SignRequest, Signer, Told,
-};
+use signer_link::{DeleteReply, ImportReply, PlainRequest, SignReply, SignRequest, Signer, Told};
 use slash_defs::{Granted, Message};
 use std::alloc::{AllocError, Global};
 

@@ -1,11 +1,11 @@
-use Rattle.std.proofs.Common.{Ok, sym, subst}
+use Rattle.std.proofs.Common.{Ok, refl, sym, subst}
 use Rattle.std.specs.Result.{result_ok}
 use Rattle.client_calls.specs.Seats.{at_seat, signer_seen}
-use Rattle.keymanager_api.proofs.RunLemmas.{at_most, ran_none}
 use Rattle.keymanager_api.proofs.ServeLemmas.{sends_later}
-use Rattle.proxy_api.specs.Listing.{upcheck_reply}
+use Rattle.proxy_api.specs.Listing.{upcheck_text}
 use Rattle.proxy_api.specs.Signing.{DoesWanted}
 use Rattle.proxy_api.specs.declared.route.Wanted.{Wanted}
+use Rattle.proxy_api.proofs.SendLemmas.{rest_later}
 use Rattle.proxy_api.proofs.serve.do_wanted.Goals as goal
 
 pub returns-in-Keys-clause-does : goal.returns-in-Keys-clause-does
@@ -44,12 +44,7 @@ returns-in-PublicKeys-clause-does g c = λ counted l.
 pub returns-in-Upcheck-clause-does : goal.returns-in-Upcheck-clause-does
 returns-in-Upcheck-clause-does g c = λ counted l.
     let shows = signer_seen g.S.Signer.told g.S.Signer.faults g.S.Signer.denials in
-    let end = c.finish-in-Upcheck in
     let seat = at_seat c.args.desk.now (shows c.args.signer.now) in
     let W : Wanted → Type 0 = λ w.
-    DoesWanted g.K.DeskCalls.leads c.args.genesis.now c.args.now c.args.request.now (Ok w) (g.L.Link.held c.args.link.now) (g.L.Link.held end.new.link) counted (g.L.Link.faults end.new.link) seat seat end.result in
-    subst W (sym c.in-Upcheck.is) (record {
-      reply = result_ok c.upcheck_reply.result;
-      ran = ran_none g.K.DeskCalls.leads g.met.K.DeskCalls.leads_none seat upcheck_reply (result_ok c.upcheck_reply.result) (at_most c.upcheck_reply.result upcheck_reply c.upcheck_reply.ensures);
-      sends = sends_later _ _ counted _ _ _ _ l end.ensures.sends;
-    })
+    DoesWanted g.K.DeskCalls.leads c.args.genesis.now c.args.now c.args.request.now (Ok w) (g.L.Link.held c.args.link.now) (g.L.Link.held c.say_serving.new.link) counted (g.L.Link.faults c.say_serving.new.link) seat seat c.say_serving.result in
+    subst W (sym c.in-Upcheck.is) (refl, rest_later _ _ counted _ _ 200 upcheck_text c.say_serving.result l c.say_serving.ensures.sends)

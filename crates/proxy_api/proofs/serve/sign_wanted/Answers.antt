@@ -2,7 +2,12 @@ use Rattle.std.proofs.Common.{◌≡◌, ℕ, List, [], Option, Bor, ap, ◌∙�
 use Rattle.std.specs.Prelude.{unwrap_or}
 use Rattle.client_calls.specs.Seats.{at_seat, signer_seen}
 use Rattle.sign_proxy.specs.Signing.{Answers}
+use Rattle.http_wire.specs.Parts.{parts_of}
+use Rattle.http_wire.specs.declared.field.Field.{Field}
+use Rattle.proxy_api.specs.Forms.{form_of}
 use Rattle.proxy_api.specs.Routes.{identifier_of}
+use Rattle.proxy_api.specs.Signing.{RepliesTo}
+use Rattle.proxy_api.specs.declared.form.Form.{Form}
 use Rattle.proxy_api.proofs.SendLemmas.{replies_later}
 use Rattle.proxy_api.proofs.WantedLemmas.{unwrapped}
 use Rattle.proxy_api.proofs.serve.sign_wanted.Goals as goal
@@ -16,9 +21,11 @@ returns-clause-does g c = λ counted l.
     let identifier : c.unwrap_or-identifier.result.now ≡ unwrap_or (identifier_of request.target.items) [] =
     ap (λ (b : Bor (List ℕ)). b.now) c.unwrap_or-identifier.ensures ∙ unwrapped c.identifier_of.result _ ∙ ap (λ (o : Option (List ℕ)). unwrap_or o []) (c.identifier_of.ensures ∙ ap identifier_of c.as_slice.ensures.value) in
     let A : List ℕ → List ℕ → Type 0 = λ i body. Answers g.K.DeskCalls.leads i c.args.genesis.now body c.args.now before middle c.sign_reply-ended.result in
+    let formed : c.form_of-form.result ≡ form_of (parts_of request.fields.items) = c.form_of-form.ensures ∙ ap (λ (fields : List Field). form_of (parts_of fields)) c.as_slice-form_of.ensures.value in
     record {
       ended = c.sign_reply-ended.result;
       middle = middle;
       answers = subst (λ (i : List ℕ). A i request.body.items) identifier (subst (λ (body : List ℕ). A c.unwrap_or-identifier.result.now body) c.as_slice-body.ensures.value c.sign_reply-ended.ensures.answers);
-      replies = replies_later g.K.DeskCalls.leads _ _ counted _ _ c.sign_reply-ended.result middle _ c.reply_signed.result l (c.reply_signed.ensures.replies (shows c.sign_reply-ended.new.signer));
+      replies = subst (λ (form : Form). RepliesTo form g.K.DeskCalls.leads _ _ counted _ c.sign_reply-ended.result middle _ c.reply_signed.result) formed
+      (replies_later _ g.K.DeskCalls.leads _ _ counted _ _ c.sign_reply-ended.result middle _ c.reply_signed.result l (c.reply_signed.ensures.replies (shows c.sign_reply-ended.new.signer)));
     }

@@ -1,8 +1,9 @@
+use Rattle.std.proofs.Common.{refl}
 use Rattle.sign_proxy.proofs.EndLemmas.{ends_dropped, ends_signature, unsigned_granted, unsigned_settles}
 use Rattle.sign_proxy.proofs.signing.end_signing.Goals as goal
 
 pub returns-in-Signed-clause-ends : goal.returns-in-Signed-clause-ends
-returns-in-Signed-clause-ends g c = λ s. ends_signature g.K.DeskCalls.leads _ _ c.args.grant c.in-Signed.signature c.args.reply _ c.in-Signed.is (c.end_signed.ensures.ends s)
+returns-in-Signed-clause-ends g c = λ s. ends_signature g.K.DeskCalls.leads _ _ c.args.grant c.in-Signed.signature c.args.reply _ c.in-Signed.is (refl, refl, refl)
 
 pub returns-in_default : goal.returns-in_default
 returns-in_default g c = record {
