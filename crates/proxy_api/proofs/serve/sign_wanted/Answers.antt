@@ -27,5 +27,5 @@ returns-clause-does g c = λ counted l.
       middle = middle;
       answers = subst (λ (i : List ℕ). A i request.body.items) identifier (subst (λ (body : List ℕ). A c.unwrap_or-identifier.result.now body) c.as_slice-body.ensures.value c.sign_reply-ended.ensures.answers);
       replies = subst (λ (form : Form). RepliesTo form g.K.DeskCalls.leads _ _ counted _ c.sign_reply-ended.result middle _ c.reply_signed.result) formed
-      (replies_later _ g.K.DeskCalls.leads _ _ counted _ _ c.sign_reply-ended.result middle _ c.reply_signed.result l (c.reply_signed.ensures.replies (shows c.sign_reply-ended.new.signer)));
+          (replies_later _ g.K.DeskCalls.leads _ _ counted _ _ c.sign_reply-ended.result middle _ c.reply_signed.result l (c.reply_signed.ensures.replies (shows c.sign_reply-ended.new.signer)));
     }
