@@ -56,7 +56,7 @@ impl Chain {
         ensures { result ≡ signing_domains self (said object.now) }
     {
         match (self, object) {
-            (Chain::AtGenesis(version), _) => { Domains::new(always(version, 0), Root([0; 32])) }
+            (Chain::AtGenesis(version), _) => Domains::new(always(version, 0), Root([0; 32])),
             (Chain::Named(domains), SigningObject::Plain(PlainObject::VoluntaryExit(_))) => {
                 exit_domains(domains)
             }
