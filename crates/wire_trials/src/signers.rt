@@ -8,8 +8,8 @@ use edge_kit::{MemLink, Root, Sig, hex_text};
 use phase0_blocks::VoluntaryExit;
 use phase0_types::Fork;
 use signer_link::{
-    BlockVersion, DeleteReply, ImportReply, PlainObject, PlainRequest, SignObject, SignReply,
-    SignRequest, Signer,
+    Aggregate, BlockVersion, DeleteReply, ImportReply, PlainObject, PlainRequest, SignObject,
+    SignReply, SignRequest, Signer,
 };
 use std::alloc::Global;
 use web3_signer::Web3Signer;
@@ -21,6 +21,13 @@ const FORK: Fork = Fork {
 };
 
 const GENESIS: Root = Root([3; 32]);
+
+/// The version at genesis of mainnet, for registrations.
+const AT_GENESIS: Fork = Fork {
+    previous_version: [0; 4],
+    current_version: [0; 4],
+    epoch: 0,
+};
 
 /// A Web3Signer over a link whose peer says this, and whose calls of these numbers fail.
 pub fn signer(alloc: Global, setting: &str, failing: &[u64]) -> Result<Web3Signer<MemLink>, Stop> {
@@ -53,7 +60,7 @@ fn header(alloc: Global, words: &str) -> Result<SignObject, Stop> {
 
 /// Another object that is signed.
 fn plain_object(alloc: Global, words: &str) -> Result<PlainObject, Stop> {
-    let (kind, _) = first_part(words, " ");
+    let (kind, rest) = first_part(words, " ");
     match (kind, numbers_in(alloc, words)?.as_slice()) {
         ("reveal", [epoch]) => Ok(PlainObject::RandaoReveal { epoch: *epoch }),
         ("aggregation", [slot]) => Ok(PlainObject::AggregationSlot { slot: *slot }),
@@ -74,7 +81,27 @@ fn plain_object(alloc: Global, words: &str) -> Result<PlainObject, Stop> {
         ("sync-contribution", [slot, aggregator_index]) => Ok(
             PlainObject::SyncCommitteeContributionAndProof(contribution(*slot, *aggregator_index)),
         ),
+        ("aggregate", _) => Ok(PlainObject::Aggregate(aggregate(alloc, rest)?)),
+        ("registration", _) => Ok(PlainObject::ValidatorRegistration(value_of(alloc, rest)?)),
         _ => Err(Stop::Unread),
+    }
+}
+
+/// An aggregate, before which its version may stand.
+fn aggregate(alloc: Global, words: &str) -> Result<Aggregate, Stop> {
+    if words.starts_with('{') {
+        return Ok(Aggregate::Unnamed(value_of(alloc, words)?));
+    }
+    let (name, json) = first_part(words, " ");
+    let Some(version) = BlockVersion::named(name) else {
+        return Err(Stop::Unread);
+    };
+    if version.is_from_electra() {
+        let aggregate = value_of(alloc, json)?;
+        Ok(Aggregate::FromElectra { version, aggregate })
+    } else {
+        let aggregate = value_of(alloc, json)?;
+        Ok(Aggregate::UpToDeneb { version, aggregate })
     }
 }
 
@@ -143,16 +170,26 @@ fn sign(alloc: Global, signer: &mut Web3Signer<MemLink>, words: &str) -> Result<
     sign_words(alloc, &reply)
 }
 
+/// The fork and the genesis root that another object is signed under.
+fn chain_of(object: &PlainObject) -> (Fork, Root) {
+    match object {
+        PlainObject::ValidatorRegistration(_) => (AT_GENESIS, Root([0; 32])),
+        _ => (FORK, GENESIS),
+    }
+}
+
 /// Asks for the signature of another object.
 fn sign_plain(
     alloc: Global,
     signer: &mut Web3Signer<MemLink>,
     words: &str,
 ) -> Result<String, Stop> {
+    let object = plain_object(alloc, words)?;
+    let (fork, genesis) = chain_of(&object);
     let request = PlainRequest {
-        fork: FORK,
-        genesis: GENESIS,
-        object: plain_object(alloc, words)?,
+        fork,
+        genesis,
+        object,
     };
     let reply = signer.sign_plain(&request, &PERMIT);
     sign_words(alloc, &reply)
