@@ -45,10 +45,10 @@ def free_port():
 class Proxy:
     """The program over a journal, at a port of its own; started again over the same journal it has the same port."""
 
-    def __init__(self, journal, keys=0, lanes=LANES, options=()):
-        self.journal, self.port = os.path.join(folder, journal), free_port()
+    def __init__(self, journal, keys=0, lanes=LANES, options=(), genesis=GENESIS):
+        self.journal, self.port, self.genesis = os.path.join(folder, journal), free_port(), genesis
         self.errors = self.journal + '.errors'
-        self.words = [program, 'proxy', '--genesis', GENESIS, '--genesis-time', str(int(time.time()) - 384 * 100), '--journal', self.journal, '--signer', 'http://127.0.0.1:%d' % service.port,
+        self.words = [program, 'proxy', '--genesis', genesis, '--genesis-time', str(int(time.time()) - 384 * 100), '--journal', self.journal, '--signer', 'http://127.0.0.1:%d' % service.port,
                       '--listen', '127.0.0.1:%d' % self.port, '--token', TOKEN, *([] if lanes is None else ['--lanes', str(lanes)]), *options]
         errors.append(self.errors)
         self.start()
@@ -61,7 +61,7 @@ class Proxy:
         children.append(self.child)
         for _ in range(600):
             reply = exchange(self.port, request('GET', '/upcheck'))
-            if reply and reply[0] == 200:
+            if reply == (200, b'OK'):
                 return
             if self.child.poll() is not None:
                 break
@@ -89,7 +89,7 @@ class Proxy:
 
     def kept(self):
         """What `show` says is kept of the journal: for each key the blocks and the votes."""
-        said = subprocess.run([program, 'show', '--genesis', GENESIS, '--journal', self.journal], capture_output=True, text=True)
+        said = subprocess.run([program, 'show', '--genesis', self.genesis, '--journal', self.journal], capture_output=True, text=True)
         if said.returncode:
             fault('show over the journal ends with %d: %s%s' % (said.returncode, said.stdout, said.stderr))
         return {words[0]: (int(words[3]), int(words[5])) for words in map(str.split, said.stdout.splitlines()) if len(words) > 5}
@@ -280,10 +280,14 @@ FORMS = [
     ('Teku', 'an upgrade to h2c offered, no Accept', 'Connection: Upgrade, HTTP2-Settings\r\n' + USUAL + 'HTTP2-Settings: AAEAAEAAAAIAAAABAAMAAABkAAQBAAAAAAUAAEAA\r\nUpgrade: h2c\r\nUser-Agent: Java-http-client/21\r\n', 'signingRoot', False),
     ('Prysm', 'no Accept, gzip accepted', USUAL + 'User-Agent: Go-http-client/1.1\r\nAccept-Encoding: gzip\r\n', 'signingRoot', False),
     ('Nimbus', 'keep-alive asked for', USUAL + 'Accept: application/json\r\nConnection: keep-alive\r\nUser-Agent: nimbus\r\n', 'signingRoot', True),
-    ('Lodestar', 'fields of fetch', LOWER + 'connection: keep-alive\r\naccept: */*\r\naccept-language: *\r\nsec-fetch-mode: cors\r\nuser-agent: node\r\naccept-encoding: gzip, deflate\r\n', 'signingRoot', False),
+    ('Lodestar', 'fields of fetch, JSON asked for', LOWER + 'connection: keep-alive\r\naccept: application/json\r\naccept-language: *\r\nsec-fetch-mode: cors\r\nuser-agent: node\r\naccept-encoding: gzip, deflate\r\n', 'signingRoot', True),
+    ('the API', 'fields of fetch, any form taken', LOWER + 'connection: keep-alive\r\naccept: */*\r\naccept-language: *\r\nsec-fetch-mode: cors\r\nuser-agent: node\r\naccept-encoding: gzip, deflate\r\n', 'signingRoot', False),
     ('the API', 'root by its other name', USUAL + 'Accept: application/json\r\n', 'signing_root', True),
     ('the API', 'no root, names in upper case', (USUAL + 'Accept: application/json\r\n').replace('Host', 'HOST').replace('Content-Type', 'CONTENT-TYPE').replace('Content-Length', 'CONTENT-LENGTH'), None, True),
     ('the API', 'text asked for', USUAL + 'Accept: text/plain\r\n', 'signingRoot', False),
+    ('the API', 'text or JSON asked for', USUAL + 'accept: text/plain, application/json\r\n', 'signingRoot', True),
+    ('the API', 'JSON asked for in another field', USUAL + 'Accept: text/plain\r\nACCEPT: application/json;q=0.5\r\n', 'signingRoot', True),
+    ('the API', 'JSON asked for in upper case', USUAL + 'Accept: APPLICATION/JSON\r\n', 'signingRoot', False),
     ('a gateway', 'a request of HTTP/1.0', USUAL + 'Connection: close\r\n', 'signingRoot', False),
     ('a gateway', 'in chunks', 'Host: {host}\r\nContent-Type: application/json; charset=utf-8\r\nTransfer-Encoding: chunked\r\nX-Forwarded-For: 10.0.0.1\r\n', 'signingRoot', False),
     ('a client that waits', 'Expect: 100-continue', USUAL + 'Expect: 100-continue\r\nAccept: application/json\r\n', 'signingRoot', True),
@@ -299,10 +303,19 @@ def plain_bodies(number_of_form):
         ('SYNC_COMMITTEE_CONTRIBUTION_AND_PROOF', 'contribution_and_proof', {'aggregator_index': '7', 'contribution': contribution, 'selection_proof': '0x' + 'cd' * 96}),
     ]
 
+def later_bodies(number_of_form):
+    """Aggregates of each container; a registration, whose fork, where one is named, is not looked at; and exits from Deneb on, of which some clients name the fork and some Capella's version twice."""
+    slot, epoch = 640 + number_of_form, 400_000 + number_of_form
+    aggregates = [aggregate_body(slot), *(aggregate_body(slot, version) for version in ('CAPELLA', 'DENEB', 'ELECTRA', 'FULU'))]
+    named = ({}, {'fork_info': None}, {'fork_info': fork_info(ELECTRA, OTHER_GENESIS)})[number_of_form % 3]
+    forks = DENEB, ELECTRA, {'previous_version': CAPELLA, 'current_version': CAPELLA, 'epoch': str(epoch)}
+    return [*aggregates, registration_body(1_764_563_955 + number_of_form, **named), *(exit_body(epoch, fork) for fork in forks)]
+
 def bodies_of(number_of_form):
-    """A vote, a block and one of each other type."""
+    """A vote, a block and some of each other type."""
     bodies = [vote_body(20 + number_of_form, 21 + number_of_form), block_body(640 + number_of_form)]
-    return bodies + [{'type': kind, 'fork_info': fork_info(), name: value} for kind, name, value in plain_bodies(number_of_form)]
+    bodies += [{'type': kind, 'fork_info': fork_info(), name: value} for kind, name, value in plain_bodies(number_of_form)]
+    return bodies + later_bodies(number_of_form)
 
 def sent_as(port, fields, body, version='1.1'):
     """Sends a request with these fields: the reply, and how many responses of status 100 came before it."""
@@ -320,56 +333,108 @@ def sent_as(port, fields, body, version='1.1'):
     except OSError:
         return None
 
+def form_in(reply, root):
+    """Whether a reply is the signature of the root, and in what form: its media type; None where it is not."""
+    if reply is None or reply[0] != 200:
+        return None
+    media, signature = re.search(rb'(?i)content-type: *([^\r]*)', reply[1])[1], signature_of(key(0), root)
+    texts = {b'application/json': json.dumps({'signature': signature}, separators=(',', ':')), b'text/plain; charset=utf-8': signature}
+    return media.decode() if texts.get(media) == reply[2].decode() else None
+
 def row_of_form(port, place, client, what, fields, root_name, asks_for_json):
     """Sends a request of each type in this form, and prints what came of it."""
-    came, kind = [], set()
-    for body in bodies_of(place):
+    came, bodies, wanted = [], bodies_of(place), 'application/json' if asks_for_json else 'text/plain; charset=utf-8'
+    for body in bodies:
         root = signing_root(body)
         reply = sent_as(port, fields, {**body, **({root_name: root} if root_name else {}), 'extra': [{'a': None}]}, '1.0' if 'HTTP/1.0' in what else '1.1')
-        is_right = reply is not None and reply[0] == 200 and json.loads(reply[2]) == {'signature': signature_of(key(0), root)}
-        kind |= set(re.findall(rb'(?i)content-type: *([^\r;]+)', reply[1])) if reply else set()
-        came.append(is_right)
-        if not is_right:
+        came.append(form_in(reply, root))
+        if came[-1] != wanted:
             fault('%s, %s: %s is answered %s' % (client, what, body['type'], reply))
-    note = '' if asks_for_json else '; Web3Signer answers text here'
-    print('| %s | %s | %d of %d | %s%s |' % (client, what, sum(came), len(came), b', '.join(kind).decode(), note), flush=True)
+    print('| %s | %s | %d of %d | %s |' % (client, what, sum(form is not None for form in came), len(came), ', '.join(sorted({str(form) for form in came}))), flush=True)
 
 def by_curl(port):
-    """By curl: a body above 1 MiB, for which curl waits to be asked, one in chunks, and one with an upgrade offered."""
-    for at, (what, words, more) in enumerate((('a body of 2 MiB', (), 2 << 20), ('in chunks', ('-H', 'Transfer-Encoding: chunked'), 0), ('an upgrade to h2c offered', ('--http2',), 0), ('HTTP/1.0', ('--http1.0',), 0))):
+    """By curl: a body above 1 MiB, for which curl waits to be asked, one in chunks, and one with an upgrade offered; and a reply in JSON."""
+    forms = (('a body of 2 MiB', (), 2 << 20), ('in chunks', ('-H', 'Transfer-Encoding: chunked'), 0), ('an upgrade to h2c offered', ('--http2',), 0), ('HTTP/1.0', ('--http1.0',), 0), ('JSON asked for', ('-H', 'Accept: application/json'), 0))
+    for at, (what, words, more) in enumerate(forms):
         body = {**vote_body(60 + at, 61 + at), 'extra': 'x' * more}
         path = os.path.join(folder, 'body')
         with open(path, 'w') as file:
             json.dump(body, file)
-        said = subprocess.run(['curl', '-sS', '-m', '20', '-w', ' %{http_code}', '-H', 'Content-Type: application/json', *words, '--data-binary', '@' + path, 'http://127.0.0.1:%d%s%s' % (port, SIGN, key(0))], capture_output=True, text=True)
-        is_right = said.stdout == json.dumps({'signature': signature_of(key(0), signing_root(body))}, separators=(',', ':')) + ' 200'
-        print('| curl | %s | %d of 1 | |' % (what, is_right))
+        said = subprocess.run(['curl', '-sS', '-m', '20', '-w', ' %{http_code} %{content_type}', '-H', 'Content-Type: application/json', *words, '--data-binary', '@' + path, 'http://127.0.0.1:%d%s%s' % (port, SIGN, key(0))], capture_output=True, text=True)
+        signature, form = signature_of(key(0), signing_root(body)), 'application/json' if 'JSON' in what else 'text/plain; charset=utf-8'
+        is_right = said.stdout == (json.dumps({'signature': signature}, separators=(',', ':')) if 'JSON' in what else signature) + ' 200 ' + form
+        print('| curl | %s | %d of 1 | %s |' % (what, is_right, form))
         if not is_right:
-            fault('curl, %s: %s %s' % (what, said.stdout[:200], said.stderr))
+            fault('curl, %s: %s %s' % (what, said.stdout[:400], said.stderr))
 
-def other_types(port):
-    """The types of Web3Signer's API that the proxy does not take, and an exit as Deneb and later forks have it (EIP-7044)."""
-    said = []
-    for kind in ('AGGREGATE_AND_PROOF', 'AGGREGATE_AND_PROOF_V2', 'VALIDATOR_REGISTRATION', 'DEPOSIT', 'BLOCK'):
-        said.append('%s %s' % (kind, word_of(exchange(port, sign_request(0, {'type': kind, 'fork_info': fork_info()})))))
-    exit_body = {'type': 'VOLUNTARY_EXIT', 'fork_info': fork_info(), 'voluntary_exit': {'epoch': '90', 'validator_index': '7'}}
-    exit_body['signingRoot'] = signing_root(exit_body, '0x03000000')
-    said.append('an exit under the version of Capella while the fork is a later one (EIP-7044): %s' % word_of(exchange(port, sign_request(0, exit_body))))
-    print('note: other types of the API: ' + '; '.join(said))
+def answers(port, cases, genesis):
+    """Sends requests in the usual form, and looks at the word of each reply: what it is of, the body, and the word."""
+    for what, body, wanted in cases:
+        word = word_of(exchange(port, sign_request(0, body)))
+        if word != wanted:
+            fault('%s, of the chain %s: %s is answered, wanted %s' % (what, genesis, word, wanted))
+    return len(cases)
+
+def named(body, version=None):
+    """The request with the root that is signed, or with that under this version."""
+    return {**body, 'signingRoot': signing_root(body, version)}
+
+def edges():
+    """Requests at the edges of what is taken, on mainnet."""
+    before, under = {**DENEB, 'epoch': str(DENEB_EPOCH - 1)}, '400 signing root differs'
+    return [
+        ('2048 bits of an aggregate without a name', named(aggregate_body(900, None, 2048)), '200'), ('2049 of them', aggregate_body(900, None, 2049), '400 bad member: aggregation_bits'),
+        ('2048 bits of one of Deneb', named(aggregate_body(900, 'DENEB', 2048)), '200'), ('2049 of them', aggregate_body(900, 'DENEB', 2049), '400 bad member: aggregation_bits'),
+        ('131072 bits of one of Electra', named(aggregate_body(900, 'ELECTRA', 131072)), '200'), ('131073 of them', aggregate_body(900, 'ELECTRA', 131073), '400 bad member: aggregation_bits'),
+        ('no bits of one of Fulu', named(aggregate_body(900, 'FULU', 0)), '200'), ('an aggregate of a fork that is not known', aggregate_body(900, 'GLOAS'), '400 bad member: version'),
+        ('an aggregate with the root under another version', named(aggregate_body(900, 'ELECTRA'), '0x06000000'), under),
+        ('a registration with the root under another version', named(registration_body(1), '0x05000000'), under),
+        ('an exit of Electra under Electra\'s version', named(exit_body(400_000, ELECTRA), '0x05000000'), under), ('an exit of the epoch before Deneb', named(exit_body(DENEB_EPOCH, before), '0x04000000'), '200'),
+        ('the same under Capella\'s version', named(exit_body(DENEB_EPOCH, before), CAPELLA), under), ('an exit of another chain', named(exit_body(9, FORK, OTHER_GENESIS)), '400 genesis differs'),
+        *((kind, {'type': kind, 'fork_info': fork_info()}, '400 bad member: type') for kind in ('DEPOSIT', 'BLOCK')),
+    ]
+
+def on_another_chain():
+    """What is signed, and refused, on a chain of which no version is known."""
+    electra = exit_body(400_000, ELECTRA, OTHER_GENESIS)
+    return [
+        ('a registration', named(registration_body(1)), '400 unknown network'), ('an exit of Electra under Electra\'s version', named(electra), '200'),
+        ('an exit of Electra under Capella\'s version', named(electra, CAPELLA), '400 signing root differs'),
+        ('an exit with Capella\'s version twice', named(exit_body(400_000, {**ELECTRA, 'previous_version': CAPELLA, 'current_version': CAPELLA}, OTHER_GENESIS)), '200'),
+    ]
+
+def look_at_noted():
+    """What reached the service: each request names the root of its object, a registration no fork and no chain, and an exit a fork under which its root is the same whether the service
+    goes by that fork or by the rule that exits keep Capella's version."""
+    noted, _ = service.take()
+    for target, text in noted:
+        body = json.loads(text)
+        if body['signingRoot'] != signing_root(body) or ('fork_info' in body) == (body['type'] == 'VALIDATOR_REGISTRATION') or ('fork_info' in body and body['signingRoot'] != signing_root(body, version_in_fork(body))):
+            fault('the service was asked for another root than that of the object, or under another chain: %s' % text)
+    return collections.Counter(json.loads(text)['type'] for _, text in noted)
 
 def scene_forms():
-    proxy = Proxy('forms', STORM_KEYS)
+    proxy, other = Proxy('forms', STORM_KEYS), Proxy('other-chain', 1, genesis=OTHER_GENESIS)
+    service.take()
+    service.set(notes=True)
     print('| client | request | signed | reply |\n|---|---|---|---|')
     for place, form in enumerate(FORMS):
         row_of_form(proxy.port, place, *form)
     if shutil.which('curl'):
         by_curl(proxy.port)
     print('note: Vouch speaks to Dirk, by another protocol, and so to no service of this API; the forms are those that the others are known to send')
-    other_types(proxy.port)
-    listed = exchange(proxy.port, request('GET', KEYS))
-    if not listed or listed[0] != 200 or json.loads(listed[1]) != [key(n) for n in range(STORM_KEYS)]:
-        fault('the keys are listed so: %s' % (listed,))
+    print('%d requests at the edges of what is taken, and %d on a chain that is not known' % (answers(proxy.port, edges(), 'mainnet'), answers(other.port, on_another_chain(), OTHER_GENESIS)))
+    print('what reached the service: ' + ', '.join('%d %s' % (count, kind) for kind, count in sorted(look_at_noted().items())))
+    service.set(notes=False)
+    for target, wanted in ((KEYS, [key(n) for n in range(STORM_KEYS)]), ('/upcheck', None)):
+        for accept in ('', 'Accept: text/plain\r\n', 'Accept: application/json\r\n'):
+            with connected(proxy.port, 10) as link:
+                link.sendall(('GET %s HTTP/1.1\r\nHost: 127.0.0.1\r\n%s\r\n' % (target, accept)).encode())
+                reply = read_reply(link)
+            if reply is None or reply[0] != 200 or (json.loads(reply[2]) != wanted if wanted else reply[2] != b'OK') or (b'text/plain; charset=utf-8' if wanted is None else b'application/json') not in reply[1]:
+                fault('GET %s with %r is answered so: %s' % (target, accept, reply))
     proxy.stop()
+    other.stop()
 
 # ---- peers that hang
 

@@ -2,8 +2,14 @@
 what of all that was signed is slashable, each by the public rules only."""
 import bisect, collections, hashlib, heapq, itertools, json, multiprocessing, pickle, random, re, select, socket, time
 
-GENESIS, ZERO, TOKEN = '0x' + '5a' * 32, '0x' + '00' * 32, 'a-token-of-36-characters-0123456789'
+# The root of mainnet's genesis validators, and of another chain's, of which no version is known.
+GENESIS, OTHER_GENESIS = '0x4b363db94e286120d76eb905340fdd4e54bfe9f06bf33ff6cf5ad27f511bfe95', '0x' + '5a' * 32
+ZERO, TOKEN = '0x' + '00' * 32, 'a-token-of-36-characters-0123456789'
 FORK = {'previous_version': '0x04000000', 'current_version': '0x05000000', 'epoch': '10'}
+# Forks of mainnet (consensus-specs, configs), and the epoch from which on exits keep Capella's version (EIP-7044).
+CAPELLA, DENEB_EPOCH = '0x03000000', 269568
+DENEB = {'previous_version': CAPELLA, 'current_version': '0x04000000', 'epoch': str(DENEB_EPOCH)}
+ELECTRA = {'previous_version': '0x04000000', 'current_version': '0x05000000', 'epoch': '364032'}
 SIGN, KEYSTORES, KEYS = '/api/v1/eth2/sign/', '/eth/v1/keystores', '/api/v1/eth2/publicKeys'
 forked = multiprocessing.get_context('fork')
 
@@ -34,9 +40,17 @@ def number(text):
 def octets(text):
     return bytes.fromhex(text[2:])
 
-def root_of_signature(text):
+def vector(text):
+    """The root of so many bytes as the text has."""
     held = octets(text)
-    return merkle([held[:32], held[32:64], held[64:]])
+    return merkle([held[at:at + 32].ljust(32, b'\0') for at in range(0, len(held), 32)])
+
+def bits(text, limit):
+    """The root of a list of at most so many bits, which the last bit that is set ends."""
+    held = int.from_bytes(octets(text), 'little')
+    count = held.bit_length() - 1
+    held = (held ^ 1 << count).to_bytes(limit // 8, 'little')
+    return sha(merkle([held[at:at + 32] for at in range(0, len(held), 32)]) + count.to_bytes(32, 'little'))
 
 def root_of_checkpoint(point):
     return merkle([number(point['epoch']), octets(point['root'])])
@@ -49,8 +63,20 @@ def root_of_header(header):
 
 def root_of_contribution(it):
     inner = it['contribution']
-    root = merkle([number(inner['slot']), octets(inner['beacon_block_root']), number(inner['subcommittee_index']), octets(inner['aggregation_bits']).ljust(32, b'\0'), root_of_signature(inner['signature'])])
-    return merkle([number(it['aggregator_index']), root, root_of_signature(it['selection_proof'])])
+    root = merkle([number(inner['slot']), octets(inner['beacon_block_root']), number(inner['subcommittee_index']), octets(inner['aggregation_bits']).ljust(32, b'\0'), vector(inner['signature'])])
+    return merkle([number(it['aggregator_index']), root, vector(it['selection_proof'])])
+
+def root_of_aggregate(it):
+    """Of the forks up to Deneb, or from Electra on, which has committee bits."""
+    inner, is_electra = it['aggregate'], 'committee_bits' in it['aggregate']
+    root = merkle([bits(inner['aggregation_bits'], 131072 if is_electra else 2048), root_of_vote(inner['data']), vector(inner['signature'])] + ([vector(inner['committee_bits'])] if is_electra else []))
+    return merkle([number(it['aggregator_index']), root, vector(it['selection_proof'])])
+
+def root_of_registration(it):
+    return merkle([vector(it['fee_recipient']), number(it['gas_limit']), number(it['timestamp']), vector(it['pubkey'])])
+
+def epoch_of_aggregate(it):
+    return int(it['aggregate']['data']['slot']) // 32
 
 # Of each type: its domain, the object's root, and its epoch.
 OBJECTS = {
@@ -63,20 +89,35 @@ OBJECTS = {
     'SYNC_COMMITTEE_SELECTION_PROOF': (8, lambda body: merkle([number(body['sync_aggregator_selection_data'][name]) for name in ('slot', 'subcommittee_index')]),
                                        lambda body: int(body['sync_aggregator_selection_data']['slot']) // 32),
     'SYNC_COMMITTEE_CONTRIBUTION_AND_PROOF': (9, lambda body: root_of_contribution(body['contribution_and_proof']), lambda body: int(body['contribution_and_proof']['contribution']['slot']) // 32),
+    'AGGREGATE_AND_PROOF': (6, lambda body: root_of_aggregate(body['aggregate_and_proof']), lambda body: epoch_of_aggregate(body['aggregate_and_proof'])),
+    'AGGREGATE_AND_PROOF_V2': (6, lambda body: root_of_aggregate(body['aggregate_and_proof']['data']), lambda body: epoch_of_aggregate(body['aggregate_and_proof']['data'])),
+    'VALIDATOR_REGISTRATION': (1 << 24, lambda body: root_of_registration(body['validator_registration']), lambda body: 0),
 }
 
-def signing_root(body, version=None):
-    """What is signed for a request: the object's root under the domain of its type, its epoch and its fork, or of this version."""
-    kind, root, epoch = OBJECTS[body['type']]
+def version_in_fork(body):
+    """The version of the epoch of a request's object in the request's fork."""
     fork = body['fork_info']['fork']
-    version = version or fork['previous_version' if epoch(body) < int(fork['epoch']) else 'current_version']
-    data = sha(octets(version).ljust(32, b'\0') + octets(body['fork_info']['genesis_validators_root']))
-    return '0x' + sha(root(body) + bytes([kind, 0, 0, 0]) + data[:28]).hex()
+    return fork['previous_version' if OBJECTS[body['type']][2](body) < int(fork['epoch']) else 'current_version']
+
+def chain_of(body):
+    """The version and the genesis root that a request's object is signed under on mainnet: of a registration that at genesis and zeros, of an exit Capella's from Deneb's fork on."""
+    if body['type'] == 'VALIDATOR_REGISTRATION':
+        return '0x00000000', ZERO
+    genesis = body['fork_info']['genesis_validators_root']
+    keeps_capella = body['type'] == 'VOLUNTARY_EXIT' and genesis == GENESIS and int(body['fork_info']['fork']['epoch']) >= DENEB_EPOCH
+    return CAPELLA if keeps_capella else version_in_fork(body), genesis
+
+def signing_root(body, version=None):
+    """What is signed for a request: the object's root under the domain of its type and of its chain, or of this version."""
+    kind, root, _ = OBJECTS[body['type']]
+    own, genesis = chain_of(body)
+    data = sha(octets(version or own).ljust(32, b'\0') + octets(genesis))
+    return '0x' + sha(root(body) + kind.to_bytes(4, 'little') + data[:28]).hex()
 
 # ---- requests
 
-def fork_info():
-    return {'fork': FORK, 'genesis_validators_root': GENESIS}
+def fork_info(fork=FORK, genesis=GENESIS):
+    return {'fork': fork, 'genesis_validators_root': genesis}
 
 def vote_body(source, target, variant=0):
     return {'type': 'ATTESTATION', 'fork_info': fork_info(), 'attestation': {
@@ -85,6 +126,28 @@ def vote_body(source, target, variant=0):
 def block_body(slot, variant=0):
     return {'type': 'BLOCK_V2', 'fork_info': fork_info(), 'beacon_block': {'version': 'DENEB', 'block_header': {
         'slot': str(slot), 'proposer_index': '7', 'parent_root': ZERO, 'state_root': '0x%064x' % (variant + 1), 'body_root': ZERO}}}
+
+def bit_list(count):
+    """So many bits as the JSON of a list has them, of which every third is on, and the last."""
+    on = sum(1 << at for at in {*range(0, count, 3), count - 1}) if count else 0
+    return '0x' + (on | 1 << count).to_bytes(count // 8 + 1, 'little').hex()
+
+def aggregate(slot, count, is_electra):
+    data = {'slot': str(slot), 'index': '0' if is_electra else '3', 'beacon_block_root': '0x' + '22' * 32, 'source': {'epoch': str(slot // 32 - 1), 'root': ZERO}, 'target': {'epoch': str(slot // 32), 'root': '0x' + '44' * 32}}
+    inner = {'aggregation_bits': bit_list(count), 'data': data, 'signature': '0x' + 'ab' * 96, **({'committee_bits': '0x0300000000000080'} if is_electra else {})}
+    return {'aggregator_index': '7', 'aggregate': inner, 'selection_proof': '0x' + 'cd' * 96}
+
+def aggregate_body(slot, version=None, count=130):
+    """An aggregate, with the name of its fork or without it."""
+    given = aggregate(slot, count, version in ('ELECTRA', 'FULU'))
+    kind, given = ('AGGREGATE_AND_PROOF_V2', {'version': version, 'data': given}) if version else ('AGGREGATE_AND_PROOF', given)
+    return {'type': kind, 'fork_info': fork_info(), 'aggregate_and_proof': given}
+
+def registration_body(timestamp, **more):
+    return {'type': 'VALIDATOR_REGISTRATION', **more, 'validator_registration': {'fee_recipient': '0x' + 'fe' * 20, 'gas_limit': '36000000', 'timestamp': str(timestamp), 'pubkey': key(0)}}
+
+def exit_body(epoch, fork, genesis=GENESIS):
+    return {'type': 'VOLUNTARY_EXIT', 'fork_info': fork_info(fork, genesis), 'voluntary_exit': {'epoch': str(epoch), 'validator_index': '7'}}
 
 def request(method, target, body=None, more=''):
     text = b'' if body is None else body if isinstance(body, bytes) else json.dumps(body).encode()
