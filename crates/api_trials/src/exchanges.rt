@@ -45,7 +45,7 @@ pub(crate) fn heard(alloc: Global, arguments: &str, stage: &mut Stage) -> Outcom
     with_read(alloc, read.as_str(), words)
 }
 
-/// What became of a connection, behind how much was read of it.
+/// What became of a connection, after how much was read of it.
 fn with_read(alloc: Global, read: &str, words: Option<String>) -> Outcome {
     match words {
         Some(words) => Ok(Some(format!(in alloc; "{read}, {words}")?)),
