@@ -222,7 +222,7 @@ def few_files(name):
     wrong += ['lost without a cause: %s' % lost] if lost and not any(re.fullmatch((at(node) if told != 'unsigned fault' else at(signer)) + lacks, line) for line in run.lines() for told in lost.values()) else []
     return wrong + (found[1:] if found[:1] == [FILES] else ['files that were open: %s' % found])
 
-FILES = 7
+FILES = 8
 
 def refused_early(name):
     """A request without the token and with a body of 16 MB is refused before its body is sent, and the refusal is not lost."""

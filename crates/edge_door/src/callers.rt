@@ -4,11 +4,11 @@
 #[derive(Clone, Copy, PartialEq, Eq, Debug)]
 pub enum Callers {
     /// Key managers, whose requests are rare and have no hurry. One loop takes a connection, serves it and hands it back
-    /// before it takes the next. Each request bears the token.
+    /// before it takes the next. Each request needs the token.
     KeyManagers,
     /// Validator clients, and key managers as well. Many lanes take turns at the door: one hands the connection back that it
     /// served before and takes the next, which it serves while others take their turns. A request for a signature, for the
-    /// keys, or whether anyone is there bears no token.
+    /// keys, or whether anyone is there needs no token.
     ValidatorClients,
 }
 
@@ -22,7 +22,7 @@ impl Callers {
         }
     }
 
-    /// How many connections leave at most. There are up to 64 lanes.
+    /// How many connections leave at most: where validator clients call, one a lane, of which there are 64 at most.
     pub(crate) fn leaving_places(self) -> usize {
         match self {
             Callers::KeyManagers => 8,
@@ -30,7 +30,7 @@ impl Callers {
         }
     }
 
-    /// For how many microseconds the door waits after a look that found something, or the first of a turn, before it looks again
+    /// For how many microseconds the door naps after a look that found something, or the first of a turn, before it looks again
     /// whether a connection came, more of one came in or can be sent, or its halt was raised.
     pub(crate) fn first_look(self) -> u64 {
         match self {
@@ -39,13 +39,22 @@ impl Callers {
         }
     }
 
-    /// For how many microseconds it waits the next time, where it waited for so many and then found nothing. A signature that
-    /// is wanted waits for a look, and it is worth less the later it comes: so where validator clients call, the waits grow
-    /// slowly, and requests that follow each other are seen soon. The request of a key manager has time.
+    /// For how many microseconds it naps the next time, after it napped for this many and found nothing. A signature that is
+    /// wanted waits for a look, and it is worth less the later it comes: so where validator clients call, the naps grow slowly,
+    /// and requests that follow each other are seen soon. The request of a key manager has time.
     pub(crate) fn later_look(self, microseconds: u64) -> u64 {
         match self {
             Callers::KeyManagers => microseconds.saturating_mul(2).min(50_000),
             Callers::ValidatorClients => microseconds.saturating_add(microseconds / 8).min(2_000),
+        }
+    }
+
+    /// For how many microseconds it waits at most in place of a nap of this many, where the system ends the wait once there is
+    /// something to do: only a halt, and the time of a connection that is over, are seen as late as that.
+    pub(crate) fn longest_wait(self, microseconds: u64) -> u64 {
+        match self {
+            Callers::KeyManagers => microseconds,
+            Callers::ValidatorClients => microseconds.saturating_mul(10),
         }
     }
 

@@ -51,7 +51,7 @@ impl ChunkScan {
     }
 }
 
-// The next chunk, where the body may have so many bytes more.
+// The next chunk, where the body may have that many bytes more.
 fn next_chunk(rest: &[u8], room: u64) -> Found {
     match parse_chunk_size(first_line(front_of(rest))) {
         Ok(Status::Complete((line, 0))) => last_chunk(rest.get(line..).unwrap_or(&[])),
@@ -61,7 +61,7 @@ fn next_chunk(rest: &[u8], room: u64) -> Found {
     }
 }
 
-// A chunk of so many bytes after a line of so many.
+// A chunk of this size, after a line of that many bytes.
 fn sized_chunk(rest: &[u8], line: usize, size: u64) -> Found {
     let Ok(count) = usize::try_from(size) else {
         return Found::End;

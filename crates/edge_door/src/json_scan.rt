@@ -58,7 +58,7 @@ impl JsonScan {
         }
     }
 
-    // From now on another message is followed.
+    // Follows another message from now on.
     pub(crate) fn begin(&mut self) {
         self.head = 0;
         self.depth = 0;

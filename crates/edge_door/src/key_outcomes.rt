@@ -228,7 +228,8 @@ impl KeyOutcomes {
         Ok(self.keys.push(KeyDigits(digits))?)
     }
 
-    // Takes one piece more of the reply, and reports each key of which it says what became of it, and of its message so much.
+    // Takes one piece more of the reply, and reports each key of which it says what became of it, and as much of its
+    // message as is told.
     pub(crate) fn answer<E: Eprint>(
         &mut self,
         handle: &E,

@@ -134,8 +134,8 @@ impl<S: Read + Write + OpenStream + Drop> Exit<S> {
         let _ = self.leaving.push(leaving);
     }
 
-    /// Sends what the system takes at once, and reads what has come in. Says whether it did anything. Whoever has nothing more
-    /// to send or to read leaves no longer.
+    /// Sends what the system takes at once, and reads what has come in. Says whether it did anything, or ended one. Whoever has
+    /// nothing more to send or to read leaves no longer.
     pub(crate) fn work<C: Eprint + Clock>(&mut self, handle: &C) -> bool {
         let mut has_worked = false;
         'leaving: for leaving in self.leaving.iter_mut() {
@@ -192,7 +192,7 @@ impl<S: Read + Write + OpenStream + Drop> Leaving<S> {
         matches!(self.stage, Stage::Over)
     }
 
-    // Does what can be done now, and says whether that was anything.
+    // Does what can be done now, and says whether that was anything, or ended it.
     fn work<C: Eprint + Clock>(&mut self, handle: &C) -> bool {
         match self.stage {
             Stage::Sends(span) => self.send(handle, span),
@@ -201,7 +201,7 @@ impl<S: Read + Write + OpenStream + Drop> Leaving<S> {
         }
     }
 
-    // Sends what the system takes at once, and says whether that was anything.
+    // Sends what the system takes at once, and says whether that was anything, or ended it.
     fn send<C: Eprint + Clock>(&mut self, handle: &C, span: Span) -> bool {
         let Ok(count) = self.rest.send(&mut self.stream) else {
             self.stage = Stage::Over;
@@ -215,7 +215,7 @@ impl<S: Read + Write + OpenStream + Drop> Leaving<S> {
             self.report(handle);
             self.stage = Stage::Over;
         }
-        count > 0
+        count > 0 || self.is_over()
     }
 
     // Says to the peer that nothing further comes.
@@ -226,7 +226,7 @@ impl<S: Read + Write + OpenStream + Drop> Leaving<S> {
         Ok(Stage::Reads { whole, silence })
     }
 
-    // Reads what has come in, and says whether that was anything.
+    // Reads what has come in, and says whether that was anything, or ended it.
     fn read<C: Clock>(&mut self, clock: &C, whole: Allowance, silence: Allowance) -> bool {
         let mut piece = [0; PIECE_BYTES];
         let has_come = match self.stream.read(&mut piece) {
@@ -238,7 +238,7 @@ impl<S: Read + Write + OpenStream + Drop> Leaving<S> {
             Ok(_) => true,
         };
         self.stage = read_on(clock, whole, silence, has_come).unwrap_or(Stage::Over);
-        has_come
+        has_come || self.is_over()
     }
 
     // Reports that the reply was not taken in its time.

@@ -15,6 +15,7 @@ mod rest;
 mod tcp_conn;
 mod tcp_door;
 mod waiting;
+mod wakes;
 
 pub use callers::Callers;
 pub use tcp_conn::TcpConn;

@@ -3,6 +3,7 @@ use crate::callers::Callers;
 use crate::leaving::{Exit, Leaving};
 use crate::tcp_conn::{LIMIT_SECONDS, READ_SECONDS};
 use crate::waiting::{Look, Room, Waiting};
+use crate::wakes::Wakes;
 use edge_clock::Halt;
 use edge_sockets::Address;
 use std::alloc::Global;
@@ -42,8 +43,11 @@ const NOT_SUPPORTED: i32 = 95;
 /// The system's number for a connection that its firewall forbids.
 const FORBIDDEN: i32 = 1;
 
-/// The connections of a door at an address that are not being served, each of which goes on beside the others. Where it is
+/// The connections of a door at an address that are not being served, each of which goes on next to the others. Where it is
 /// dropped, what is left of the replies is sent first.
+///
+/// It looks at all of them, and waits where it finds nothing to do. What happens at one of them, or at the listener, ends the
+/// wait, so each look goes on until nothing more can be done. Where something is left that may be done later, it only naps.
 ///
 /// Where key managers call, the times of all begin anew with each turn at the door, since one loop serves what it takes before
 /// it comes back. Where validator clients do, turns follow each other, and a peer that sends a byte now and then is not to have
@@ -56,6 +60,7 @@ pub(crate) struct Lobby<'a, N: Net + Eprint + Clock + Drop> {
     halt: &'a Halt,
     room: Room<N::Stream>,
     exit: Exit<N::Stream>,
+    wakes: Wakes,
     /// Who calls at the door.
     pub callers: Callers,
     /// When the connections were looked at last.
@@ -82,6 +87,7 @@ impl<'a, N: Net + Eprint + Clock + Drop> Lobby<'a, N> {
             halt,
             room: Room::new(alloc),
             exit: Exit::new(alloc),
+            wakes: Wakes::new(alloc),
             callers: Callers::KeyManagers,
             looked: None,
             is_barred: false,
@@ -102,9 +108,10 @@ impl<'a, N: Net + Eprint + Clock + Drop> Lobby<'a, N> {
     }
 
     // A listener at the address, whose `accept` does not wait.
-    pub(crate) fn bind(&self) -> io::Result<N::Listener> {
+    pub(crate) fn bind(&mut self) -> io::Result<N::Listener> {
         let listener = TcpListener::bind(&self.handle, (self.host.as_str(), self.port))?;
         listener.set_nonblocking(true)?;
+        self.wakes.begin(&self.handle, &listener);
         Ok(listener)
     }
 
@@ -151,7 +158,7 @@ impl<'a, N: Net + Eprint + Clock + Drop> Lobby<'a, N> {
                     }
                 }
                 Look::More => nap = self.callers.first_look(),
-                _ => nap = self.look_later(nap),
+                found => nap = self.look_later(found, nap),
             }
         }
         Ok(None)
@@ -175,13 +182,13 @@ impl<'a, N: Net + Eprint + Clock + Drop> Lobby<'a, N> {
             if self.may_pass_on() {
                 return;
             }
-            let found = self.look(listener).unwrap_or(Look::Nothing);
+            let found = self.look(listener).unwrap_or(Look::Barred);
             if matches!(found, Look::Ready(_)) && self.exit.has_place(self.callers) {
                 return;
             }
             nap = match found {
                 Look::More => self.callers.first_look(),
-                _ => self.look_later(nap),
+                found => self.look_later(found, nap),
             };
         }
     }
@@ -211,7 +218,7 @@ impl<'a, N: Net + Eprint + Clock + Drop> Lobby<'a, N> {
             nap = if self.exit.work(&self.handle) {
                 self.callers.first_look()
             } else {
-                self.look_later(nap)
+                self.look_later(Look::Nothing, nap)
             };
         }
     }
@@ -224,6 +231,7 @@ impl<'a, N: Net + Eprint + Clock + Drop> Lobby<'a, N> {
         let token = self.token.as_str();
         match self.room.look(&self.handle, self.callers, token) {
             Look::Nothing if has_left || has_come => Ok(Look::More),
+            Look::Nothing if self.is_barred => Ok(Look::Barred),
             found => Ok(found),
         }
     }
@@ -250,9 +258,7 @@ impl<'a, N: Net + Eprint + Clock + Drop> Lobby<'a, N> {
         match listener.accept() {
             Ok((stream, _)) => {
                 self.is_barred = false;
-                let limit = Duration::from_secs(LIMIT_SECONDS);
-                let silent = Duration::from_secs(READ_SECONDS);
-                self.room.admit(&self.handle, stream, limit, silent);
+                self.let_wait(stream);
                 Ok(true)
             }
             Err(error) if error.kind() == ErrorKind::WouldBlock => {
@@ -268,9 +274,24 @@ impl<'a, N: Net + Eprint + Clock + Drop> Lobby<'a, N> {
         }
     }
 
-    // Waits for that many microseconds, and gives for how many to wait the next time.
-    fn look_later(&self, microseconds: u64) -> u64 {
-        thread::sleep(&self.handle, Duration::from_micros(microseconds));
+    // Lets a connection wait that was accepted, and watches it from before the first look at it.
+    fn let_wait(&mut self, stream: N::Stream) {
+        self.wakes.watch(&stream);
+        let limit = Duration::from_secs(LIMIT_SECONDS);
+        let silent = Duration::from_secs(READ_SECONDS);
+        self.room.admit(&self.handle, stream, limit, silent);
+    }
+
+    // Waits after a look that has found this, where nothing is left to do until something happens, and else naps for that many
+    // microseconds. Gives for how many to nap the next time.
+    fn look_later(&mut self, found: Look, microseconds: u64) -> u64 {
+        let nap = Duration::from_micros(microseconds);
+        if matches!(found, Look::Nothing) {
+            let longest = Duration::from_micros(self.callers.longest_wait(microseconds));
+            self.wakes.wait(&self.handle, nap, longest);
+        } else {
+            thread::sleep(&self.handle, nap);
+        }
         self.callers.later_look(microseconds)
     }
 
@@ -305,6 +326,7 @@ impl<N: Net + Eprint + Clock + Drop> Drop for Lobby<'_, N> {
             halt: _halt,
             room: _room,
             exit: _exit,
+            wakes: _wakes,
             callers: _callers,
             looked: _looked,
             is_barred: _is_barred,

@@ -34,7 +34,7 @@ const SIGN: &[u8] = b"POST /api/v1/eth2/sign/";
 enum Framing {
     /// There is none.
     Unsaid,
-    /// It has so many bytes (RFC 9112, `Content-Length`).
+    /// It has that many bytes (RFC 9112, `Content-Length`).
     Sized(u64),
     /// It comes in chunks (RFC 9112, `Transfer-Encoding`).
     Chunked,
@@ -47,7 +47,7 @@ enum Framing {
 enum Entry {
     /// Nobody: it is refused for one of them.
     Nobody,
-    /// Whoever bears the token.
+    /// Whoever has the token.
     Bearers,
     /// Anyone.
     Anyone,
@@ -60,7 +60,7 @@ struct Front {
     end: usize,
     /// Who is let in with its method and its target.
     entry: Entry,
-    /// Whether the token that it bears is the one that is wanted, if it bears any.
+    /// Whether the token that it has is the one that is wanted, if it has any.
     fits: Option<bool>,
     /// It says that its sender waits to be asked for the body (RFC 9110, `Expect`).
     waits: bool,
@@ -112,7 +112,7 @@ impl Coming {
     }
 
     /// Whether the request, of which this has come in, is to be served now: it is whole, or what is missing decides nothing,
-    /// since what has come in is no request, or its head does not bear this token where it is to, has a method or a target that
+    /// since what has come in is no request, or its head does not have this token where it needs it, has a method or a target that
     /// is refused where these call, or announces no body that is read. It is called ready only where who serves it needs no
     /// byte more to answer it (`http_wire`, `keymanager_routes`, `proxy_api`), since then nothing more of it is waited for. How
     /// it is answered is judged there, by itself.

@@ -33,7 +33,7 @@ impl Rest {
         self.left().is_empty()
     }
 
-    // From now on this piece is to be sent as well. Where memory is wanted for it, it is not.
+    // Adds a piece to what is to be sent. Where memory is wanted for it, it is not added.
     pub(crate) fn keep(&mut self, piece: &[u8]) -> Result<(), AllocError> {
         if self.is_empty() {
             self.bytes.clear();

@@ -22,12 +22,12 @@ use std::rt::Clock;
 /// files, that is reported once, and the door tries again until it can. Once its halt is raised `accept` waits for no
 /// connection: no further one comes, and no peer is asked for a body.
 ///
-/// Some connections wait beside each other until their requests have come in, so that a slow peer bars no other: the first
-/// whose request is there is given first, and nothing more of it is waited for. One whose head does not bear the token is given
-/// once that head is there. A peer that bears it and sends its body only once it is asked to (RFC 9110, `Expect`) is asked as
+/// Some connections wait next to each other until their requests have come in, so that a slow peer bars no other: the first
+/// whose request is there is given first, and nothing more of it is waited for. One whose head does not have the token is given
+/// once that head is there. A peer that has it and sends its body only once it is asked to (RFC 9110, `Expect`) is asked as
 /// soon as its head is there, and waits like others.
 ///
-/// A connection that was taken back leaves beside the others: what is left of its reply is sent as its peer takes it, and
+/// A connection that was taken back leaves next to the others: what is left of its reply is sent as its peer takes it, and
 /// then what the peer still sends is read and dropped, for 2 seconds at most and until it is silent for half a second, so
 /// that the system does not take the reply back. A reply that was begun is sent within its time whatever ends the door. Where a
 /// connection is known to be the last that is accepted, or the halt is raised, `finish` goes on until none leaves any more.
@@ -39,11 +39,15 @@ use std::rt::Clock;
 ///
 /// Where validator clients call, lanes take turns at the door, each of which hands a connection back and takes the next, and
 /// several are served at a time. Then a request for a signature, for the keys, or whether anyone is there, needs no token, and
-/// is given once it is whole. 256 wait at most, 64 leave, and a request is seen within 2 milliseconds. `finish` waits for none
-/// that leaves, unless there is no place for one more: `accept` goes on with them. What is left of a reply was sent by `hang_up`,
-/// and a connection whose peer has ended it, or was silent for half a second since, leaves at the next look. A time goes on from
-/// turn to turn, so that none of a peer that is slow begins anew. Only what passes while no lane is at the door does not count,
-/// and what has come in until then is read before a request is given up, so that no request that is there whole is lost.
+/// is given once it is whole. 256 wait at most, and 64 leave. `finish` waits for none that leaves, unless there is no place for
+/// one more: `accept` goes on with them. What is left of a reply was sent by `hang_up`, and a connection whose peer has ended
+/// it, or was silent for half a second since, leaves at the next look. A time goes on from turn to turn, so that none of a peer
+/// that is slow begins anew. Only what passes while no lane is at the door does not count, and what has come in until then is
+/// read before a request is given up, so that no request that is there whole is lost.
+///
+/// The system ends the wait of a door (`epoll`) once something happens at its listener or at a connection. A wait lasts 20
+/// milliseconds at most where validator clients call, and 50 where key managers do, and a halt is seen after it. Where the
+/// system does not watch all of them, the door looks by itself, each 2 milliseconds at least, or each 50.
 #[derive(Drop)]
 pub struct TcpDoor<'a, N: Net + Eprint + Clock + Drop> {
     alloc: Global,
@@ -56,7 +60,7 @@ pub struct TcpDoor<'a, N: Net + Eprint + Clock + Drop> {
 }
 
 impl<'a, N: Net + Eprint + Clock + Drop> TcpDoor<'a, N> {
-    /// A door that doesn't listen yet, and that accepts nothing once this halt is raised. Requests are to bear this token.
+    /// A door that doesn't listen yet, and that accepts nothing once this halt is raised. This is the token that requests need.
     pub fn new(
         alloc: Global,
         handle: N,
@@ -77,8 +81,8 @@ impl<'a, N: Net + Eprint + Clock + Drop> TcpDoor<'a, N> {
         }
     }
 
-    /// From now on connections that are accepted make these reports. That a request changes something, and that a key is
-    /// taken in or given up, is no fault.
+    /// Sets which reports are made by connections that are accepted from now on. That a request changes something, and that a
+    /// key is taken in or given up, is no fault.
     pub fn set_reports(&mut self, reports: Reports)
         ensures reports { self.new.reports ≡ reports }
         ensures faults { self.new.faults ≡ self.old.faults }
@@ -86,7 +90,7 @@ impl<'a, N: Net + Eprint + Clock + Drop> TcpDoor<'a, N> {
         self.reports = reports;
     }
 
-    /// From now on these call. That is to be set before the first `accept`.
+    /// Sets who calls at the door, which is to be done before the first `accept`.
     pub fn set_callers(&mut self, callers: Callers)
         ensures callers { self.new.lobby.callers ≡ callers }
         ensures faults { self.new.faults ≡ self.old.faults }
@@ -94,7 +98,7 @@ impl<'a, N: Net + Eprint + Clock + Drop> TcpDoor<'a, N> {
         self.lobby.callers = callers;
     }
 
-    /// From now on the last of that many connections is known to be the last that is accepted.
+    /// Sets how many connections are still to be accepted, so that the last of them is known as such.
     pub fn set_count(&mut self, count: u64)
         ensures left { self.new.left ≡ count }
         ensures faults { self.new.faults ≡ self.old.faults }

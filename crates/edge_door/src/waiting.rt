@@ -70,8 +70,10 @@ pub(crate) enum Look {
     Ready(usize),
     /// More of something has come in, or has left.
     More,
-    /// Nothing can be done now.
+    /// Nothing can be done before something happens at a connection or at the listener, or a time is over.
     Nothing,
+    /// Something could not be done, and may be later, though nothing happens at a connection or at the listener.
+    Barred,
 }
 
 /// Connections whose requests are coming in.
@@ -95,8 +97,8 @@ impl<S: Read + Write + OpenStream + Drop> Room<S> {
         self.waiting.len() < callers.waiting_places()
     }
 
-    /// Lets a connection wait whose request may last so long from now on, and be silent so long. Where the system does not
-    /// let it, or memory is wanted, the connection is ended.
+    /// Lets a connection wait whose request may last that long from now on, and which may be silent that long. Where the system
+    /// does not let it, or memory is wanted, the connection is ended.
     pub(crate) fn admit<C: Clock>(
         &mut self,
         clock: &C,
