@@ -54,6 +54,6 @@ abbrev pub by_open : List ℕ → Request → Option (List ℕ × Wanted) → Re
 by_open token r None = of_keys (action_for token r)
 by_open token r (Some o) = by_method o.0 o.1 r
 
--- what a request wants, where a key manager's bears this token
+-- what a request wants, where a key manager's needs this token
 abbrev pub wanted_for : List ℕ → Request → Result Wanted Refusal
 wanted_for token r = by_path token r (path_of r.target.items)

@@ -52,7 +52,7 @@ abbrev pub SendsSigned : Option (List ℕ) → Option (List ℕ) → ℕ → ℕ
 SendsSigned held_before held_now faults_before faults_now said true s = SentBegun held_before held_now faults_before faults_now said s
 SendsSigned held_before held_now faults_before faults_now said false s = SentAs held_before held_now faults_before faults_now memory_reply s
 
--- a grant is settled as sent exactly where the reply with its signature was begun
+-- a grant is settled as sent where the reply with its signature was begun, and else as dropped
 abbrev pub outcome_of : Bool → Outcome
 outcome_of true = outcome.Sent
 outcome_of false = outcome.Dropped

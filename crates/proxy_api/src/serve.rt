@@ -32,8 +32,8 @@ use std::alloc::{AllocError, Global};
 /// `/upcheck` says `OK`, as a text, to anyone. Another method at one of these three is refused with status 405. Any other
 /// request is one of the Keymanager API, answered as `keymanager_api::answer` does where this token is wanted.
 ///
-/// Where memory runs out, in reading, in what is done or in writing, the reply is status 503, from a constant text; in what is
-/// done the first few calls are done then, each whole, and the grant of a signature is settled as dropped.
+/// Where memory runs out, in reading, in what is done or in writing, the reply is status 503, from a constant text. The first
+/// few of the calls to be made are done then, each whole, and the grant of a signature is settled as dropped.
 pub fn sign_connection<L: Link, K: DeskCalls, S: Signer>(
     alloc: Global,
     link: &mut L,

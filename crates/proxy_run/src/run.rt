@@ -46,7 +46,7 @@ pub struct ProxyEnd<D, S, R> {
 /// `eth2/sign`), for the active keys (`eth2/publicKeys`) and whether the proxy serves (`upcheck`), and those of the
 /// Keymanager API.
 ///
-/// The status is `Done` where as many connections were served, or no connection comes any more. With a line that closes the
+/// The status is `Done` where as many connections were served as the options have, or no connection comes any more. With a line that closes the
 /// output it is `GenesisDiffers` where the journal has another root than the options, `Damaged` and
 /// `InputTooLong(Limit::Keys)` where the journal is not opened, `DiskFault` only where a disk's count of faults rose, and
 /// `DoorFault` only where the door's did. `WriteFault` comes only where the output's count rose, and `OutOfMemory` where

@@ -31,7 +31,7 @@ pub enum SignEnd {
 
 /// Answers a request for a signature by the key that a target's identifier names, at an epoch, for the chain with this root of its
 /// genesis validators (Web3Signer API, `eth2/sign`). The request is read by `read_signing_request`. Of a block or a vote the desk is
-/// asked whether it may be signed, and keeps it before it is; of anything else it is asked for leave. Only then the signer
+/// asked whether it may be signed, and keeps it before it is signed; of anything else it is asked for leave. Only then the signer
 /// is asked, under the grant. Without a signature the grant is settled as dropped. The epoch is at most the desk's limit of
 /// moments.
 ///
@@ -200,7 +200,7 @@ fn sign_plain<K: DeskCalls, S: Signer>(
     end_signing(alloc, reply, grant, desk)
 }
 
-/// Ends what the signer answered so.
+/// Ends a request by the signer's answer under its grant.
 fn end_signing<K: DeskCalls>(alloc: Global, reply: SignReply, grant: Grant, desk: &mut K) -> SignEnd
     requires ready { K.ready desk.old }
     requires settles { MaySettle (λ c. K.allows desk.old c) (DeskReply.Granted grant) }

@@ -25,8 +25,8 @@ pub enum SigningMember {
     Attestation,
     /// The object with the block or its header.
     BeaconBlock,
-    /// The fork whose container a whole block is: `PHASE0`. Next to a header every name is taken. The fork whose container an
-    /// aggregate is, of those up to `FULU`.
+    /// The name of a fork: of a whole block `PHASE0`, next to a header of a block any name, and next to an aggregate one of
+    /// those from `PHASE0` to `FULU`.
     Version,
     /// The whole block (consensus-specs, `BeaconBlock`).
     Block,

@@ -14,7 +14,7 @@ use crate::member::{SigningMember, member_of};
 use crate::objects::object_in;
 use crate::refusal::{SigningRefusal, SigningStop};
 use crate::request::{SigningObject, SigningRequest};
-use crate::texts::{key_of, object_of, root_of};
+use crate::texts::{key_of, named_root_of, object_of};
 use edge_kit::{PubKey, Root};
 use json_members::{bytes_in, json_of};
 use phase0_types::{Fork, Shaped};
@@ -26,13 +26,14 @@ use std::alloc::Global;
 /// that fails, in this order: that the identifier is a key; that the body is a JSON object in UTF-8, and of its members
 /// `type`, `fork_info` with `fork` and `genesis_validators_root`, the object of that type, and `signingRoot` or, where that is
 /// absent, `signing_root`, which both may be absent; that the request is of this chain; and that the root which it names is the
-/// one that is signed under the fork that it names. Of a `beacon_block` with a `block_header` no `block` is looked at, and every `version` is
-/// taken: one that is absent or unknown counts as the newest that is known. Members that the type does not name are ignored.
+/// one that is signed. A member that is null is there, and cannot be read. Of a `beacon_block` with a `block_header` no `block`
+/// is looked at, and every `version` is taken: one that is absent or unknown counts as the newest that is known. Members that
+/// the type does not name are ignored.
 ///
 /// An exit whose fork is Deneb's or a later one is signed under Capella's version (EIP-7044), and a registration, of which no
 /// `fork_info` is looked at, under the version at genesis and a genesis root of zeros (builder-specs): both where the chain is
 /// mainnet, Hoodi or Sepolia. On other chains an exit is signed under the fork that the request names, and a registration is
-/// refused.
+/// refused as `UnknownNetwork`, in the place of the check of `fork_info`.
 ///
 /// # Errors
 ///
@@ -72,7 +73,7 @@ fn read_members(
     let kind = type_of(value)?;
     let chain = chain_for(alloc, kind, genesis, value)?;
     let object = object_in(alloc, kind, value)?;
-    match root_of(value) {
+    match named_root_of(value) {
         Ok(named) => checked(genesis, key, chain, object, named),
         Err(refusal) => Err(SigningStop::Refused(refusal)),
     }

@@ -32,7 +32,7 @@ pub(crate) fn object_of(
 }
 
 /// The root that a body names, if it names one.
-pub(crate) fn root_of(value: &Value) -> Result<Option<Root>, SigningRefusal>
+pub(crate) fn named_root_of(value: &Value) -> Result<Option<Root>, SigningRefusal>
     ensures { result ≡ root_at (view value.now) }
 {
     match (value.get("signingRoot"), value.get("signing_root")) {
