@@ -1,2 +1,1 @@
-pub mod NetworkLemmas
 pub mod ObjectLemmas
