@@ -21,7 +21,7 @@ returns-clause-does g c = λ counted l.
     let identifier : c.unwrap_or-identifier.result.now ≡ unwrap_or (identifier_of request.target.items) [] =
     ap (λ (b : Bor (List ℕ)). b.now) c.unwrap_or-identifier.ensures ∙ unwrapped c.identifier_of.result _ ∙ ap (λ (o : Option (List ℕ)). unwrap_or o []) (c.identifier_of.ensures ∙ ap identifier_of c.as_slice.ensures.value) in
     let A : List ℕ → List ℕ → Type 0 = λ i body. Answers g.K.DeskCalls.leads i c.args.genesis.now body c.args.now before middle c.sign_reply-ended.result in
-    let formed : c.form_of-form.result ≡ form_of (parts_of request.fields.items) = c.form_of-form.ensures ∙ ap (λ (fields : List Field). form_of (parts_of fields)) c.as_slice-form_of.ensures.value in
+    let formed : c.form_of-form.result ≡ form_of (parts_of request.fields.items) = c.form_of-form.ensures ∙ ap (λ (fields : List Field). form_of (parts_of fields)) c.as_slice-2.ensures.value in
     record {
       ended = c.sign_reply-ended.result;
       middle = middle;
