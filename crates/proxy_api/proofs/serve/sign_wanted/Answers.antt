@@ -22,10 +22,11 @@ returns-clause-does g c = λ counted l.
     ap (λ (b : Bor (List ℕ)). b.now) c.unwrap_or-identifier.ensures ∙ unwrapped c.identifier_of.result _ ∙ ap (λ (o : Option (List ℕ)). unwrap_or o []) (c.identifier_of.ensures ∙ ap identifier_of c.as_slice.ensures.value) in
     let A : List ℕ → List ℕ → Type 0 = λ i body. Answers g.K.DeskCalls.leads i c.args.genesis.now body c.args.now before middle c.sign_reply-ended.result in
     let formed : c.form_of-form.result ≡ form_of (parts_of request.fields.items) = c.form_of-form.ensures ∙ ap (λ (fields : List Field). form_of (parts_of fields)) c.as_slice-2.ensures.value in
+    let R : Form → Type 0 = λ form. RepliesTo form g.K.DeskCalls.leads (g.L.Link.held c.args.link.now) (g.L.Link.held c.reply_signed.new.link) counted (g.L.Link.faults c.reply_signed.new.link) c.sign_reply-ended.result middle
+        (at_seat c.reply_signed.new.desk (shows c.sign_reply-ended.new.signer)) c.reply_signed.result in
     record {
       ended = c.sign_reply-ended.result;
       middle = middle;
       answers = subst (λ (i : List ℕ). A i request.body.items) identifier (subst (λ (body : List ℕ). A c.unwrap_or-identifier.result.now body) c.as_slice-body.ensures.value c.sign_reply-ended.ensures.answers);
-      replies = subst (λ (form : Form). RepliesTo form g.K.DeskCalls.leads _ _ counted _ c.sign_reply-ended.result middle _ c.reply_signed.result) formed
-          (replies_later _ g.K.DeskCalls.leads _ _ counted _ _ c.sign_reply-ended.result middle _ c.reply_signed.result l (c.reply_signed.ensures.replies (shows c.sign_reply-ended.new.signer)));
+      replies = subst R formed (replies_later _ g.K.DeskCalls.leads _ _ counted _ _ c.sign_reply-ended.result middle _ c.reply_signed.result l (c.reply_signed.ensures.replies (shows c.sign_reply-ended.new.signer)));
     }
