@@ -23,7 +23,7 @@ returns-clause-does g c = λ counted l.
     let A : List ℕ → List ℕ → Type 0 = λ i body. Answers g.K.DeskCalls.leads i c.args.genesis.now body c.args.now before middle c.sign_reply-ended.result in
     let formed : c.form_of-form.result ≡ form_of (parts_of request.fields.items) = c.form_of-form.ensures ∙ ap (λ (fields : List Field). form_of (parts_of fields)) c.as_slice-2.ensures.value in
     let R : Form → Type 0 = λ form. RepliesTo form g.K.DeskCalls.leads (g.L.Link.held c.args.link.now) (g.L.Link.held c.reply_signed.new.link) counted (g.L.Link.faults c.reply_signed.new.link) c.sign_reply-ended.result middle
-        (at_seat c.reply_signed.new.desk (shows c.sign_reply-ended.new.signer)) c.reply_signed.result in
+    (at_seat c.reply_signed.new.desk (shows c.sign_reply-ended.new.signer)) c.reply_signed.result in
     record {
       ended = c.sign_reply-ended.result;
       middle = middle;
