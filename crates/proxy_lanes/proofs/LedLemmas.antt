@@ -14,7 +14,7 @@ use Rattle.keymanager_api.specs.Serving.{LinkSeen}
 use Rattle.keymanager_api.specs.Visits.{asks_failed}
 use Rattle.keymanager_api.specs.declared.serve.Served.{Served}
 use Rattle.sign_proxy.specs.Plans.{SigningResult, WithReply, WithSignature, WithoutMemory}
-use Rattle.sign_proxy.specs.Signing.{Answers, Ends, EndsWith, drop_of, reads, unread}
+use Rattle.sign_proxy.specs.Signing.{Answers, Ends, EndsWith, reads, unread}
 use Rattle.sign_proxy.specs.declared.signing.SignEnd.{SignEnd}
 use Rattle.sign_proxy.specs.declared.signing.SignEnd.TheVariants as ending
 use Rattle.door_lanes.specs.Lanes.{Visit, Visits}
@@ -50,7 +50,7 @@ module _ {K : Type 0} (leads : K → List (DeskCall × DeskReply) → K → Type
   ends_with_led (WithReply x) m b ending.OutOfMemory h = same m b h
   ends_with_led (WithReply x) m b (ending.Signed given grant) h = absurd h
   ends_with_led (WithSignature signature g) m b (ending.Refused given) h = absurd h
-  ends_with_led (WithSignature signature g) m b ending.OutOfMemory h = (step_calls (drop_of g), h.desk)
+  ends_with_led (WithSignature signature g) m b ending.OutOfMemory h = absurd h
   ends_with_led (WithSignature signature g) m b (ending.Signed given grant) h = same m b h.2
   ends_with_led WithoutMemory m b (ending.Refused given) h = absurd h
   ends_with_led WithoutMemory m b ending.OutOfMemory h = same m b h

@@ -14,7 +14,7 @@ use Rattle.keymanager_api.specs.Serving.{LinkSeen}
 use Rattle.keymanager_api.specs.Visits.{asks_failed}
 use Rattle.keymanager_api.specs.declared.serve.Served.{Served}
 use Rattle.sign_proxy.specs.Plans.{SigningResult, WithReply, WithSignature, WithoutMemory, signing_plan}
-use Rattle.sign_proxy.specs.Signing.{Answers, Ends, EndsWith, drop_of, reads, unread}
+use Rattle.sign_proxy.specs.Signing.{Answers, Ends, EndsWith, reads, unread}
 use Rattle.sign_proxy.specs.declared.signing.SignEnd.{SignEnd}
 use Rattle.sign_proxy.specs.declared.signing.SignEnd.TheVariants as ending
 use Rattle.proxy_api.specs.Attending.{Attends, Terms}
@@ -51,7 +51,7 @@ module _ {K : Type 0} (leads : K → List (DeskCall × DeskReply) → K → Type
   ends_with_seen (WithReply x) m b ending.OutOfMemory h = ap (λ (s : Seat K). V s) h
   ends_with_seen (WithReply x) m b (ending.Signed given grant) h = absurd h
   ends_with_seen (WithSignature signature g) m b (ending.Refused given) h = absurd h
-  ends_with_seen (WithSignature signature g) m b ending.OutOfMemory h = does_seen m b (drop_of g) h
+  ends_with_seen (WithSignature signature g) m b ending.OutOfMemory h = absurd h
   ends_with_seen (WithSignature signature g) m b (ending.Signed given grant) h = (h.0, h.1, ap (λ (s : Seat K). V s) h.2)
   ends_with_seen WithoutMemory m b (ending.Refused given) h = absurd h
   ends_with_seen WithoutMemory m b ending.OutOfMemory h = ap (λ (s : Seat K). V s) h
