@@ -37,11 +37,9 @@ use Rattle.world_law.specs.Clients.{RunsFrom, state_over, messages_in}
 use Rattle.serve_world.specs.SessionRunning.{LeftBy}
 use Rattle.serve_world.specs.Starting.{Show}
 use Rattle.serve_world.specs.Stopping.{StopsIn, StopsBehind}
-use Rattle.serve_world.proofs.ListLemmas.{runs_both, over_both}
-use Rattle.serve_world.proofs.SessionRunLemmas.{further, idle}
-use Rattle.serve_world.proofs.SessionStarts.{starts_again, starts_keep}
-use Rattle.serve_world.proofs.SessionStops.{NoStop, past_stays}
-use Rattle.serve_world.proofs.WholeLemmas.{whole_over}
+use Rattle.serve_world.proofs.BehindLemmas.{begun_stands, begun_up, begun_whole, goes_behind, opening_stays}
+use Rattle.serve_world.proofs.SessionRunLemmas.{idle}
+use Rattle.serve_world.proofs.SessionStarts.{starts_keep}
 use Rattle.program_end.specs.declared.closing.ClosingLine.{ClosingLine}
 use Rattle.program_end.specs.declared.closing.ClosingLine.TheVariants as closing
 use Rattle.program_end.specs.declared.status.Status.{Status}
@@ -270,14 +268,9 @@ module _ {D C : Type 0} (moment : D → ℕ) (leaves : D → ℕ → List ℕ �
         → (x : Serviced moment leaves faults see clock options before now noted ended client past files stop disks_before disks_now)
         × Opening shows moment leaves faults disks_before options.genesis options.watch x.epoch x.opened
     serviced before nodes starts has shown is_shown epoch_is had =
-        let opened = had.opened in
-        let closed = had.ended in
         let genesis = options.genesis in
-        let stands : DeskStands opened.contents state =
-        starts_again shows moment leaves faults disks_before genesis options.watch epoch opened had.opening client (no_state genesis) past files refl visible stop in
-        let runs : RunsFrom (no_state genesis) front = stop.runs epoch options.watch in
-        let L : Moments → Files → Disks D → Type 0 = λ k c d. LeftAt leaves d k c in
-        let path = path_of opened closed had.ends in (
+        let stands = begun_stands shows moment leaves faults genesis options.watch epoch disks_before disks_now noted Came had client past files visible stop left in
+        let path = path_of had.opened had.ended had.ends in (
           record {
             start = start;
             nodes = nodes;
@@ -288,35 +281,20 @@ module _ {D C : Type 0} (moment : D → ℕ) (leaves : D → ℕ → List ℕ �
             is_shown = is_shown;
             epoch = epoch;
             epoch_is = epoch_is;
-            opened = opened;
-            closed = closed;
+            opened = had.opened;
+            closed = had.ended;
             begins = stands;
-            whole = whole_over genesis front runs;
-            up = ap (λ (s : State). s.torn) (over_both (no_state genesis) stop.front (Crash client stop.within stop.done epoch options.watch ∷ []));
+            whole = begun_whole genesis options.watch epoch client past files stop;
+            up = begun_up genesis options.watch epoch client past files stop;
             noted_is = had.desk.noted;
             last_is = had.desk.disks;
             came = had.ends;
-            told = tell opened closed had.ends;
+            told = tell had.opened had.ended had.ends;
             behind = λ acts tells.
-                let a = acted opened closed had.ends acts tells stands in
-                let E : State → Type 0 = λ z. DeskStands closed.contents z in
-                record {
-                  at_client = a.go.at_client;
-                  runs = runs_both (no_state genesis) front (done_in acts) runs a.go.runs;
-                  posts = a.posts;
-                  stands = subst E (sym (over_both (no_state genesis) front (done_in acts))) a.go.stands;
-                  stops = λ over rest here both path_over path_rest k c during l.
-                      let end = subst (L k c) had.desk.disks l in
-                      let N : List (Act Event) → Type 0 = λ m. NoStop (done_in m) in
-                      let R : List (Act Event) → Type 0 = λ m. RunsFrom state (done_in m) in
-                      let stopped = acts_stop moment leaves faults client opened here closed over rest (subst N both a.go.calm) state (subst R both a.go.runs) stands had.opening.left path_over path_rest k c during end in
-                      let G : Root → Type 0 = λ g. StopsBehind g client state (done_in over) (done_in (over ++ rest)) c in
-                      let M : List (Act Event) → Type 0 = λ m. StopsBehind genesis client state (done_in over) (done_in m) c in
-                      further genesis client (no_state genesis) front (done_in over) (done_in acts) c runs (subst M (sym both) (subst G had.opening.opened.genesis_is stopped));
-                };
-            opening = λ k low high c l.
-                let here = past_stays moment leaves faults client opened closed path.0 path.1 state stands k c high (subst (L k c) had.desk.disks l) in
-                starts_keep shows moment leaves disks_before (disks_in opened) genesis had.opening.moments client (no_state genesis) past left files visible stop k c low high here;
+                let a = acted had.opened had.ended had.ends acts tells stands in
+                goes_behind shows moment leaves faults genesis options.watch epoch disks_before disks_now noted Came had client past files visible stop left acts
+                (posted_of moment leaves faults see clock options start had.opened had.ended equipped now ended had.ends) a.go a.posts;
+            opening = opening_stays shows moment leaves faults genesis options.watch epoch disks_before disks_now noted Came had client past files visible stop left path.0 path.1;
           },
           had.opening,
         )

@@ -1,5 +1,5 @@
 -- That what all clients did is a run of the world, which the handover law speaks of.
-use Rattle.std.proofs.Common.{◌≡◌, ⊎_elim, ℕ, zero, suc, List, [], ◌∷◌, ◌++◌, Option, Some, None, sym, ◌∙◌, subst, append-nil}
+use Rattle.std.proofs.Common.{◌≡◌, ⊎_elim, ℕ, zero, suc, false, List, [], ◌∷◌, ◌++◌, Option, Some, None, sym, ◌∙◌, subst, append-nil}
 use Rattle.edge_kit.specs.declared.bytes.PubKey.{PubKey}
 use Rattle.edge_kit.specs.declared.bytes.Root.{Root}
 use Rattle.slash_defs.specs.declared.message.Message.{Message}
@@ -20,7 +20,7 @@ use Rattle.world_law.specs.Clients.{RunsFrom, own}
 use Rattle.world_law.proofs.ApartLemmas.{runs_apart, sends_all}
 use Rattle.world_law.proofs.EventLemmas.{quiet_while_closed, safe_overall}
 use Rattle.keymanager_api.specs.Serving.{LinkSeen}
-use Rattle.serve_world.specs.Lives.{CommandRun, HasLived, HasLivedSoFar, Headline, IsGrant, IsLeave, Lived, MayPass, PassesExactly, ServiceRun, SessionRun}
+use Rattle.client_world.specs.Lives.{CommandRun, HasLived, HasLivedSoFar, Headline, IsGrant, IsLeave, Lived, MayPass, PassesExactly, ProxyRun, ServiceRun, SessionRun}
 use Rattle.serve_world.specs.Running.{restarted}
 use Rattle.serve_world.specs.Weaving.{done_in}
 
@@ -85,11 +85,21 @@ module _ {D C : Type 0} (moment : D → ℕ) (leaves : D → ℕ → List ℕ �
       let G : Root → Type 0 = λ g. RunsFrom (no_state g) done in
       subst P (sym r.are) (subst G r.chain (r.serviced.behind r.acts r.tell).runs)
 
+  proxy_may : (genesis : Root) (client : ℕ) (past events : List Event) → ProxyRun {D = D} {C = C} moment leaves faults see genesis client past events → RunsFrom (no_state genesis) events
+  proxy_may genesis client past events r =
+      let done = restarted r.options.genesis client past r.files r.stop r.proxied.epoch false ++ done_in r.acts in
+      let P : List Event → Type 0 = λ l. RunsFrom (no_state genesis) l in
+      let G : Root → Type 0 = λ g. RunsFrom (no_state g) done in
+      subst P (sym r.are) (subst G r.chain (r.proxied.behind r.acts r.tell).runs)
+
   lived_may : (genesis : Root) (client n : ℕ) (events : List Event) → Lived {D = D} {C = C} moment leaves faults see genesis client n events → RunsFrom (no_state genesis) events
   lived_may genesis client zero events none = let P : List Event → Type 0 = λ l. RunsFrom (no_state genesis) l in subst P (sym none) tt
   lived_may genesis client (suc n) events lived = ⊎_elim
       (λ session. session_may genesis client lived.0 events session)
-      (λ others. ⊎_elim (λ command. command_may genesis client lived.0 events command) (λ service. service_may genesis client lived.0 events service) others)
+      (λ others. ⊎_elim
+      (λ command. command_may genesis client lived.0 events command)
+      (λ servers. ⊎_elim (λ service. service_may genesis client lived.0 events service) (λ proxy. proxy_may genesis client lived.0 events proxy) servers)
+      others)
       lived.2
 
   so_far_may : (genesis : Root) (client : ℕ) (events : List Event) → HasLivedSoFar {D = D} {C = C} moment leaves faults see genesis client events → RunsFrom (no_state genesis) events

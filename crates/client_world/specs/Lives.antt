@@ -32,8 +32,14 @@ use Rattle.keymanager_api.specs.Serving.{LinkSeen}
 use Rattle.command_line.specs.declared.serve_options.ServeOptions.{ServeOptions}
 use Rattle.program_end.specs.declared.status.Status.{Status}
 use Rattle.serve_run.specs.Clients.{Parts}
+use Rattle.command_line.specs.declared.proxy_options.ProxyOptions.{ProxyOptions}
+use Rattle.client_calls.specs.Seats.{SignerSeen}
+use Rattle.proxy_run.specs.Ends.{ProxyEnds}
+use Rattle.proxy_run.specs.Parts.{Parts as ProxyParts}
 use Rattle.serve_world.specs.Running.{Serviced, TellsOf, Unstarted, restarted}
 use Rattle.serve_world.specs.Weaving.{Act, done_in}
+use Rattle.client_world.specs.Acts.{AreProxyActs}
+use Rattle.client_world.specs.Running.{Proxied, Unproxied}
 
 module _ {D C : Type 0} (moment : D → ℕ) (leaves : D → ℕ → List ℕ → Type 0) (faults : D → ℕ) (see : C → LinkSeen) (genesis : Root) (client : ℕ) where
   -- after a stop of what a client had done, a session was served
@@ -79,10 +85,29 @@ module _ {D C : Type 0} (moment : D → ℕ) (leaves : D → ℕ → List ℕ �
     pub tell : TellsOf moment leaves faults see clock options serviced.start serviced.opened serviced.closed serviced.equipped now ended client serviced.came acts
     pub are : events ≡ restarted options.genesis client past files stop serviced.epoch options.watch ++ done_in acts
 
+  -- the signing proxy ran
+  pub record ProxyRun (past events : List Event) : Type 0 where
+    pub clock : Option ℕ
+    pub options : ProxyOptions
+    pub chain : options.genesis ≡ genesis
+    pub signer : SignerSeen
+    pub before : ProxyParts C
+    pub now : ProxyParts C
+    pub noted : List DeskEvent
+    pub ended : Status
+    pub files : Files
+    pub stop : StopsIn options.genesis client (no_state options.genesis) past files
+    pub first : Disks D
+    pub last : Disks D
+    pub proxied : Proxied moment leaves faults see clock options signer before now noted ended client past files stop first last
+    pub acts : List (Act Event)
+    pub tell : AreProxyActs client proxied.serves acts
+    pub are : events ≡ restarted options.genesis client past files stop proxied.epoch false ++ done_in acts
+
   -- so many runs of the program were made, one after a stop of the other, and this is what the client did in all of them, up to the stops
   abbrev pub Lived : ℕ → List Event → Type 0
   Lived zero events = events ≡ []
-  Lived (suc n) events = (past : List Event) × Lived n past × (SessionRun past events ⊎ CommandRun past events ⊎ ServiceRun past events)
+  Lived (suc n) events = (past : List Event) × Lived n past × (SessionRun past events ⊎ CommandRun past events ⊎ ServiceRun past events ⊎ ProxyRun past events)
 
   abbrev pub HasLived : List Event → Type 0
   HasLived events = (n : ℕ) × Lived n events
@@ -164,3 +189,15 @@ ServiceLivesOn {D} {C} shows moment leaves faults see = (clock : Option ℕ) (op
     × Opening shows moment leaves faults disks_before options.genesis options.watch x.epoch x.opened
     × ((acts : List (Act Event)) → TellsOf moment leaves faults see clock options x.start x.opened x.closed x.equipped (now flags) ended client x.came acts
     → HasLived {D = D} {C = C} moment leaves faults see options.genesis client (restarted options.genesis client past files stop x.epoch options.watch ++ done_in acts)))
+
+-- and of the signing proxy: whatever acts tell what it did
+abbrev pub ProxyLivesOn : {D C : Type 0} → (D → List ℕ → Type 0) → (D → ℕ) → (D → ℕ → List ℕ → Type 0) → (D → ℕ) → (C → LinkSeen) → Type 0
+ProxyLivesOn {D} {C} shows moment leaves faults see = (clock : Option ℕ) (options : ProxyOptions) (signer : SignerSeen) (disks_before disks_now : Disks D) (before now : ProxyParts C) (noted : List DeskEvent) (ended : Status)
+    → ProxyEnds shows moment leaves faults see clock options signer disks_before disks_now before now noted ended
+    → (client : ℕ) (past : List Event) (files : Files) → Show shows disks_before files → (stop : StopsIn options.genesis client (no_state options.genesis) past files) → LeftBy leaves options.genesis client past disks_before (now_of moment disks_before)
+    → HasLived {D = D} {C = C} moment leaves faults see options.genesis client past
+    → Unproxied moment leaves options.genesis options signer client past before now noted ended disks_before disks_now
+    ⊎ ((x : Proxied moment leaves faults see clock options signer before now noted ended client past files stop disks_before disks_now)
+    × Opening shows moment leaves faults disks_before options.genesis false x.epoch x.opened
+    × ((acts : List (Act Event)) → AreProxyActs client x.serves acts
+    → HasLived {D = D} {C = C} moment leaves faults see options.genesis client (restarted options.genesis client past files stop x.epoch false ++ done_in acts)))

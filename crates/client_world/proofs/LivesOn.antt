@@ -2,8 +2,9 @@
 use Rattle.std.proofs.Common.{inl, inr, ⊎_elim, ℕ, suc, List, refl}
 use Rattle.keymanager_api.specs.Serving.{LinkSeen}
 use Rattle.serve_world.proofs.SessionRunLemmas.{command_goes_on, run_goes_on}
-use Rattle.serve_world.specs.Lives.{CommandLivesOn, ServiceLivesOn, SessionLivesOn}
+use Rattle.client_world.specs.Lives.{CommandLivesOn, ProxyLivesOn, ServiceLivesOn, SessionLivesOn}
 use Rattle.serve_world.proofs.ServiceLemmas.{service_goes_on}
+use Rattle.client_world.proofs.ProxyRunLemmas.{proxy_goes_on}
 
 module _ {D C : Type 0} (shows : D → List ℕ → Type 0) (moment : D → ℕ) (leaves : D → ℕ → List ℕ → Type 0) (faults : D → ℕ) (see : C → LinkSeen) where
   pub session_lives : SessionLivesOn {D = D} {C = C} shows moment leaves faults see
@@ -53,7 +54,7 @@ module _ {D C : Type 0} (shows : D → List ℕ → Type 0) (moment : D → ℕ)
           (
             past,
             lived.1,
-            inr (inr (record {
+            inr (inr (inl (record {
               clock = clock;
               options = options;
               chain = refl;
@@ -69,8 +70,42 @@ module _ {D C : Type 0} (shows : D → List ℕ → Type 0) (moment : D → ℕ)
               acts = acts;
               tell = tell;
               are = refl;
-            })),
+            }))),
           ),
         ),
       ))
       (service_goes_on moment leaves faults see shows clock options disks_before disks_now before now noted ended ending client past files visible stop left)
+
+  pub proxy_lives : ProxyLivesOn {D = D} {C = C} shows moment leaves faults see
+  proxy_lives clock options signer disks_before disks_now before now noted ended ending client past files visible stop left lived = ⊎_elim
+      (λ not. inl not)
+      (λ x. inr (
+        x.0,
+        x.1,
+        λ acts tell. (
+          suc lived.0,
+          (
+            past,
+            lived.1,
+            inr (inr (inr (record {
+              clock = clock;
+              options = options;
+              chain = refl;
+              signer = signer;
+              before = before;
+              now = now;
+              noted = noted;
+              ended = ended;
+              files = files;
+              stop = stop;
+              first = disks_before;
+              last = disks_now;
+              proxied = x.0;
+              acts = acts;
+              tell = tell;
+              are = refl;
+            }))),
+          ),
+        ),
+      ))
+      (proxy_goes_on shows moment leaves faults see clock options signer disks_before disks_now before now noted ended ending client past files visible stop left)

@@ -1,0 +1,4 @@
+pub mod Acts
+pub mod Silence
+pub mod Running
+pub mod Lives
