@@ -24,7 +24,7 @@ use Rattle.serve_world.specs.Others.{AreOfAnother}
 use Rattle.serve_world.specs.SessionRunning.{LeftBy, StaysSo}
 use Rattle.serve_world.specs.Starting.{Show}
 use Rattle.serve_world.specs.Stopping.{StopsIn}
-use Rattle.serve_world.proofs.BehindLemmas.{begun_stands, begun_up, begun_whole, goes_behind, opening_stays}
+use Rattle.serve_world.proofs.BehindLemmas.{begun_stands, begun_up, begun_whole, goes_behind, opening_stays, state_begun}
 use Rattle.serve_world.proofs.OtherSession.{Untouched, refused, unopened, untouched}
 use Rattle.serve_world.proofs.ServiceLemmas.{IsClosed, closed_from, closed_same}
 use Rattle.serve_world.proofs.SessionRunLemmas.{idle}
@@ -95,7 +95,7 @@ module _ {D C : Type 0} (shows : D → List ℕ → Type 0) (moment : D → ℕ)
             told = proxy_acts moment leaves faults see clock options had.opened had.ended equipped now ended had.ends client;
             behind = λ acts are.
                 goes_behind shows moment leaves faults genesis false epoch disks_before disks_now noted Ends had client past files visible stop left acts (sent_of (joined (signatures had.ends.shares)))
-                (proxy_go moment leaves faults see clock options had.opened had.ended equipped now ended had.ends client acts are _ stands)
+                (proxy_go moment leaves faults see clock options had.opened had.ended equipped now ended had.ends client acts are (state_begun genesis client past files stop epoch false) stands)
                 (proxy_hands_out moment leaves faults see clock options had.opened had.ended equipped now ended had.ends client acts are);
             opening =
                 opening_stays shows moment leaves faults genesis false epoch disks_before disks_now noted Ends had client past files visible stop left (calls_of had.ends.shares.ran.shared.log) had.ends.shares.ran.shared.path;
