@@ -11,7 +11,6 @@ use Rattle.desk_machine.specs.declared.call.DeskCall.{DeskCall}
 use Rattle.desk_machine.specs.declared.call.DeskCall.TheVariants as call
 use Rattle.desk_machine.specs.declared.call.DeskReply.{DeskReply}
 use Rattle.desk_machine.specs.declared.call.DeskReply.TheVariants as reply
-use Rattle.desk_machine.specs.declared.call.Outcome.TheVariants as outcome
 use Rattle.signer_link.specs.declared.request.SignRequest.{SignRequest}
 use Rattle.signer_link.specs.declared.request.PlainRequest.{PlainRequest}
 use Rattle.signer_link.specs.declared.reply.SignReply.{SignReply}
@@ -24,6 +23,7 @@ use Rattle.client_calls.proofs.AskLemmas.{AllAsked, AllSteps, asked_bind, steps_
 use Rattle.client_calls.proofs.QuietLemmas.{IsQuiet, IsQuietCall}
 use Rattle.key_custody.specs.Plans.{deletion_plan, import_plan, list_plan}
 use Rattle.key_custody.proofs.QuietLemmas.{quiet_deletion, quiet_import, quiet_list}
+use Rattle.http_wire.specs.Parts.{parts_of}
 use Rattle.http_wire.specs.declared.message.Request.{Request}
 use Rattle.http_wire.specs.declared.message.WireFault.{WireFault}
 use Rattle.http_wire.specs.declared.message.WireFault.TheVariants as fault
@@ -52,9 +52,11 @@ use Rattle.door_lanes.specs.Lanes.{Visit, Visits}
 use Rattle.door_lanes.specs.Runs.{LanesServed, Served as DoorServed}
 use Rattle.door_lanes.specs.declared.lanes.LoopEnd.{LoopEnd}
 use Rattle.proxy_api.specs.Attending.{Attends, Terms}
-use Rattle.proxy_api.specs.Listing.{keys_plan, keys_reply, upcheck_reply}
+use Rattle.proxy_api.specs.Forms.{form_of}
+use Rattle.proxy_api.specs.Listing.{keys_plan, keys_reply}
 use Rattle.proxy_api.specs.Routes.{wanted_for}
 use Rattle.proxy_api.specs.Signing.{ByPlan, DoesRead, DoesWanted, RepliesTo, settles_as}
+use Rattle.proxy_api.specs.declared.form.Form.{Form}
 use Rattle.proxy_api.specs.declared.route.Wanted.{Wanted}
 use Rattle.proxy_api.specs.declared.route.Wanted.TheVariants as wanted
 use Rattle.proxy_lanes.specs.Lanes.{AttendsBy, Calls as LaneCalls, Grew, LaneSeen, idle_lanes}
@@ -194,7 +196,7 @@ unsent_ends_with (WithReply x) m b (ending.Refused given) h = unsent_same m b h.
 unsent_ends_with (WithReply x) m b ending.OutOfMemory h = unsent_same m b h
 unsent_ends_with (WithReply x) m b (ending.Signed given grant) h = absurd h
 unsent_ends_with (WithSignature signature g) m b (ending.Refused given) h = absurd h
-unsent_ends_with (WithSignature signature g) m b ending.OutOfMemory h = unsent_more m.desk b.desk ((call.Settle g outcome.Dropped, reply.Settled) ∷ []) refl h.desk
+unsent_ends_with (WithSignature signature g) m b ending.OutOfMemory h = absurd h
 unsent_ends_with (WithSignature signature g) m b (ending.Signed given grant) h = unsent_same m b h.2
 unsent_ends_with WithoutMemory m b (ending.Refused given) h = absurd h
 unsent_ends_with WithoutMemory m b ending.OutOfMemory h = unsent_same m b h
@@ -211,10 +213,10 @@ settled_adds m a grant true grew = ap (λ (l : LaneCalls). sent_under l) grew �
 settled_adds m a grant false grew = ap (λ (l : LaneCalls). sent_under l) grew ∙ sent_both m.desk (settles_as grant false)
 
 module _ (h i : Option (List ℕ)) (f n : ℕ) where
-  replies_add : (e : SignEnd) (m a : LaneSeen) (s : Served) (r : RepliesTo Grew h i f n e m a s) → Adds m a (signed_by Grew h i f n e m a s r)
-  replies_add (ending.Refused given) m a s r = adds_none m a (unsent_same m a r.0)
-  replies_add ending.OutOfMemory m a s r = adds_none m a (unsent_same m a r.0)
-  replies_add (ending.Signed given grant) m a s r = settled_adds m a grant r.begun r.settles
+  replies_add : (form : Form) (e : SignEnd) (m a : LaneSeen) (s : Served) (r : RepliesTo form Grew h i f n e m a s) → Adds m a (signed_by Grew form h i f n e m a s r)
+  replies_add form (ending.Refused given) m a s r = adds_none m a (unsent_same m a r.0)
+  replies_add form ending.OutOfMemory m a s r = adds_none m a (unsent_same m a r.0)
+  replies_add form (ending.Signed given grant) m a s r = settled_adds m a grant r.begun r.settles
 
   plan_adds : (plan : ClientPlan Reply) → AllAsked IsUnsent plan → (b a : LaneSeen) (s : Served) → ByPlan Grew plan h i f n b a s → Adds b a []
   plan_adds plan unsent b a s p =
@@ -225,9 +227,10 @@ module _ (h i : Option (List ℕ)) (f n : ℕ) where
   wanted_adds genesis now request (Err r) b a s d = plan_adds (Done (refusal_reply r)) tt b a s d
   wanted_adds genesis now request (Ok (wanted.Keys what)) b a s d = plan_adds (checked_plan now (body_asks what request.body.items)) (unsent_checked now (body_asks what request.body.items)) b a s d
   wanted_adds genesis now request (Ok wanted.Signature) b a s d =
-      adds_after b d.middle a (signed_by Grew h i f n d.ended d.middle a s d.replies) (unsent_answers _ genesis request.body.items now b d.middle d.ended d.answers) (replies_add d.ended d.middle a s d.replies)
+      let form : Form = form_of (parts_of request.fields.items) in
+      adds_after b d.middle a (signed_by Grew form h i f n d.ended d.middle a s d.replies) (unsent_answers _ genesis request.body.items now b d.middle d.ended d.answers) (replies_add form d.ended d.middle a s d.replies)
   wanted_adds genesis now request (Ok wanted.PublicKeys) b a s d = plan_adds keys_plan unsent_keys b a s d
-  wanted_adds genesis now request (Ok wanted.Upcheck) b a s d = plan_adds (Done upcheck_reply) tt b a s d
+  wanted_adds genesis now request (Ok wanted.Upcheck) b a s d = adds_none b a (unsent_same b a d.0)
 
   read_adds : (token : List ℕ) (genesis : Root) (now : ℕ) (read : Result Request WireFault) (b a : LaneSeen) (s : Served) (d : DoesRead Grew token genesis now read h i f n b a s)
       → Adds b a (signed_read Grew token genesis now read h i f n b a s d)
