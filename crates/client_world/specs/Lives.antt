@@ -104,7 +104,7 @@ module _ {D C : Type 0} (moment : D → ℕ) (leaves : D → ℕ → List ℕ �
     pub tell : AreProxyActs client proxied.serves acts
     pub are : events ≡ restarted options.genesis client past files stop proxied.epoch false ++ done_in acts
 
-  -- so many runs of the program were made, one after a stop of the other, and this is what the client did in all of them, up to the stops
+  -- a number of runs of the program were made, one after a stop of the other, and this is what the client did in all of them, up to the stops
   abbrev pub Lived : ℕ → List Event → Type 0
   Lived zero events = events ≡ []
   Lived (suc n) events = (past : List Event) × Lived n past × (SessionRun past events ⊎ CommandRun past events ⊎ ServiceRun past events ⊎ ProxyRun past events)
@@ -142,7 +142,7 @@ pub record Kept (before : List (PubKey × Message)) (roots : ℕ → Root) (even
   pub passes : (earlier later : List Event) (client : ℕ) (key : PubKey) (m : Message) (at : ℕ) (r : DeskReply) → events ≡ earlier ++ Call client (call.Propose key m at) r ∷ later
       → PassesExactly ((run (empty_world roots) earlier).desks client) key m r
 
--- The client did this so far: it is what was done up to some point of so many runs, and `more` is what they do after that point. Where
+-- The client did this so far: it is what was done up to some point of a number of runs, and `more` is what they do after that point. Where
 -- all runs have returned, there is nothing more. Else the last of them goes on, or was cut off there, and would return with `more`.
 abbrev pub HasLivedSoFar : {D C : Type 0} → (D → ℕ) → (D → ℕ → List ℕ → Type 0) → (D → ℕ) → (C → LinkSeen) → Root → ℕ → List Event → Type 0
 HasLivedSoFar {D} {C} moment leaves faults see genesis client events = (more : List Event) × HasLived {D = D} {C = C} moment leaves faults see genesis client (events ++ more)

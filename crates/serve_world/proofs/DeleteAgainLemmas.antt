@@ -1,4 +1,4 @@
--- A deletion that comes again beside other calls: the first one's calls show that each key came to rest, and so the second's change nothing.
+-- A deletion that comes again next to other calls: the first one's calls show that each key came to rest, and so the second's change nothing.
 use Rattle.std.proofs.Common.{◌≡◌, inl, inr, true, cond, List, [], ◌∷◌, ◌++◌, Option, Some, None, refl, sym, ◌∙◌, ap, subst, append_assoc}
 use Rattle.std.specs.Prelude.{Contains, IsSome, is_some}
 use Rattle.std.specs.List.{list_all}

@@ -1,4 +1,4 @@
--- An import that comes again beside other calls: the first one's calls show that each key is active and that the file is there, and so the
+-- An import that comes again next to other calls: the first one's calls show that each key is active and that the file is there, and so the
 -- second's change no record.
 use Rattle.std.proofs.Common.{◌≡◌, inl, inr, ◌&&◌, ◌||◌, ℕ, Bool, true, false, cond, List, [], ◌∷◌, ◌++◌, map, Option, Some, None, refl, sym, ◌∙◌, ap, subst, append_assoc}
 use Rattle.std.specs.Prelude.{Contains, IfSome, IsSome, unwrap_or}

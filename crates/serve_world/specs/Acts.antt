@@ -34,17 +34,17 @@ step_events client s = []
 abbrev pub duty_events : ℕ → List DutyStep → List Event
 duty_events client steps = flat_map (step_events client) steps
 
--- of each lane, from one on, so many
+-- of each of a number of lanes, from one on
 abbrev pub lanes_events : ℕ → ℕ → ℕ → List TurnStep → List (List Event)
 lanes_events client lane zero steps = []
 lanes_events client lane (suc n) steps = duty_events client (lane_steps lane steps) ∷ lanes_events client (suc lane) n steps
 
--- of each thread, by its number in the history: the duty loop, the connections, one after another, and each of so many lanes
+-- of each thread, by its number in the history: the duty loop, the connections, one after another, and each of a number of lanes
 abbrev pub thread_events : {C : Type 0} → ℕ → ℕ → List TurnStep → List (Visit C) → ℕ → List Event
 thread_events client n steps visits k = slice_index_or (duty_events client (loop_steps steps) ∷ calls_of client (calls_in visits) ∷ lanes_events client 0 n steps) k []
 
 -- Acts that tell what a client did that served over its desk: each of its threads in its order, and all of them by the turns of the one
--- history. Where between its grant and the settling of that a message was posted, beside what other threads did, these acts say as they
+-- history. Where between its grant and the settling of that a message was posted, next to what other threads did, these acts say as they
 -- like: each such list may be what happened.
 abbrev pub AreActs : {D C : Type 0} {moment : D → ℕ} {leaves : D → ℕ → List ℕ → Type 0} {faults : D → ℕ} {see : C → LinkSeen} {clock : Option ℕ} {options : ServeOptions} {start : Start}
     {opened ended : Seen D} {before now : Parts C} {result : Status} → ℕ → ServesDesk moment leaves faults see clock options start opened ended before now result → List (Act Event) → Type 0

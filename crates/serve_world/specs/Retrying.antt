@@ -37,7 +37,7 @@ NoneMadeActive keys made = (key : PubKey) → Contains keys key → ¬ (IsAmong 
 abbrev pub EachLeaves : ℕ → State → History → Type 0
 EachLeaves k state turns = (front back : History) (c : DeskCall) (r : DeskReply) → turns ≡ front ++ entry k c r ∷ back → after (state_after state (calls_of front)) c r ≡ state_after state (calls_of front)
 
--- In this history, from this state on: a deletion's calls are those of one thread in some turns, beside whatever others call there, and it was
+-- In this history, from this state on: a deletion's calls are those of one thread in some turns, next to whatever others call there, and it was
 -- carried out without error. Later the same deletion comes again, by calls of the same kind, on this thread or another. Where from the first one's turns to
 -- the second's no call makes a key of it active, each call of the second leaves the state that it finds, and the signer is asked nothing.
 abbrev pub DeletesAgain : State → History → Type 0

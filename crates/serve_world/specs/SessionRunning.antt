@@ -81,8 +81,8 @@ RunGoesOn {D} shows moment leaves faults = (genesis : Root) (journal : Option (L
     → Idle moment leaves genesis client past before now noted disks_before disks_now
     ⊎ Served moment leaves faults genesis fork watch before now noted ended client past files stop disks_before disks_now
 
--- A desk was opened, its keys not watched, and these calls were made of it, under which nothing is sent: they are events of the client,
--- likewise.
+-- A desk was opened, its keys not watched, and these calls were made of it, under which nothing is sent: they are events of the client
+-- in the same way.
 pub record Called {D : Type 0} (moment : D → ℕ) (leaves : D → ℕ → List ℕ → Type 0) (faults : D → ℕ) (genesis : Root) (noted : List DeskEvent) (client : ℕ) (past : List Event) (files : Files) (stop : StopsIn genesis client (no_state genesis) past files) (first last : Disks D) : Type 0 where
   pub opened : Seen D
   pub closed : Seen D
