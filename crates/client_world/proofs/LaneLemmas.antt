@@ -9,14 +9,14 @@ use Rattle.desk_machine.specs.declared.call.DeskCall.TheVariants as call
 use Rattle.desk_machine.specs.declared.call.DeskReply.{DeskReply}
 use Rattle.desk_machine.specs.declared.call.Outcome.TheVariants as outcome
 use Rattle.world_law.specs.Worlds.{Event}
-use Rattle.world_law.specs.Worlds.Event.{Call, Send, Crash}
+use Rattle.world_law.specs.Worlds.Event.{Call, Send}
 use Rattle.world_law.specs.Clients.{messages_in}
 use Rattle.proxy_run.specs.Begun.{message_of}
 use Rattle.serve_world.specs.Acts.{call_in}
 use Rattle.serve_world.specs.Events.{send_of}
 use Rattle.serve_world.specs.Weaving.{calls_among}
 use Rattle.serve_world.proofs.DutyLemmas.{not_none, send_calls}
-use Rattle.serve_world.proofs.HeldLemmas.{AreHeld, IsHeld, IsHeldAfter}
+use Rattle.serve_world.proofs.HeldLemmas.{AreHeld, IsHeldAfter}
 use Rattle.serve_world.proofs.WeaveLemmas.{IsClosed, among_both}
 use Rattle.client_world.specs.Acts.{lane_events, sent_before}
 

@@ -1,6 +1,6 @@
 -- That a run of the signing proxy goes on from where a stop left its client, and that one which is asked for another chain than that of the
 -- journal leaves the journal as it was.
-use Rattle.std.proofs.Common.{◌≡◌, ◌⊎◌, inl, inr, ⊎_elim, ℕ, false, List, [], Option, refl, ap, ◌∙◌}
+use Rattle.std.proofs.Common.{◌≡◌, ◌⊎◌, inl, inr, ⊎_elim, ℕ, false, List, Option, refl, ap, ◌∙◌}
 use Rattle.edge_kit.specs.declared.bytes.Root.{Root}
 use Rattle.edge_kit.specs.declared.disk.Disks.{Disks}
 use Rattle.edge_clock.specs.Clocks.{IsNow}
@@ -26,7 +26,7 @@ use Rattle.serve_world.specs.Starting.{Show}
 use Rattle.serve_world.specs.Stopping.{StopsIn}
 use Rattle.serve_world.proofs.BehindLemmas.{begun_stands, begun_up, begun_whole, goes_behind, opening_stays, state_begun}
 use Rattle.serve_world.proofs.OtherSession.{Untouched, refused, unopened, untouched}
-use Rattle.serve_world.proofs.ServiceLemmas.{IsClosed, closed_from, closed_same}
+use Rattle.serve_world.proofs.ServiceLemmas.{closed_from, closed_same}
 use Rattle.serve_world.proofs.SessionRunLemmas.{idle}
 use Rattle.serve_world.proofs.SessionStarts.{starts_keep}
 use Rattle.client_world.specs.Running.{OnlyEquips, OtherProxyIdles, Proxied, ProxyGoesOn, Unproxied}

@@ -1,5 +1,5 @@
 -- The grants that a lane settled as sent are those of its signatures whose replies were begun, in order.
-use Rattle.std.proofs.Common.{◌≡◌, inl, inr, ℕ, zero, suc, Bool, true, false, List, [], ◌∷◌, ◌++◌, map, Option, None, Some, Result, Ok, Err, refl, sym, ap, ◌∙◌, append_assoc, append-nil}
+use Rattle.std.proofs.Common.{◌≡◌, inl, inr, ℕ, zero, suc, Bool, true, false, List, [], ◌∷◌, ◌++◌, Option, None, Some, Result, Ok, Err, refl, sym, ap, ◌∙◌, append_assoc, append-nil}
 use Rattle.std.specs.Prelude.{slice_index_or}
 use Rattle.std.proofs.lemmas.Grind.{flat_map-append}
 use Rattle.edge_kit.specs.declared.bytes.PubKey.{PubKey}
@@ -11,14 +11,12 @@ use Rattle.desk_machine.specs.declared.call.DeskCall.{DeskCall}
 use Rattle.desk_machine.specs.declared.call.DeskCall.TheVariants as call
 use Rattle.desk_machine.specs.declared.call.DeskReply.{DeskReply}
 use Rattle.desk_machine.specs.declared.call.DeskReply.TheVariants as reply
-use Rattle.signer_link.specs.declared.request.SignRequest.{SignRequest}
-use Rattle.signer_link.specs.declared.request.PlainRequest.{PlainRequest}
 use Rattle.signer_link.specs.declared.reply.SignReply.{SignReply}
 use Rattle.signer_link.specs.declared.reply.SignReply.TheVariants as signing
 use Rattle.call_plans.specs.Plans.{Done, Stop, Ask}
 use Rattle.call_plans.specs.Paths.{Path}
-use Rattle.client_calls.specs.Seats.{Does, Seat, SignerSeen}
-use Rattle.client_calls.specs.Steps.{ClientCall, ClientReply, ClientStep, ClientPlan, Calls, Closes, Signs, SignsPlain, Imports, Deletes, Replies, ClosedBy, Signed, Imported, Deleted, Fits, step_calls, desk_calls}
+use Rattle.client_calls.specs.Seats.{Does, SignerSeen}
+use Rattle.client_calls.specs.Steps.{ClientCall, ClientReply, ClientStep, ClientPlan, Calls, Closes, Replies, ClosedBy, Signed, Fits, step_calls, desk_calls}
 use Rattle.client_calls.proofs.AskLemmas.{AllAsked, AllSteps, asked_bind, steps_asked}
 use Rattle.client_calls.proofs.QuietLemmas.{IsQuiet, IsQuietCall}
 use Rattle.key_custody.specs.Plans.{deletion_plan, import_plan, list_plan}
@@ -44,7 +42,7 @@ use Rattle.signing_requests.specs.declared.request.Wanted.TheVariants as signabl
 use Rattle.signing_requests.specs.declared.refusal.SigningRefusal.{SigningRefusal}
 use Rattle.sign_proxy.specs.Plans.{SigningResult, WithReply, WithSignature, WithoutMemory, answered, granted, refused, signed, signing_plan, signs, signs_plain, wanted_plan}
 use Rattle.sign_proxy.specs.Replies.{desk_reply, signer_reply}
-use Rattle.sign_proxy.specs.Signing.{Answers, Ends, EndsWith, reads, unread}
+use Rattle.sign_proxy.specs.Signing.{Answers, EndsWith, reads, unread}
 use Rattle.sign_proxy.specs.declared.signing.SignEnd.{SignEnd}
 use Rattle.sign_proxy.specs.declared.signing.SignEnd.TheVariants as ending
 use Rattle.door_lanes.specs.Doors.{DoorSeen}

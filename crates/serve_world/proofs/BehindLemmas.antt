@@ -1,5 +1,5 @@
 -- That what was done with a desk that was opened goes on from where a stop left its client.
-use Rattle.std.proofs.Common.{◌≡◌, ℕ, Bool, List, [], ◌∷◌, ◌++◌, Contains, refl, sym, ap, subst}
+use Rattle.std.proofs.Common.{ℕ, Bool, List, [], ◌∷◌, ◌++◌, Contains, refl, sym, ap, subst}
 use Rattle.edge_kit.specs.declared.bytes.PubKey.{PubKey}
 use Rattle.edge_kit.specs.declared.bytes.Root.{Root}
 use Rattle.edge_kit.specs.declared.disk.Disks.{Disks}

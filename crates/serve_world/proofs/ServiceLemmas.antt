@@ -25,18 +25,17 @@ use Rattle.desk_machine.specs.States.{State, no_state}
 use Rattle.desk_machine.specs.declared.call.DeskCall.{DeskCall}
 use Rattle.desk_machine.specs.declared.call.DeskReply.{DeskReply}
 use Rattle.desk_machine.specs.declared.event.DeskEvent.{DeskEvent}
-use Rattle.check_sign.specs.Contents.{Seen, disks_in}
-use Rattle.check_sign.specs.Crashes.{Files, LeftAt, Moments, now_of}
+use Rattle.check_sign.specs.Contents.{Seen}
+use Rattle.check_sign.specs.Crashes.{Files, now_of}
 use Rattle.check_sign.specs.Opening.{Opening}
 use Rattle.check_sign.specs.Paths.{Path}
 use Rattle.check_sign.specs.Standing.{DeskStands}
 use Rattle.desk_seat.specs.Turns.{calls_of}
 use Rattle.world_law.specs.Worlds.{Event}
-use Rattle.world_law.specs.Worlds.Event.{Crash}
-use Rattle.world_law.specs.Clients.{RunsFrom, state_over, messages_in}
+use Rattle.world_law.specs.Clients.{state_over, messages_in}
 use Rattle.serve_world.specs.SessionRunning.{LeftBy}
 use Rattle.serve_world.specs.Starting.{Show}
-use Rattle.serve_world.specs.Stopping.{StopsIn, StopsBehind}
+use Rattle.serve_world.specs.Stopping.{StopsIn}
 use Rattle.serve_world.proofs.BehindLemmas.{begun_stands, begun_up, begun_whole, goes_behind, opening_stays}
 use Rattle.serve_world.proofs.SessionRunLemmas.{idle}
 use Rattle.serve_world.proofs.SessionStarts.{starts_keep}
