@@ -41,12 +41,12 @@ def octets(text):
     return bytes.fromhex(text[2:])
 
 def vector(text):
-    """The root of so many bytes as the text has."""
+    """The root of the bytes that the text has."""
     held = octets(text)
     return merkle([held[at:at + 32].ljust(32, b'\0') for at in range(0, len(held), 32)])
 
 def bits(text, limit):
-    """The root of a list of at most so many bits, which the last bit that is set ends."""
+    """The root of a list of bits, of which the limit says how many there are at most, and which the last bit that is set ends."""
     held = int.from_bytes(octets(text), 'little')
     count = held.bit_length() - 1
     held = (held ^ 1 << count).to_bytes(limit // 8, 'little')
