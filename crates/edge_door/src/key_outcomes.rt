@@ -228,8 +228,8 @@ impl KeyOutcomes {
         Ok(self.keys.push(KeyDigits(digits))?)
     }
 
-    // Takes one piece more of the reply, and reports each key of which it says what became of it, and as much of its
-    // message as is told.
+    // Takes one piece more of the reply, and reports each key of which it says what became of it, with the front of its
+    // message.
     pub(crate) fn answer<E: Eprint>(
         &mut self,
         handle: &E,
