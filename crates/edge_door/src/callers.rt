@@ -35,6 +35,16 @@ impl Callers {
     pub(crate) fn first_look(self) -> u64 {
         match self {
             Callers::KeyManagers => 1_000,
+            Callers::ValidatorClients => 10,
+        }
+    }
+
+    /// Naps that are shorter than this many microseconds are not taken: the door looks again at once, and only lets others run
+    /// before. The request of a validator client follows its connection within some 50 microseconds, and to fall asleep and to
+    /// be woken takes as long as that.
+    pub(crate) fn shortest_nap(self) -> u64 {
+        match self {
+            Callers::KeyManagers => 0,
             Callers::ValidatorClients => 100,
         }
     }
@@ -45,7 +55,10 @@ impl Callers {
     pub(crate) fn later_look(self, microseconds: u64) -> u64 {
         match self {
             Callers::KeyManagers => microseconds.saturating_mul(2).min(50_000),
-            Callers::ValidatorClients => microseconds.saturating_add(microseconds / 8).min(2_000),
+            Callers::ValidatorClients => microseconds
+                .saturating_add(microseconds / 8)
+                .saturating_add(1)
+                .min(2_000),
         }
     }
 

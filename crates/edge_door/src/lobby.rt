@@ -283,8 +283,12 @@ impl<'a, N: Net + Eprint + Clock + Drop> Lobby<'a, N> {
     }
 
     // Waits after a look that has found this, where nothing is left to do until something happens, and else naps for that many
-    // microseconds. Gives for how many to nap the next time.
+    // microseconds; too short a nap is left out. Gives for how many to nap the next time.
     fn look_later(&mut self, found: Look, microseconds: u64) -> u64 {
+        if microseconds < self.callers.shortest_nap() {
+            thread::yield_now();
+            return self.callers.later_look(microseconds);
+        }
         let nap = Duration::from_micros(microseconds);
         if matches!(found, Look::Nothing) {
             let longest = Duration::from_micros(self.callers.longest_wait(microseconds));

@@ -129,17 +129,24 @@ impl<S: Read + Write + OpenStream + Drop> Timed<S> {
     }
 }
 
-// Whether a piece is of such a request.
+// Whether a piece begins such a request.
 fn is_of(piece: &[u8], requests: LongRequests) -> bool {
+    let line = first_line(piece);
     match requests {
-        LongRequests::Blocks => has(piece, MADE_BLOCKS) || has(piece, SENT_BLOCKS),
-        LongRequests::Keystores => has(piece, KEYSTORES),
+        LongRequests::Blocks => has(line, MADE_BLOCKS) || has(line, SENT_BLOCKS),
+        LongRequests::Keystores => has(line, KEYSTORES),
     }
 }
 
-// Whether a piece is of a question whether a node is syncing.
+// Whether a piece begins a question whether a node is syncing.
 pub(crate) fn asks_for_syncing(piece: &[u8]) -> bool {
-    has(piece, SYNCING)
+    has(first_line(piece), SYNCING)
+}
+
+// What a piece has before its first line feed. The path of a request stands there.
+fn first_line(piece: &[u8]) -> &[u8] {
+    let end = piece.iter().position(|byte| *byte == b'\n');
+    end.and_then(|end| piece.get(..end)).unwrap_or(piece)
 }
 
 // Whether a piece has this part, which isn't empty.

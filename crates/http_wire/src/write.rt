@@ -14,8 +14,11 @@ use edge_kit::{Failed, Link};
 use http::{Method, StatusCode};
 use std::alloc::{AllocError, Global};
 
-/// Writes the one spelling of a request. `Link` only where the link's count of faults rose; a front of the
-/// spelling was sent then, and not all of it. After want of memory nothing was.
+/// The longest body that is sent in one piece with its head: 4,096 bytes.
+const SHORT_BODY: usize = 4_096;
+
+/// Writes the one spelling of a request, a short one in one piece. `Link` only where the link's count of faults rose; a front
+/// of the spelling was sent then, and not all of it. After want of memory nothing was.
 pub fn write_request<L: Link>(
     alloc: Global,
     link: &mut L,
@@ -31,13 +34,14 @@ pub fn write_request<L: Link>(
         Ok(head) => head,
         Err(_) => return Err(WireFault::OutOfMemory),
     };
-    match send_both(link, head.as_slice(), request.body.as_slice()) {
+    match send_together(link, head, request.body.as_slice()) {
         Ok(()) => Ok(()),
         Err(Failed) => Err(WireFault::Link),
     }
 }
 
-/// Writes the one spelling of a response, likewise.
+/// Writes the one spelling of a response, its head and its body each in pieces of its own. The failures are those of
+/// [`write_request`].
 pub fn write_response<L: Link>(
     alloc: Global,
     link: &mut L,
@@ -58,6 +62,20 @@ pub fn write_response<L: Link>(
         Ok(()) => Ok(()),
         Err(Failed) => Err(WireFault::Link),
     }
+}
+
+/// Sends a head and a body: a short body in one piece with its head, so that the peer is woken once, where there is memory for
+/// that. `Failed` only where the link's count of faults rose; a front of both was sent then, and not all.
+fn send_together<L: Link>(link: &mut L, mut head: Vec<u8>, body: &[u8]) -> Result<(), Failed>
+    ensures ok { OnOk result (Appends (L.held link.old) (L.held link.new) (head.items ++ body.now)) }
+    ensures err { OnErr result (AppendsFront (L.held link.old) (L.held link.new) (head.items ++ body.now)) }
+    ensures cause { HasCause (L.faults link.old) (L.faults link.new) result }
+    ensures speaks { OnlySpeaks (L.left link.old) (L.left link.new) (L.coming link.old) (L.coming link.new) (L.faults link.old) (L.faults link.new) }
+{
+    if body.len() > SHORT_BODY || head.extend_from_slice(body).is_err() {
+        return send_both(link, head.as_slice(), body);
+    }
+    send_all(link, head.as_slice())
 }
 
 /// Sends a head and a body, without a copy of the body. `Failed` only where the link's count of faults rose; a
