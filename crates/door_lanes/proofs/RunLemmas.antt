@@ -17,7 +17,7 @@ use Rattle.door_lanes.specs.declared.lanes.LoopEnd.{LoopEnd}
 use Rattle.door_lanes.specs.declared.lanes.LoopEnd.TheVariants as loop
 use Rattle.door_lanes.specs.Doors.{Among, AreLent, Asked, CountedSeen, DoorSeen, Empties, Gave, HandsOn, MayAsk, OnlyLast, TakeStep, TookBack, answers, asks, calls, connections_in, counted_anew, replies, returned, returned_in}
 use Rattle.door_lanes.specs.DoorLaws.{moves_lent}
-use Rattle.door_lanes.specs.Lanes.{NoneFailed, AllWent, EndsBy, FailedAtLast, LanesEnd, OnlyLastFailed, Visit, accepted_in, finished_in, is_disk, is_door}
+use Rattle.door_lanes.specs.Lanes.{NoneFailed, AllWent, EndsAlone, EndsBy, FailedAtLast, LanesEnd, OnlyLastFailed, Visit, accepted_in, finished_in, is_disk, is_door}
 use Rattle.door_lanes.specs.Runs.{AnyAmong, SomeLaneFailed, AreNew, AreServed, NoLaneFailed, LanesServed, PassesAre, Ran, RanEnds, RanSeated, SeatedEnds, all_accepted, all_finished}
 use Rattle.door_lanes.specs.Seats.{DoorPass, Grows, IsDoorPass, IsUsedPass, SharedDoor}
 use Rattle.door_lanes.proofs.DoorLemmas.{among_lane, among_own, gave_log}
@@ -62,6 +62,13 @@ complete_end end.Full rs vs d e h = inl h.0
 complete_end end.NoMore rs vs d e h = inr h.0
 complete_end end.Door rs vs d e h = absurd (true≢false e)
 complete_end end.Disk rs vs d e h = absurd (true≢false d)
+
+-- whatever ended it is a cause of its own
+alone_end : {C : Type 0} (e : LaneEnd) (rs : List (Taken C)) (vs : List (Visit C)) → EndsBy e rs vs → EndsAlone rs vs
+alone_end end.Full rs vs h = inl (inl h.0)
+alone_end end.NoMore rs vs h = inl (inr h.0)
+alone_end end.Door rs vs h = inr (inl h.0)
+alone_end end.Disk rs vs h = inr (inr h.1)
 
 none_last : {C : Type 0} (vs : List (Visit C)) → NoneFailed vs → OnlyLastFailed vs
 none_last [] h = tt
@@ -250,6 +257,14 @@ module _ {C : Type 0} where
         (λ t. subst (λ (l : List (Asked C)). OnlyLast taken.Failed (answers l)) (sym t.2) (f k t.0 t.1))
         (lane_at xs os ph k)
 
+    alone_at : (xs : List (List (Asked C))) (os : List (Option C)) (vs : List (List (Visit C))) → PassesAre s 0 xs os ps → AreServed xs os vs
+        → ((k : ℕ) (x : List (Asked C)) (v : List (Visit C)) → slice_get xs k ≡ Some x → slice_get vs k ≡ Some v → EndsAlone (answers x) v)
+        → (k : ℕ) (v : List (Visit C)) → slice_get vs k ≡ Some v → EndsAlone (answers (own k c.log)) v
+    alone_at xs os vs ph th f k v e =
+        let t = served_at xs os vs th k v e in
+        let a = pass_at s 0 xs os ps ph k t.0 t.2 in
+        subst (λ (l : List (Asked C)). EndsAlone (answers l) v) (sym (c.own_is k a.0 a.1 ∙ a.2)) (f k t.0 v t.2 e)
+
     ends_at : (before : DoorSeen C) (wanted : ℕ) → o ≡ counted_anew before wanted → (result : Result (Unit {0}) LoopEnd) (rss : List (List (Asked C))) (os : List (Option C)) (xs : List (List (Visit C))) → PassesAre s 0 rss os ps → Gave o (asks c.log) (replies c.log) value → SeatedEnds result rss xs
         → RanEnds result c.log before value xs
     ends_at before wanted is (Ok u) rss os xs ph g h =
@@ -316,6 +331,7 @@ module _ {C : Type 0} where
             at_once = once_at r.asked kept r.passes_are;
             door_stops = stops_at r.asked kept r.passes_are r.door_stops;
             disk_stops = r.disk_stops;
+            each_ends = alone_at r.asked kept r.visits r.passes_are r.are r.each_ends;
             once = once;
             once_back = once_back;
             as_many = many r.visits once;
@@ -437,6 +453,18 @@ module _ {T V C : Type 0} (pass : T → DoorPass C) (at : T → SharedDoor C) (l
       subst (λ (l : List (Visit C)). OnlyLastFailed l) same (disk_last b.end (answers h.0.asked) h.0.visits h.0.ends)
   disk_stops_of (a ∷ olds) (b ∷ news) h (suc k) x e = disk_stops_of olds news h.1 k x e
 
+  alone_of : (olds news : List L) (h : AllWent leads serves olds news) → (k : ℕ) (xs : List (Asked C)) (x : List (Visit C)) → slice_get (asked_of olds news h) k ≡ Some xs → slice_get (visits_of olds news h) k ≡ Some x
+      → EndsAlone (answers xs) x
+  alone_of [] [] h k xs x e f = absurd (cc e)
+  alone_of [] (b ∷ news) h k xs x e f = absurd h
+  alone_of (a ∷ olds) [] h k xs x e f = absurd h
+  alone_of (a ∷ olds) (b ∷ news) h zero xs x e f =
+      let same : h.0.asked ≡ xs = cc e in
+      let those : h.0.visits ≡ x = cc f in
+      subst (λ (v : List (Visit C)). EndsAlone (answers xs) v) those
+          (subst (λ (l : List (Asked C)). EndsAlone (answers l) h.0.visits) same (alone_end b.end (answers h.0.asked) h.0.visits h.0.ends))
+  alone_of (a ∷ olds) (b ∷ news) h (suc k) xs x e f = alone_of olds news h.1 k xs x e f
+
   complete_of : (olds news : List L) (h : AllWent leads serves olds news) → 0 < length news → list_any (λ (l : L). is_disk l.end) news ≡ false → list_any (λ (l : L). is_door l.end) news ≡ false
       → AnyAmong taken.Full (asked_of olds news h) ⊎ AnyAmong taken.NoMore (asked_of olds news h)
   complete_of [] [] h some d e = absurd (omega (arith, some))
@@ -466,5 +494,6 @@ module _ {T V C : Type 0} (pass : T → DoorPass C) (at : T → SharedDoor C) (l
         are = are_of s 0 olds news h fr;
         door_stops = stops_of olds news h;
         disk_stops = disk_stops_of olds news h;
+        each_ends = alone_of olds news h;
         ends = ends_of result olds news h some e;
       }

@@ -53,6 +53,11 @@ EndsBy end.NoMore rs vs = Among taken.NoMore rs × (Among taken.Failed rs → �
 EndsBy end.Door rs vs = Among taken.Failed rs × OnlyLast taken.Failed rs × NoneFailed vs
 EndsBy end.Disk rs vs = (Among taken.Failed rs → ⊥) × FailedAtLast vs
 
+-- It ended by its own cause alone, whatever became of others: the door told it that enough were given or that no other comes, or failed it; or the
+-- disk failed under it.
+abbrev pub EndsAlone : {C : Type 0} → List (Taken C) → List (Visit C) → Type 0
+EndsAlone rs vs = (Among taken.Full rs ⊎ Among taken.NoMore rs) ⊎ (Among taken.Failed rs ⊎ FailedAtLast vs)
+
 -- after these answers and connections it ended so, or goes on
 abbrev pub StepEnds : {C : Type 0} → Option LaneEnd → List (Taken C) → List (Visit C) → Type 0
 StepEnds None rs vs = (Among taken.Failed rs → ⊥) × NoneFailed vs

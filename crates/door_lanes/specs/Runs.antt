@@ -12,7 +12,7 @@ use Rattle.door_lanes.specs.declared.counted.Taken.TheVariants as taken
 use Rattle.door_lanes.specs.declared.lanes.LoopEnd.{LoopEnd}
 use Rattle.door_lanes.specs.declared.lanes.LoopEnd.TheVariants as loop
 use Rattle.door_lanes.specs.Doors.{Among, Asked, CountedSeen, DoorSeen, Empties, Gave, HandsOn, MayAsk, OnlyLast, TakeStep, Turn, answers, asks, calls, connections_in, counted_anew, replies, returned, returned_in}
-use Rattle.door_lanes.specs.Lanes.{FailedAtLast, NoneFailed, OnlyLastFailed, Visit, Visits, accepted_in, finished_in}
+use Rattle.door_lanes.specs.Lanes.{EndsAlone, FailedAtLast, NoneFailed, OnlyLastFailed, Visit, Visits, accepted_in, finished_in}
 use Rattle.door_lanes.specs.Seats.{DoorPass, IsDoorPass, IsUsedPass, SharedDoor}
 
 -- the connections of all lanes, lane by lane: as they were accepted, and as they are to be finished
@@ -86,6 +86,7 @@ pub record RanSeated {V C : Type 0} (serves : V → C → C → Bool → V → T
   pub are : AreServed asked kept visits
   pub door_stops : (k : ℕ) (xs : List (Asked C)) → slice_get asked k ≡ Some xs → OnlyLast taken.Failed (answers xs)
   pub disk_stops : (k : ℕ) (x : List (Visit C)) → slice_get visits k ≡ Some x → OnlyLastFailed x
+  pub each_ends : (k : ℕ) (xs : List (Asked C)) (x : List (Visit C)) → slice_get asked k ≡ Some xs → slice_get visits k ≡ Some x → EndsAlone (answers xs) x
   pub ends : SeatedEnds result asked visits
 
 -- a door that was lent to these passes, as it came back
@@ -122,6 +123,8 @@ pub record Ran {V C : Type 0} (serves : V → C → C → Bool → V → Type 0)
   -- a lane asked no more once the door had failed it, and served no more once its disk had failed
   pub door_stops : (k : ℕ) → OnlyLast taken.Failed (answers (own k log))
   pub disk_stops : (k : ℕ) (x : List (Visit C)) → slice_get visits k ≡ Some x → OnlyLastFailed x
+  -- a lane ended by its own cause alone: one that failed stopped no other
+  pub each_ends : (k : ℕ) (x : List (Visit C)) → slice_get visits k ≡ Some x → EndsAlone (answers (own k log)) x
   -- so each connection that the door gave was served once, and no other was; and each was handed back once, by a turn or in the end
   pub once : IsPermutation (connections_in (replies log)) (all_accepted visits)
   pub once_back : IsPermutation (returned_in (asks log) ++ returned_in kept) (all_finished visits)

@@ -24,6 +24,15 @@ impl Allowance {
         })
     }
 
+    // That of a span of this length, of which nothing was overlooked yet.
+    pub(crate) fn of(span: Span, limit: Duration) -> Self {
+        Allowance {
+            span,
+            limit,
+            with_pauses: limit,
+        }
+    }
+
     // One of the same length that begins now.
     pub(crate) fn again<C: Clock>(&self, clock: &C) -> io::Result<Self> {
         Allowance::begin(clock, self.limit)

@@ -3,6 +3,7 @@ use crate::allowance::Allowance;
 use crate::api::Api;
 use crate::callers::Callers;
 use crate::rest::Rest;
+use crate::tcp_conn::LIMIT_SECONDS;
 use edge_sockets::{Heard, Span, Visible, is_later};
 use std::alloc::{AllocError, Global};
 use std::io::{Eprint, Read, Write};
@@ -26,8 +27,8 @@ const READING_SECONDS: u64 = 2;
 /// How far a connection is that leaves.
 #[derive(Clone, Copy)]
 enum Stage {
-    /// Its reply is sent, within this span.
-    Sends(Span),
+    /// Its reply is sent, within this time.
+    Sends(Allowance),
     /// Its reply was sent, and what its peer still sends is read and dropped, so that the system does not take the reply
     /// back: within the whole of the one span, and as long as the peer is silent no longer than the other one.
     Reads {
@@ -39,26 +40,15 @@ enum Stage {
 }
 
 impl Stage {
-    // The same stage, whose time begins now.
-    fn again<C: Clock>(self, clock: &C) -> io::Result<Stage> {
-        match self {
-            Stage::Sends(span) => Ok(Stage::Sends(span.again(clock)?)),
-            Stage::Reads { whole, silence } => Ok(Stage::Reads {
-                whole: whole.again(clock)?,
-                silence: silence.again(clock)?,
-            }),
-            Stage::Over => Ok(Stage::Over),
-        }
-    }
-
-    // The same stage, whose time of reading is no shorter by this pause.
+    // The same stage, whose time is no shorter by this pause.
     fn with_pause(self, pause: Duration) -> Stage {
         match self {
+            Stage::Sends(whole) => Stage::Sends(whole.with_pause(pause)),
             Stage::Reads { whole, silence } => Stage::Reads {
                 whole: whole.with_pause(pause),
                 silence: silence.with_pause(pause),
             },
-            Stage::Sends(_) | Stage::Over => self,
+            Stage::Over => Stage::Over,
         }
     }
 
@@ -114,13 +104,6 @@ impl<S: Read + Write + OpenStream + Drop> Exit<S> {
         self.leaving.is_empty()
     }
 
-    /// Begins the time of each connection anew, since none was gone on with while another was served.
-    pub(crate) fn resume<C: Clock>(&mut self, clock: &C) {
-        'leaving: for leaving in self.leaving.iter_mut() {
-            leaving.resume(clock);
-        }
-    }
-
     /// Makes no connection's time shorter by this pause, in which none was gone on with.
     pub(crate) fn overlook(&mut self, pause: Duration) {
         'leaving: for leaving in self.leaving.iter_mut() {
@@ -152,7 +135,7 @@ impl<S: Read + Write + OpenStream + Drop> Leaving<S> {
         Leaving {
             stream,
             rest,
-            stage: Stage::Sends(span),
+            stage: Stage::Sends(Allowance::of(span, Duration::from_secs(LIMIT_SECONDS))),
             api,
             heard,
         }
@@ -170,21 +153,16 @@ impl<S: Read + Write + OpenStream + Drop> Leaving<S> {
     fn send_all<C: Eprint + Clock>(&mut self, handle: &C) {
         let mut nap: u64 = 1;
         'sends: for _ in 0..u64::MAX {
-            let Stage::Sends(span) = self.stage else {
+            let Stage::Sends(whole) = self.stage else {
                 return;
             };
-            if self.send(handle, span) {
+            if self.send(handle, whole) {
                 nap = 1;
             } else {
                 thread::sleep(handle, Duration::from_millis(nap));
                 nap = nap.saturating_mul(2).min(LONGEST_NAP);
             }
         }
-    }
-
-    // Its time begins now.
-    fn resume<C: Clock>(&mut self, clock: &C) {
-        self.stage = self.stage.again(clock).unwrap_or(self.stage);
     }
 
     /// Whether nothing goes over it any more.
@@ -195,14 +173,14 @@ impl<S: Read + Write + OpenStream + Drop> Leaving<S> {
     // Does what can be done now, and says whether that was anything, or ended it.
     fn work<C: Eprint + Clock>(&mut self, handle: &C) -> bool {
         match self.stage {
-            Stage::Sends(span) => self.send(handle, span),
+            Stage::Sends(whole) => self.send(handle, whole),
             Stage::Reads { whole, silence } => self.read(handle, whole, silence),
             Stage::Over => false,
         }
     }
 
     // Sends what the system takes at once, and says whether that was anything, or ended it.
-    fn send<C: Eprint + Clock>(&mut self, handle: &C, span: Span) -> bool {
+    fn send<C: Eprint + Clock>(&mut self, handle: &C, whole: Allowance) -> bool {
         let Ok(count) = self.rest.send(&mut self.stream) else {
             self.stage = Stage::Over;
             return true;
@@ -211,7 +189,7 @@ impl<S: Read + Write + OpenStream + Drop> Leaving<S> {
             self.stage = self.shut(handle).unwrap_or(Stage::Over);
             return true;
         }
-        if span.left(handle).is_err() {
+        if whole.is_over(handle) {
             self.report(handle);
             self.stage = Stage::Over;
         }

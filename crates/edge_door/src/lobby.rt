@@ -49,9 +49,8 @@ const FORBIDDEN: i32 = 1;
 /// It looks at all of them, and waits where it finds nothing to do. What happens at one of them, or at the listener, ends the
 /// wait, so each look goes on until nothing more can be done. Where something is left that may be done later, it only naps.
 ///
-/// Where key managers call, the times of all begin anew with each turn at the door, since one loop serves what it takes before
-/// it comes back. Where validator clients do, turns follow each other, and a peer that sends a byte now and then is not to have
-/// its time begun anew by each: there only the time does not count in which nobody looked, from one turn to the next.
+/// The times of all go on from one turn at the door to the next, so that a peer that sends a byte now and then is given up in its
+/// time, however many others are served meanwhile. Only the time in which nobody looked counts for none.
 pub(crate) struct Lobby<'a, N: Net + Eprint + Clock + Drop> {
     handle: N,
     host: String,
@@ -115,19 +114,8 @@ impl<'a, N: Net + Eprint + Clock + Drop> Lobby<'a, N> {
         Ok(listener)
     }
 
-    // Begins a turn, after a time in which nobody looked: the times of all connections begin anew, or that time counts for none.
+    // Begins a turn: the time since the last look, in which nobody looked, counts for no connection.
     fn resume(&mut self) {
-        match self.callers {
-            Callers::KeyManagers => {
-                self.room.resume(&self.handle);
-                self.exit.resume(&self.handle);
-            }
-            Callers::ValidatorClients => self.overlook(),
-        }
-    }
-
-    // Has the time since the last look count for no connection.
-    fn overlook(&mut self) {
         if let Some(looked) = self.looked
             && let Ok(pause) = looked.elapsed(&self.handle)
         {

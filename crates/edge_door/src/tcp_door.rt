@@ -33,17 +33,18 @@ use std::rt::Clock;
 /// connection is known to be the last that is accepted, or the halt is raised, `finish` goes on until none leaves any more.
 ///
 /// Key managers call as long as nothing else is set: one loop takes a connection, serves it, and hands it back before it takes
-/// the next. Eight wait at most, and the times of those that wait begin anew with each `accept`. `finish` goes on with what
-/// leaves until none does any more, or a request is there to be served. Up to eight leave at a time; where there are as many,
-/// `finish` waits until one has left.
+/// the next. Eight wait at most. `finish` goes on with what leaves until none does any more, or a request is there to be served.
+/// Up to eight leave at a time; where there are as many, `finish` waits until one has left.
 ///
 /// Where validator clients call, lanes take turns at the door, each of which hands a connection back and takes the next, and
 /// several are served at a time. Then a request for a signature, for the keys, or whether anyone is there, needs no token, and
 /// is given once it is whole. 256 wait at most, and 64 leave. `finish` waits for none that leaves, unless there is no place for
 /// one more: `accept` goes on with them. What is left of a reply was sent by `hang_up`, and a connection whose peer has ended
-/// it, or was silent for half a second since, leaves at the next look. A time goes on from turn to turn, so that none of a peer
-/// that is slow begins anew. Only what passes while no lane is at the door does not count, and what has come in until then is
-/// read before a request is given up, so that no request that is there whole is lost.
+/// it, or was silent for half a second since, leaves at the next look.
+///
+/// The time of a connection that waits or leaves goes on from turn to turn, so that none of a peer that is slow begins anew. Only
+/// what passes while nobody is at the door does not count, and what has come in until then is read before a request is given
+/// up, so that no request that is there whole is lost.
 ///
 /// The system ends the wait of a door (`epoll`) once something happens at its listener or at a connection. A wait lasts 20
 /// milliseconds at most where validator clients call, and 50 where key managers do, and a halt is seen after it. Where the

@@ -112,13 +112,6 @@ impl<S: Read + Write + OpenStream + Drop> Room<S> {
         let _ = self.waiting.push(waiting);
     }
 
-    /// Begins the time of each connection anew, since none was looked at while another was served.
-    pub(crate) fn resume<C: Clock>(&mut self, clock: &C) {
-        'waiting: for waiting in self.waiting.iter_mut() {
-            waiting.resume(clock);
-        }
-    }
-
     /// Makes no connection's time shorter by this pause, in which none was looked at.
     pub(crate) fn overlook(&mut self, pause: Duration) {
         'waiting: for waiting in self.waiting.iter_mut() {
@@ -276,14 +269,6 @@ impl<S: Read + Write + OpenStream + Drop> Waiting<S> {
     // Whether more of its request is to come in, and its time is over.
     fn is_late<C: Clock>(&self, clock: &C) -> bool {
         self.is_coming() && (self.whole.is_over(clock) || self.silence.is_over(clock))
-    }
-
-    // Its time begins now.
-    fn resume<C: Clock>(&mut self, clock: &C) {
-        if let (Ok(whole), Ok(silence)) = (self.whole.again(clock), self.silence.again(clock)) {
-            self.whole = whole;
-            self.silence = silence;
-        }
     }
 
     // Its time is no shorter by this pause.
