@@ -87,10 +87,12 @@ pub(crate) fn rows_in<R: Row>(alloc: Global, value: &Value) -> Result<Option<Ite
     each_row(alloc, items)
 }
 
+/// The rows that the elements write, if each writes one. Memory is taken for rows that were read alone, so none for a long list of what
+/// is no row. The error is want of memory.
 fn each_row<R: Row>(alloc: Global, items: &[Value]) -> Result<Option<Items<R>>, AllocError>
     ensures { IfOk result (λ found. found ≡ reading.each_row R.reading (items_view items.now)) }
 {
-    let mut rows = Vec::with_capacity(alloc, items.len())?;
+    let mut rows = Vec::new(alloc);
     'items: for item in items {
         let Some(row) = R::read(item) else {
             return Ok(None);
