@@ -203,6 +203,26 @@ def dripping(name):
     wrong = not_so('a listing', LISTS, reply(200, LISTED))
     return wrong + run.amiss([(API + 'POST /eth/v1/keystores: no reply', 1, 1)])
 
+def drips_next_to_a_caller(name):
+    """A peer that sends a byte a second is given up in its 30 seconds, though others are served meanwhile."""
+    run = begin(name, connections=8)
+    once_listening(run)
+    begun, gone = time.time(), []
+    def drips(link):
+        try:
+            link.sendall(b'GET /eth/v1/keystores HTTP/1.1\r\nX-Drip: ')
+            for _ in range(60):
+                link.sendall(b'a')
+                time.sleep(1)
+        except OSError:
+            gone.append(time.time() - begun)
+    threading.Thread(target=drips, args=(socket.create_connection(('127.0.0.1', port)),), daemon=True).start()
+    wrong = []
+    for _ in range(8):
+        wrong += not_so('a listing', LISTS, reply(200, LISTED))
+        time.sleep(5)
+    return wrong + ([] if gone and 28 < gone[0] < 34 else ['given up after: %s' % gone]) + run.amiss([(API + 'GET /eth/v1/keystores: no reply', 0, 1)])
+
 def few_files(name):
     """The process may open one file more than it has open. While the first node swallows a question none is left: a connection of the API cannot be accepted
     then, which is reported, and it is answered once one is free. A call that lacks one is reported, and costs its duty at most."""
@@ -604,6 +624,7 @@ SCENES = {
     'signer_comes_back': signer_comes_back,
     'node_takes_posts_late': posts_are_taken_late,
     'api_connection_drips': dripping,
+    'api_drips_next_to_a_caller': drips_next_to_a_caller,
     'few_files': few_files,
     'api_refuses_early': refused_early,
     'api_expects_continue': asks_before_its_body,
