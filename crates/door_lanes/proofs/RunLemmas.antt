@@ -462,7 +462,7 @@ module _ {T V C : Type 0} (pass : T → DoorPass C) (at : T → SharedDoor C) (l
       let same : h.0.asked ≡ xs = cc e in
       let those : h.0.visits ≡ x = cc f in
       subst (λ (v : List (Visit C)). EndsAlone (answers xs) v) those
-          (subst (λ (l : List (Asked C)). EndsAlone (answers l) h.0.visits) same (alone_end b.end (answers h.0.asked) h.0.visits h.0.ends))
+      (subst (λ (l : List (Asked C)). EndsAlone (answers l) h.0.visits) same (alone_end b.end (answers h.0.asked) h.0.visits h.0.ends))
   alone_of (a ∷ olds) (b ∷ news) h (suc k) xs x e f = alone_of olds news h.1 k xs x e f
 
   complete_of : (olds news : List L) (h : AllWent leads serves olds news) → 0 < length news → list_any (λ (l : L). is_disk l.end) news ≡ false → list_any (λ (l : L). is_door l.end) news ≡ false
