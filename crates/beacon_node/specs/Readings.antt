@@ -5,6 +5,7 @@ use Rattle.std.specs.Result.{result_ok}
 use Rattle.edge_kit.specs.declared.bytes.PubKey.{PubKey}
 use Rattle.edge_kit.specs.declared.bytes.Root.{Root}
 use Rattle.serde_json.specs.Data.{Data, Items, item, no_items}
+use Rattle.serde_json.specs.Events.{items_len}
 use Rattle.serde_json.specs.Find.{get}
 use Rattle.json_members.specs.Reading.{json_of, text_in, number_in, bytes_in, flag_in, items_in}
 use Rattle.phase0_types.specs.Shapes.{Shape}
@@ -22,7 +23,7 @@ use Rattle.node_calls.specs.declared.answer.ValidatorRow.{ValidatorRow}
 use Rattle.node_calls.specs.declared.answer.ProposerRow.{ProposerRow}
 use Rattle.node_calls.specs.declared.answer.AttesterRow.{AttesterRow}
 use Rattle.node_calls.specs.declared.answer.LivenessRow.{LivenessRow}
-use Rattle.node_calls.specs.Fitting.{are_proposer_rows, are_attester_rows}
+use Rattle.node_calls.specs.Fitting.{are_proposer_rows, are_attester_rows, most_rows}
 use Rattle.beacon_node.specs.Said.{Said, genesis_is, fork_is, syncing_is, validators_are, proposers_are, attesters_are, data_is, block_is, liveness_is}
 
 -- the next reading, where this one gave a value
@@ -88,6 +89,10 @@ each_row reading (item d ds) = do
 abbrev pub rows_in : {Row : Type 0} → (Data → Option Row) → Data → Option (List Row)
 rows_in reading d = items_in (codes "data") d >>= each_row reading
 
+-- those of an answer about duties: a list of more elements than it may have rows is not read
+abbrev pub duty_rows_in : {Row : Type 0} → (Data → Option Row) → Data → Option (List Row)
+duty_rows_in reading d = items_in (codes "data") d >>= (λ ds. if nat_le (items_len ds) most_rows then each_row reading ds else None)
+
 -- ---- answers
 
 abbrev pub genesis_in : Data → Option Said
@@ -107,13 +112,13 @@ syncing_in d = do
 abbrev pub proposers_in : ℕ → Data → Option Said
 proposers_in epoch d = do
   root ← root_in (codes "dependent_root") d
-  rows ← rows_in proposer_row d
+  rows ← duty_rows_in proposer_row d
   if are_proposer_rows epoch rows then Some (proposers_are root rows) else None
 
 abbrev pub attesters_in : ℕ → Data → Option Said
 attesters_in epoch d = do
   root ← root_in (codes "dependent_root") d
-  rows ← rows_in attester_row d
+  rows ← duty_rows_in attester_row d
   if are_attester_rows epoch rows then Some (attesters_are root rows) else None
 
 -- the source of a vote is no later than its target

@@ -5,7 +5,7 @@ ghost use Rattle.node_calls.specs.Fitting.{fits};
 ghost use Rattle.beacon_node.specs.Readings as reading;
 ghost use Rattle.beacon_node.specs.Said.{reply_said, said};
 
-use crate::rows::rows_in;
+use crate::rows::{duty_rows_in, rows_in};
 use edge_kit::{Items, Root, Sig};
 use http_wire::{Response, WireFault};
 use json_members::{bytes_in, flag_in, json_of, number_in, text_in};
@@ -167,7 +167,7 @@ fn proposers_in(alloc: Global, epoch: u64, value: &Value) -> Result<Option<Answe
     let Some(dependent_root) = root_in(value, "dependent_root") else {
         return Ok(None);
     };
-    let Some(rows) = rows_in(alloc, value)? else {
+    let Some(rows) = duty_rows_in(alloc, value)? else {
         return Ok(None);
     };
     if !are_proposers(alloc, epoch, rows.as_slice())? {
@@ -186,7 +186,7 @@ fn attesters_in(alloc: Global, epoch: u64, value: &Value) -> Result<Option<Answe
     let Some(dependent_root) = root_in(value, "dependent_root") else {
         return Ok(None);
     };
-    let Some(rows) = rows_in(alloc, value)? else {
+    let Some(rows) = duty_rows_in(alloc, value)? else {
         return Ok(None);
     };
     if !are_attesters(alloc, epoch, rows.as_slice())? {

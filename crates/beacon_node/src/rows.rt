@@ -11,6 +11,9 @@ use node_calls::{AttesterRow, LivenessRow, ProposerRow, ValidatorRow};
 use serde_json::Value;
 use std::alloc::{AllocError, Global};
 
+/// How many rows an answer about duties has at most.
+const MAX_DUTY_ROWS: usize = 65_536;
+
 /// A row of an answer's list.
 pub(crate) trait Row: Sized + Drop {
     ghost reading: { Data → Option Self };
@@ -84,6 +87,23 @@ pub(crate) fn rows_in<R: Row>(alloc: Global, value: &Value) -> Result<Option<Ite
     let Some(items) = items_in(value, "data") else {
         return Ok(None);
     };
+    each_row(alloc, items)
+}
+
+/// The rows of the list `data` of an answer about duties, if each of its elements writes one and they are no more than such an
+/// answer may have; of a longer list none is read. The error is want of memory.
+pub(crate) fn duty_rows_in<R: Row>(
+    alloc: Global,
+    value: &Value,
+) -> Result<Option<Items<R>>, AllocError>
+    ensures { IfOk result (λ found. found ≡ reading.duty_rows_in R.reading (view value.now)) }
+{
+    let Some(items) = items_in(value, "data") else {
+        return Ok(None);
+    };
+    if items.len() > MAX_DUTY_ROWS {
+        return Ok(None);
+    }
     each_row(alloc, items)
 }
 
