@@ -56,6 +56,7 @@ module _ {K V C : Type 0} (leads : K → List (DeskCall × DeskReply) → K → 
     at_once = r.at_once;
     door_stops = r.door_stops;
     disk_stops = r.disk_stops;
+    each_ends = r.each_ends;
     once = r.once;
     once_back = r.once_back;
     as_many = r.as_many;
