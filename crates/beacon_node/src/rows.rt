@@ -107,8 +107,8 @@ pub(crate) fn duty_rows_in<R: Row>(
     each_row(alloc, items)
 }
 
-/// The rows that the elements write, if each writes one. Memory is taken for rows that were read alone, so none for a long list of what
-/// is no row. The error is want of memory.
+/// The rows that the elements write, if each writes one. Memory is taken only for rows that were read. The error is want of
+/// memory.
 fn each_row<R: Row>(alloc: Global, items: &[Value]) -> Result<Option<Items<R>>, AllocError>
     ensures { IfOk result (λ found. found ≡ reading.each_row R.reading (items_view items.now)) }
 {

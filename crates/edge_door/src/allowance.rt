@@ -24,7 +24,7 @@ impl Allowance {
         })
     }
 
-    // That of a span of this length, of which nothing was overlooked yet.
+    // That of a span with this limit, with no pause yet.
     pub(crate) fn of(span: Span, limit: Duration) -> Self {
         Allowance {
             span,

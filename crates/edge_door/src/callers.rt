@@ -31,7 +31,8 @@ impl Callers {
     }
 
     /// For how many microseconds the door naps after a look that found something, or the first of a turn, before it looks again
-    /// whether a connection came, more of one came in or can be sent, or its halt was raised.
+    /// whether a connection came, more of one came in or can be sent, or its halt was raised. Naps below `shortest_nap` are left
+    /// out.
     pub(crate) fn first_look(self) -> u64 {
         match self {
             Callers::KeyManagers => 1_000,
@@ -39,7 +40,7 @@ impl Callers {
         }
     }
 
-    /// Naps that are shorter than this many microseconds are not taken: the door looks again at once, and only lets others run
+    /// Naps that are shorter than this many microseconds are left out: the door looks again at once, and only lets others run
     /// before. The request of a validator client follows its connection within some 50 microseconds, and to fall asleep and to
     /// be woken takes as long as that.
     pub(crate) fn shortest_nap(self) -> u64 {

@@ -50,7 +50,7 @@ const FORBIDDEN: i32 = 1;
 /// wait, so each look goes on until nothing more can be done. Where something is left that may be done later, it only naps.
 ///
 /// The times of all go on from one turn at the door to the next, so that a peer that sends a byte now and then is given up in its
-/// time, however many others are served meanwhile. Only the time in which nobody looked counts for none.
+/// time, however many others are served meanwhile. Only the time in which nobody looked counts for no connection.
 pub(crate) struct Lobby<'a, N: Net + Eprint + Clock + Drop> {
     handle: N,
     host: String,

@@ -42,7 +42,7 @@ use std::rt::Clock;
 /// one more: `accept` goes on with them. What is left of a reply was sent by `hang_up`, and a connection whose peer has ended
 /// it, or was silent for half a second since, leaves at the next look.
 ///
-/// The time of a connection that waits or leaves goes on from turn to turn, so that none of a peer that is slow begins anew. Only
+/// The time of a connection that waits or leaves goes on from turn to turn, so that a slow peer's time never begins anew. Only
 /// what passes while nobody is at the door does not count, and what has come in until then is read before a request is given
 /// up, so that no request that is there whole is lost.
 ///

@@ -40,8 +40,7 @@ pub fn write_request<L: Link>(
     }
 }
 
-/// Writes the one spelling of a response, its head and its body each in pieces of its own. The failures are those of
-/// [`write_request`].
+/// Writes the one spelling of a response, its head first, then its body. The failures are those of [`write_request`].
 pub fn write_response<L: Link>(
     alloc: Global,
     link: &mut L,
