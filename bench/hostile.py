@@ -1,18 +1,22 @@
 """Plays changed files, lines, requests, responses and journals to the built program, for `hostile.sh`."""
-import collections, json, multiprocessing, os, random, re, socket, subprocess, sys, tempfile, threading, time
+import collections, json, multiprocessing, os, random, re, signal, socket, subprocess, sys, tempfile, threading, time
 import hostile_inputs as inputs
+import hostile_large as limits
 import hostile_readings as reading
-from hostile_readings import GENESIS, TOKEN, Client, Unread, compact
+from hostile_inputs import KEY, PATHS, SLOT
+from hostile_readings import GENESIS, TOKEN, Client, compact
 
 PROGRAM, EACH = sys.argv[1], sys.argv[2]
 # The bounds of an input: processor time, and memory above what the program has and so many times the input. The C library takes memory
 # in steps of 132 KiB, and a thread's first in a step of its own.
 MICROS, TIMES, SLACK = 50000, 3, 600
 
+# Seconds after which a process that gives no answer, or does not end, is killed: an answer has the first, a run of `serve` the second.
+LIMIT, TURN_LIMIT = 20, 600
+
 class Differs(Exception):
     """The program did another thing than what was wanted."""
 
-# (a peer that gives no reply in time is one too)
 FAILURES = Differs, OSError, subprocess.TimeoutExpired
 
 def wanted(what, data, is_so, *found):
@@ -25,7 +29,7 @@ class Tally:
     def __init__(self):
         self.tried, self.kinds, self.peak, self.differs = 0, collections.Counter(), 0, []
         self.slowest, self.longest, self.greedy = (0, 0, ''), (0, 0, ''), (0, 0, '')
-        self.over = collections.Counter()
+        self.over, self.late = collections.Counter(), collections.Counter()
 
     def count(self, kind, name, size, micros, wall, extra, peak):
         """An input of this size took so many microseconds of processor time, so many went by, and so many KiB more memory were held at its peak."""
@@ -45,6 +49,7 @@ class Tally:
         self.tried += other.tried
         self.kinds += other.kinds
         self.over += other.over
+        self.late += other.late
         self.peak = max(self.peak, other.peak)
         self.differs += other.differs
         self.slowest, self.longest, self.greedy = (max(getattr(self, it), getattr(other, it)) for it in ('slowest', 'longest', 'greedy'))
@@ -57,6 +62,7 @@ class Tally:
         yield '  peak %.1f MB; most above three times the input %.0f KiB (%s, %d bytes)' % (self.peak / 1024, self.greedy[0], self.greedy[2], self.greedy[1])
         yield '  slowest %.1f ms of processor time (%s, %d bytes); longest %.1f ms (%s, %d bytes)' % (
             self.slowest[0] / 1000, self.slowest[2], self.slowest[1], self.longest[0] / 1000, self.longest[2], self.longest[1])
+        yield '  late %d%s' % (sum(self.late.values()), ''.join(', %s %d' % it for it in sorted(self.late.items())))
         for what, number in sorted(self.over.items()):
             yield '  above the bounds: %s, %d times' % (what, number)
 
@@ -66,23 +72,63 @@ class Living:
     def __init__(self, words, **streams):
         self.process = subprocess.Popen([PROGRAM] + words, **streams)
         self.clock = (~self.process.pid << 3) | 2
-        self.begun = None
+        self.begun, self.overdue = None, None
+        # (the input before, and the one that it has, or had last)
+        self.earlier, self.data = b'', b''
+
+    def limited(self, seconds=LIMIT):
+        """Kills the process after so many seconds, unless what this gives is cancelled before."""
+        timer = threading.Timer(seconds, self.expire, [seconds])
+        timer.daemon = True
+        timer.start()
+        return timer
+
+    def expire(self, seconds):
+        self.overdue = seconds
+        self.process.kill()
+
+    def ended(self):
+        """How the process has ended."""
+        code = self.process.returncode
+        told = 'it is still there' if code is None else 'status %d' % code if code >= 0 else 'signal %d' % -code
+        return told + (', as it was killed after %d s' % self.overdue if self.overdue else '')
+
+    def fail(self, what, *found):
+        """Names the input that the process has, and the one before, after whose answer it may have ended, and how it ended. Where it has not it is killed."""
+        try:
+            self.process.wait(1)
+        except subprocess.TimeoutExpired:
+            found += ('it was still there, and is killed',)
+            self.stop()
+        wanted(what, self.data, False, self.ended(), *found, b'after ' + self.earlier[:2000])
 
     def memory(self):
         """The greatest memory that was resident since it was last asked from when on, what of it is of files now, and what is not."""
         with open('/proc/%d/status' % self.process.pid) as status:
             text = status.read()
-        return [int(re.search(name + r':\s+(\d+)', text)[1]) for name in ('VmHWM', 'RssFile', 'RssAnon')]
+        found = [re.search(name + r':\s+(\d+)', text) for name in ('VmHWM', 'RssFile', 'RssAnon')]
+        if None in found:
+            # (of a process that has ended the system does not tell them)
+            self.fail('a process that lives')
+        return [int(it[1]) for it in found]
 
-    def begin(self):
-        with open('/proc/%d/clear_refs' % self.process.pid, 'w') as file:
-            file.write('5')
-        self.held, self.spent, self.begun = self.memory()[2], time.clock_gettime_ns(self.clock), time.perf_counter_ns()
+    def begin(self, data):
+        """Before an input is given."""
+        try:
+            with open('/proc/%d/clear_refs' % self.process.pid, 'w') as file:
+                file.write('5')
+            self.held, self.spent, self.begun = self.memory()[2], time.clock_gettime_ns(self.clock), time.perf_counter_ns()
+        except OSError as fault:
+            self.fail('a process that lives', fault)
+        self.earlier, self.data = self.data, data
 
     def end(self, tally, kind, name, size):
-        wall, spent = time.perf_counter_ns(), time.clock_gettime_ns(self.clock)
+        try:
+            wall, spent = time.perf_counter_ns(), time.clock_gettime_ns(self.clock)
+            peak, of_files, _ = self.memory()
+        except OSError as fault:
+            self.fail('a process that lives', fault)
         self.took = (wall - self.begun) / 1e9
-        peak, of_files, _ = self.memory()
         tally.count(kind, name, size, (spent - self.spent) // 1000, (wall - self.begun) // 1000, max(0, peak - of_files - self.held), peak)
 
     def stop(self):
@@ -94,14 +140,28 @@ class Session(Living):
         super().__init__(['session', '--genesis', GENESIS, *words], stdin=subprocess.PIPE, stdout=subprocess.PIPE, stderr=subprocess.DEVNULL)
 
     def answer(self, line):
-        self.process.stdin.write(line + b'\n')
-        self.process.stdin.flush()
-        return self.process.stdout.readline()[:-1]
+        timer, told = self.limited(), b''
+        try:
+            self.process.stdin.write(line + b'\n')
+            self.process.stdin.flush()
+            told = self.process.stdout.readline()
+        except OSError:
+            pass
+        finally:
+            timer.cancel()
+        if not told.endswith(b'\n'):
+            self.fail('an answer', told)
+        return told[:-1]
 
     def close(self, data):
-        self.process.stdin.close()
-        rest = self.process.stdout.read()
-        wanted('the end of a session', data, self.process.wait() == 0 and rest == b'', self.process.returncode, rest)
+        timer = self.limited()
+        try:
+            self.process.stdin.close()
+            rest = self.process.stdout.read()
+            self.process.wait()
+        finally:
+            timer.cancel()
+        wanted('the end of a session', data, self.process.returncode == 0 and rest == b'', self.ended(), rest)
 
 # ---- the program, a run for each input
 
@@ -121,7 +181,9 @@ class Each:
             file.write(data)
         self.helper.stdin.write('%s\t%s\n' % (self.given, self.told))
         self.helper.stdin.flush()
-        status, micros, wall, peak = map(int, self.helper.stdout.readline().split())
+        told = self.helper.stdout.readline().split()
+        wanted('a run that can be begun', data, len(told) == 4, told)
+        status, micros, wall, peak = map(int, told)
         with open(self.told, 'rb') as file:
             return status, file.read(), micros, wall, peak - self.own, peak
 
@@ -165,7 +227,7 @@ def name_of(answer):
 
 def play_line(session, client, tally, name, data):
     answer = reading.answer_to(client, data)
-    session.begin()
+    session.begin(data)
     got = session.answer(data)
     session.end(tally, name_of(answer), name, len(data))
     if answer['answer'] == 'compacted':
@@ -206,32 +268,16 @@ def lines(draw, count, tally):
     changes, examples = inputs.Changes(draw), inputs.example_lines()
     play_lines(draw, count, tally, lambda: ('a line', changes.changed(draw.choice(examples), examples).replace(b'\n', b' ')))
 
-def as_line(data, escaped):
-    return json.dumps({'op': 'merge', 'file': data.decode()}, ensure_ascii=escaped).encode()
-
 # ---- files
-
-def end_of_merge(client, data):
-    """The status and the output of a merge, and what it is counted as."""
-    try:
-        genesis, books = reading.file_of(data)
-    except Unread as unread:
-        told = unread.args[0]
-        words = ''.join(' %s %s' % it for it in told.items() if it[0] != 'reason')
-        return 12, 'validator: file refused: %s%s\n' % (told['reason'], words), ' '.join(told[it] for it in ('reason', 'member') if it in told)
-    refused = client.merge(genesis, books)
-    if refused:
-        return 7, 'validator: genesis differs: kept %s, given %s\n' % (refused['kept'], genesis), 'genesis_differs'
-    return 0, 'merged %d\n' % len(books), 'read, merged'
 
 def play_file(each, show, journal, client, tally, data, name='a file'):
     before = journal.held()
-    status, text, kind = end_of_merge(client, data)
+    status, text, kind = reading.end_of_merge(client, data)
     got, out, micros, wall, extra, peak = each.run(data)
     tally.count(kind, name, len(data), micros, wall, extra, peak)
     wanted('a merge', data, got == status and out == text.encode('utf-8', 'surrogatepass'), (status, text), (got, out))
     wanted('a journal after a refused file', data, status == 0 or journal.held() == before)
-    if status == 0 and tally.tried % 3 == 0:
+    if status == 0 and tally.tried % 3 == 1:
         wanted('what is kept', data, show.run()[:2] == (0, client.shown().encode()), client.shown())
 
 def merged_files(folder, count, tally, make):
@@ -265,7 +311,7 @@ def files(draw, count, tally):
                 data = changes.changed(draw.choice(examples), examples)
                 (others if is_text(data) and draw.random() < 0.8 else alone).append(data)
             by_lines, by_runs = Tally(), Tally()
-            play_lines(draw, len(others), by_lines, lambda: ('a file in a line', as_line(others.pop(), draw.random() < 0.5)))
+            play_lines(draw, len(others), by_lines, lambda: ('a file in a line', inputs.as_line(others.pop(), draw.random() < 0.5)))
             merged_files(folder, len(alone), by_runs, lambda: ('a file', alone.pop()))
             tally.join(by_lines), tally.join(by_runs)
 
@@ -285,15 +331,10 @@ def example_journals(draw, folder):
         journal.put(None, None)
         for _ in range(draw.choice((1, 1, 2, 3))):
             text = b'\n'.join(draw.sample(told, draw.choice((1, 5, 20, 60))) + [b'{"op":"compact"}'] * draw.choice((0, 1))) + b'\n'
-            subprocess.run([PROGRAM, 'session', '--genesis', GENESIS, '--journal', journal.path], input=text, stdout=subprocess.DEVNULL, stderr=subprocess.DEVNULL)
+            done = subprocess.run([PROGRAM, 'session', '--genesis', GENESIS, '--journal', journal.path], input=text, stdout=subprocess.DEVNULL, stderr=subprocess.DEVNULL, timeout=LIMIT)
+            wanted('a session', text, done.returncode == 0, done.returncode)
         found.append(journal.held())
     return [(first or b'', second or b'') for first, second in found]
-
-def after_opening(first, second):
-    """The first file once a journal was opened: where none of the two was begun it is made."""
-    if any(len(it) > 1 and it[0] == 1 for it in (first, second)):
-        return first
-    return b'\x01' + reading.MAGIC + bytes(32) + b'\x00' + first[42:]
 
 def journals(draw, count, tally):
     changes = inputs.Changes(draw)
@@ -325,7 +366,7 @@ def play_journal(each, journal, tally, first, second, name='a journal'):
     tally.count(kind, name, len(first) + len(second), micros, wall, extra, peak)
     data = first + b' | ' + second
     wanted('a journal', data, got == status and out == text.encode(), (status, text), (got, out))
-    wanted('the files of a journal', data, journal.held() == (after_opening(first, second) if status == 0 else first, second), journal.held())
+    wanted('the files of a journal', data, journal.held() == (reading.after_opening(first, second) if status == 0 else first, second), journal.held())
 
 # ---- servers
 
@@ -370,9 +411,6 @@ class Server:
     def stop(self):
         self.listening.close()
 
-def as_json(value):
-    return inputs.response(200, json.dumps(value).encode())
-
 # ---- responses of a signing service
 
 def signatures(draw, count, tally, fixed=()):
@@ -383,56 +421,43 @@ def signatures(draw, count, tally, fixed=()):
     try:
         while tally.tried < count:
             session = Session('--signer', server.url)
-            said[0] = as_json({'data': [{'status': 'imported'}]})
-            session.answer(compact({'op': 'activate', 'pubkey': key}).encode())
-            for slot in range(min(401, count - tally.tried + 1)):
-                root = '0x%064x' % (slot + 1)
-                name, said[0] = ('a response', examples[0]) if slot == 0 else left.pop(0) if left else ('a response', changes.changed(draw.choice(examples), examples, ('field',)))
-                answer = reading.signed_by(said[0], root)
-                session.begin()
-                got = session.answer(compact({'op': 'block', 'pubkey': key, 'slot': str(slot), 'signing_root': root}).encode())
-                session.end(tally if slot else Tally(), name_of(answer), name, len(said[0]))
-                is_late = session.took > 2.5 and got == b'{"answer":"unsigned","cause":"fault"}'
-                wanted('an answer', said[0], is_late or got == compact(answer).encode(), answer, got)
-            session.close(said[0])
-            session.stop()
+            try:
+                said[0] = inputs.as_json({'data': [{'status': 'imported'}]})
+                session.answer(compact({'op': 'activate', 'pubkey': key}).encode())
+                for slot in range(min(401, count - tally.tried + 1)):
+                    root = '0x%064x' % (slot + 1)
+                    name, said[0] = ('a response', examples[0]) if slot == 0 else left.pop(0) if left else ('a response', changes.changed(draw.choice(examples), examples, ('field',)))
+                    answer = reading.signed_by(said[0], root)
+                    session.begin(said[0])
+                    got = session.answer(compact({'op': 'block', 'pubkey': key, 'slot': str(slot), 'signing_root': root}).encode())
+                    session.end(tally if slot else Tally(), name_of(answer), name, len(said[0]))
+                    # (the service has 3 seconds to answer)
+                    is_late = session.took > 2.5 and got == b'{"answer":"unsigned","cause":"fault"}'
+                    tally.late['responses'] += is_late
+                    wanted('an answer', said[0], is_late or got == compact(answer).encode(), answer, got)
+                session.close(said[0])
+            finally:
+                session.stop()
     finally:
         server.stop()
 
 # ---- answers of beacon nodes
 
-SLOT, KEY = 100, '0x' + '1' * 96
-ZERO = '0x' + '0' * 64
-PATHS = (('genesis', '/beacon/genesis'), ('fork', '/fork'), ('syncing', '/node/syncing'), ('version', '/node/version'), ('validators', '/head/validators'),
-         ('proposer', '/duties/proposer/'), ('attester', '/duties/attester/'), ('liveness', '/liveness/'), ('data', '/attestation_data'), ('block', '/validator/blocks/'))
-
-def plain_answers(genesis_time):
-    """What a node says that does not lie, by question and epoch."""
-    row = {'pubkey': KEY, 'validator_index': '7', 'slot': str(SLOT)}
-    block = {'slot': str(SLOT), 'proposer_index': '7', 'parent_root': ZERO, 'state_root': ZERO, 'body': {
-        'randao_reveal': '0x' + '0' * 192, 'eth1_data': {'deposit_root': ZERO, 'deposit_count': '0', 'block_hash': ZERO}, 'graffiti': ZERO,
-        'proposer_slashings': [], 'attester_slashings': [], 'attestations': [], 'deposits': [], 'voluntary_exits': []}}
-    return {'genesis': {'data': {'genesis_time': str(genesis_time), 'genesis_validators_root': GENESIS, 'genesis_fork_version': '0x00000000'}},
-            'fork': {'data': {'previous_version': '0x00000000', 'current_version': '0x00000000', 'epoch': '0'}}, 'syncing': {'data': {'is_syncing': False}},
-            'version': {'data': {'version': 'stand-in/1'}}, 'validators': {'data': [{'index': '7', 'validator': {'pubkey': KEY}}]},
-            'proposer': {'dependent_root': ZERO, 'data': [row]},
-            'attester': {'dependent_root': ZERO, 'data': [{**row, 'committee_index': '2', 'committee_length': '128', 'committees_at_slot': '64', 'validator_committee_index': '3'}]},
-            'liveness': {'data': [{'index': '7', 'is_live': False}]},
-            'data': {'data': {'slot': str(SLOT), 'index': '2', 'beacon_block_root': ZERO, 'source': {'epoch': '2', 'root': ZERO}, 'target': {'epoch': '3', 'root': ZERO}}},
-            'block': {'version': 'phase0', 'data': block}}
-
 class Liars:
-    """Nodes of which the last one does not lie. Each is asked a question after the other until one gives what can be read. Where the machine
-    is so busy that an answer comes late, a node is set aside, and nothing more is compared in that run."""
+    """Nodes of which the last one does not lie. Each is asked a question after the other until one gives what can be read. Where the machine is
+    so busy that a node has passed its limit it is set aside, so in the rest of that run the order in which nodes are asked is not compared."""
 
     def __init__(self, draw, count, tally):
         self.draw, self.count, self.tally, self.changes = draw, count, tally, inputs.Changes(draw)
         self.examples, self.serving, self.differs = inputs.example_answers(), None, []
+        # (an exchange may last 60 seconds; of the questions whether nodes are syncing each has a share of 2, and there is one share more than nodes)
+        self.longest, self.share, self.together = 50, 1.7 / (count + 1), 1.7
+        self.compared = [name for name, _ in PATHS if name not in ('syncing', 'version')]
         self.server = Server(self.say)
 
     def begin(self):
-        self.plain = plain_answers(int(time.time()) - 12 * SLOT - 3)
-        self.last, self.passed, self.before, self.of_syncing, self.is_late = {}, set(), None, {}, False
+        self.plain = inputs.plain_answers(int(time.time()) - 12 * SLOT - 3)
+        self.last, self.passed, self.before, self.of_syncing, self.is_late, self.of_share = {}, set(), None, {}, False, 0
         return ['%s/%d' % (self.server.url, number) for number in range(self.count)]
 
     def next_after(self, number):
@@ -445,71 +470,136 @@ class Liars:
         if number != due and not self.is_late and not (number == 0 and question in ('genesis', 'fork')):
             self.differs.append('node %d is asked for %s after node %d, whose answer can%s be read\ninput: %r' % (number, question, at, '' if was_read else 'not', data[:2000]))
 
-    def note(self):
-        if self.serving and self.serving.begun and self.before:
-            kind, name, size = self.before
-            self.serving.end(self.tally, kind, name, size)
-            self.is_late = self.is_late or self.serving.took > 1.5
-        if self.serving:
-            self.serving.begin()
-        self.before = None
+    def check_last(self):
+        """Once the run is over: the last answer to each question could be read, as the next node is asked otherwise."""
+        for question in self.compared:
+            at, was_read, data = self.last.get(question, (-1, True, b''))
+            if not was_read and not self.is_late:
+                self.differs.append('no node is asked for %s after node %d, whose answer cannot be read\ninput: %r' % (question, at, data[:2000]))
+
+    def note(self, serving):
+        """What the answer before has cost, and how long its exchange took, now that the next request is there."""
+        now = time.monotonic()
+        if self.before:
+            question, kind, name, size = self.before
+            if serving and serving.begun:
+                serving.end(self.tally if name else Tally(), kind, name, size)
+            self.hurry(question, now - self.asked)
+        self.before, self.asked = None, now
+
+    def hurry(self, question, took):
+        """Whether a node may have passed its limit by now."""
+        if question == 'syncing':
+            self.of_share += took
+        self.is_late = self.is_late or took > (self.share if question == 'syncing' else self.longest) or self.of_share > self.together
 
     def say(self, method, target, body):
-        self.note()
+        serving = self.serving
+        try:
+            self.note(serving)
+            data = self.said(target)
+            if serving:
+                serving.begin(data)
+            return data
+        except FAILURES as failure:
+            self.differs.append(str(failure) or repr(failure))
+            return b''
+
+    def said(self, target):
         number, path = int(target.split('/')[1]), target.partition('?')[0]
         question = next((name for name, mark in PATHS if mark in path), None)
         if question is None:
             return inputs.response(200, b'')
         epoch = int(path.split('/')[-1]) if question in ('proposer', 'attester', 'liveness') else 0
-        if question not in ('syncing', 'version'):
+        if question in self.compared:
             self.check(question, number)
-        data = self.of_syncing.get(number) if question == 'syncing' else None
-        data = data or self.answer(question, epoch, number)
-        is_read = reading.is_readable(question, epoch, data)
+        name, data, is_read = self.answered(question, epoch, number)
         self.last[question] = number, is_read, data
         if question == 'syncing':
             # (the loop and each lane ask it, and a node says the same to all)
             self.of_syncing[number] = data
             if is_read and json.loads(reading.response_of(data)[1])['data']['is_syncing']:
                 self.passed.add(number)
-        if number < self.count - 1:
-            self.before = ('read, ' if is_read else 'unreadable ') + question, 'an answer to ' + question, len(data)
+        self.before = question, ('read, ' if is_read else 'unreadable ') + question, name, len(data)
         return data
 
-    def answer(self, question, epoch, number):
+    def answered(self, question, epoch, number):
+        """The name of an answer, none where it is no input; the answer; and whether it can be read."""
+        data = self.of_syncing.get(number) if question == 'syncing' else None
+        data = data or self.answer(question, epoch, number)
+        return 'an answer to ' + question if number < self.count - 1 else None, data, reading.is_readable(question, epoch, data)
+
+    def truth(self, question, epoch):
         plain = json.dumps(self.plain[question]).encode()
+        return inputs.response(200, plain.replace(b'"slot": "%d"' % SLOT, b'"slot": "%d"' % (32 * epoch + SLOT % 32)) if epoch else plain)
+
+    def answer(self, question, epoch, number):
         if number == self.count - 1:
-            return inputs.response(200, plain.replace(b'"slot": "%d"' % SLOT, b'"slot": "%d"' % (32 * epoch + SLOT % 32)) if epoch else plain)
-        examples = self.examples.get(question, []) + [plain]
+            return self.truth(question, epoch)
+        examples = self.examples.get(question, []) + [json.dumps(self.plain[question]).encode()]
         while True:
             form = self.draw.choice((inputs.response, inputs.response, inputs.chunked))
             data = self.changes.changed(form(200, self.draw.choice(examples)), examples, ('field',))
             if question != 'genesis' or not reading.is_readable(question, epoch, data):
                 return data
 
+class OneLiar(Liars):
+    """Two nodes, of which the first says these bodies to some questions, and else does not lie."""
+
+    def __init__(self, draw, tally, name, bodies):
+        super().__init__(draw, 2, tally)
+        self.name, self.compared = name, list(bodies)
+        # (they are read before the run, as that takes long)
+        self.fixed = {question: inputs.response(200, body) for question, body in bodies.items()}
+        self.readable = {question: reading.is_readable(question, SLOT // 32, data) for question, data in self.fixed.items()}
+
+    def check_last(self):
+        super().check_last()
+        self.differs += ['no node is asked for ' + question for question in self.compared if question not in self.last]
+
+    def answered(self, question, epoch, number):
+        if number == 0 and question in self.fixed and epoch in (0, SLOT // 32):
+            return '%s, an answer to %s' % (self.name, question), self.fixed[question], self.readable[question]
+        return None, self.truth(question, epoch), True
+
+def play_turn(liars, signer, journal, watch):
+    """A run of one turn, whose nodes these are."""
+    journal.put(None, None)
+    session = Session('--journal', journal.path)
+    session.answer(compact({'op': 'activate', 'pubkey': KEY}).encode())
+    session.close(b'')
+    nodes = liars.begin()
+    serving = Living(['serve', '--genesis', GENESIS, '--journal', journal.path, '--signer', signer.url, '--listen', '127.0.0.1:%d' % free_port(), '--token', TOKEN, '--quiet',
+                      '--slots', '1', '--connections', '0', '--lanes', '1', '--timeout', '60'] + watch + nodes, stdout=subprocess.PIPE, stderr=subprocess.DEVNULL)
+    liars.serving, timer = serving, serving.limited(TURN_LIMIT)
+    try:
+        out = serving.process.communicate()[0]
+    finally:
+        timer.cancel()
+        liars.serving = None
+        serving.stop()
+    liars.check_last()
+    liars.tally.late['runs of serve'] += liars.is_late
+    wanted('a run of serve', serving.data, serving.process.returncode == 0 and not liars.differs, serving.ended(), out, *liars.differs[:1])
+
 def answers(draw, count, tally):
     """Runs of one turn, each with 16 nodes."""
-    signer = Server(lambda method, target, body: as_json({'signature': '0x' + 'ab' * 96}))
+    signer = Server(lambda method, target, body: inputs.as_json({'signature': '0x' + 'ab' * 96}))
     liars = Liars(draw, 16, tally)
     with tempfile.TemporaryDirectory() as folder:
-        journal = Journal(folder)
         while tally.tried < count:
-            journal.put(None, None)
-            session = Session('--journal', journal.path)
-            session.answer(compact({'op': 'activate', 'pubkey': KEY}).encode())
-            session.close(b'')
-            liars.serving = None
-            nodes = liars.begin()
-            serving = Living(['serve', '--genesis', GENESIS, '--journal', journal.path, '--signer', signer.url, '--listen', '127.0.0.1:%d' % free_port(), '--token', TOKEN, '--quiet',
-                              '--slots', '1', '--connections', '0', '--lanes', '1', '--timeout', '60'] + ['--watch'] * draw.choice((0, 0, 1)) + nodes, stdout=subprocess.PIPE, stderr=subprocess.DEVNULL)
-            liars.serving = serving
-            try:
-                out = serving.process.communicate(timeout=600)[0]
-            finally:
-                liars.serving = None
-                serving.stop()
-            wanted('a run of serve', b'', liars.is_late or (serving.process.returncode == 0 and not liars.differs), serving.process.returncode, out, *liars.differs[:1])
+            play_turn(liars, signer, Journal(folder), ['--watch'] * draw.choice((0, 0, 1)))
     signer.stop(), liars.server.stop()
+
+def fixed_answers(draw, count, tally, fixed):
+    """A run of one turn for each of these, whose first node says so."""
+    signer = Server(lambda method, target, body: inputs.as_json({'signature': '0x' + 'ab' * 96}))
+    with tempfile.TemporaryDirectory() as folder:
+        for name, bodies in fixed:
+            liars = OneLiar(draw, tally, name, bodies)
+            play_turn(liars, signer, Journal(folder), [])
+            liars.server.stop()
+    signer.stop()
 
 def responses(draw, count, tally):
     """Half of them of a signing service, half of beacon nodes."""
@@ -527,39 +617,27 @@ def free_port():
         free.bind(('127.0.0.1', 0))
         return free.getsockname()[1]
 
-def quiet_node(method, target, body):
-    """A node before genesis."""
-    path = target.partition('?')[0]
-    if path.endswith('/beacon/genesis'):
-        return as_json({'data': {'genesis_time': str(int(time.time()) + 864000), 'genesis_validators_root': GENESIS, 'genesis_fork_version': '0x00000000'}})
-    if path.endswith('/fork'):
-        return as_json({'data': {'previous_version': '0x00000000', 'current_version': '0x00000000', 'epoch': '0'}})
-    if path.endswith('/syncing'):
-        return as_json({'data': {'is_syncing': False}})
-    if path.endswith('/version'):
-        return as_json({'data': {'version': 'stand-in/1'}})
-    return inputs.response(404, b'{}')
-
-def holding_signer(method, target, body):
-    listed = json.loads(body)
-    count = len(listed.get('keystores') or listed.get('pubkeys') or [])
-    return as_json({'data': [{'status': 'imported' if method == 'POST' else 'deleted', 'message': ''}] * count})
+LISTS = inputs.request('GET', b'')
 
 class Serving(Living):
-    def __init__(self, journal, node, signer):
-        self.port = free_port()
-        super().__init__(['serve', '--genesis', GENESIS, '--journal', journal.path, '--signer', signer.url, '--listen', '127.0.0.1:%d' % self.port, '--token', TOKEN, '--quiet', node.url],
+    """A `serve` that ends by the number of its connections, or, where none is given, by SIGTERM alone."""
+
+    def __init__(self, journal, node, signer, connections=None):
+        self.port, self.connections = free_port(), connections
+        numbers = ['--slots', '0', '--connections', str(connections)] if connections else []
+        super().__init__(['serve', '--genesis', GENESIS, '--journal', journal.path, '--signer', signer.url, '--listen', '127.0.0.1:%d' % self.port, '--token', TOKEN, '--quiet', *numbers, node.url],
                          stdout=subprocess.PIPE, stderr=subprocess.DEVNULL)
+        listed = b''
         for _ in range(600):
             try:
-                socket.create_connection(('127.0.0.1', self.port)).close()
+                listed = self.exchange(LISTS)
                 break
             except OSError:
                 time.sleep(0.05)
-        wanted('serve', b'', self.process.poll() is None and self.reply(inputs.request('GET', b''))[0] == 200)
+        if not listed.startswith(b'HTTP/1.1 200 '):
+            self.fail('a list of keys', listed)
 
-    def reply(self, data):
-        """The status and the body of the reply to these bytes."""
+    def exchange(self, data):
         with socket.create_connection(('127.0.0.1', self.port), timeout=60) as link:
             try:
                 link.sendall(data)
@@ -569,107 +647,93 @@ class Serving(Living):
             held = b''
             while piece := link.recv(65536):
                 held += piece
+        return held
+
+    def reply(self, data):
+        """The status and the body of the reply to these bytes."""
+        timer = self.limited()
+        try:
+            held = self.exchange(data)
+        except OSError as fault:
+            self.fail('a reply', fault)
+        finally:
+            timer.cancel()
         held = held.removeprefix(b'HTTP/1.1 100 Continue\r\n\r\n')
         head, _, body = held.partition(b'\r\n\r\n')
         status = re.match(rb'HTTP/1\.1 (\d{3}) ', head)
         return (int(status[1]) if status else None), body
 
+    def finish(self, client):
+        """Has it end, by its last connection, which lists the keys, or by SIGTERM, which the system ends it by."""
+        if self.process.poll() is not None:
+            self.fail('a process that lives')
+        if self.connections:
+            status, body = reading.reply_to(client, LISTS)
+            got = self.reply(LISTS)
+            wanted('the keys in the end', self.data, got == (status, compact(body).encode()), (status, body), got)
+        else:
+            self.process.terminate()
+        timer = self.limited()
+        try:
+            out = self.process.communicate()[0]
+        finally:
+            timer.cancel()
+        due = 0 if self.connections else -signal.SIGTERM
+        wanted('the end of serve', self.data, self.process.returncode == due and out == b'', self.ended(), out)
+
 def play_request(serving, journal, client, tally, name, data):
     before = journal.held()
     status, body = reading.reply_to(client, data)
-    serving.begin()
+    serving.begin(data)
     got = serving.reply(data)
     serving.end(tally, 'read, answered' if status == 200 else re.sub(':.*| differ.*', '', body['message']), name, len(data))
     wanted('a reply', data, got == (status, compact(body).encode('utf-8', 'surrogatepass')), (status, body), got)
     wanted('a journal after a refused request', data, status == 200 or journal.held() == before)
 
 def requests(draw, count, tally, fixed=()):
-    changes, examples, left = inputs.Changes(draw), inputs.example_requests(), list(fixed)
-    node, signer = Server(quiet_node), Server(holding_signer)
+    """300 to a `serve`. Every second one of these ends by the number of its connections: those of the inputs, the list before them and the one after them."""
+    changes, examples, left, batches = inputs.Changes(draw), inputs.example_requests(), list(fixed), 0
+    node, signer = Server(inputs.quiet_node), Server(inputs.holding_signer)
     with tempfile.TemporaryDirectory() as folder:
         journal = Journal(folder)
         while tally.tried < count:
             journal.put(None, None)
-            serving, client = Serving(journal, node, signer), Client()
+            batch = [left.pop(0) if left else ('a request', changes.changed(draw.choice(examples), examples, ('field', 'field'))) for _ in range(min(300, count - tally.tried))]
+            batch = [(name, data) for name, data in batch if data.strip(b'\r\n')]
+            serving, client = Serving(journal, node, signer, len(batch) + 2 if batches % 2 == 0 else None), Client()
             try:
-                for _ in range(min(300, count - tally.tried)):
-                    name, data = left.pop(0) if left else ('a request', changes.changed(draw.choice(examples), examples, ('field', 'field')))
-                    if data.strip(b'\r\n'):
-                        play_request(serving, journal, client, tally, name, data)
-                wanted('serve', b'', serving.process.poll() is None, serving.process.returncode)
+                for name, data in batch:
+                    play_request(serving, journal, client, tally, name, data)
+                serving.finish(client)
             finally:
                 serving.stop()
+            batches += 1
     node.stop(), signer.stop()
 
 # ---- inputs near the limits
 
-def large_lines(text, name):
-    yield 'a line of ' + name, text
-    yield 'a line with ' + name, b'{"op":"list","more":' + text + b'}'
-    yield 'a line whose op is ' + name, b'{"op":' + text + b'}'
-    yield 'a file of %s in a line' % name, as_line(text, True)[:reading.BODY_LIMIT]
-
-def large_files(size):
-    """Files of about this size, and of four times that."""
-    front, rest = b'{"metadata":{"interchange_format_version":"', b'","genesis_validators_root":"%s"},"data":[' % GENESIS.encode()
-    for name, text in inputs.large_texts(size).items():
-        yield 'a file of ' + name, text
-        yield 'a file with ' + name, front + b'5' + rest + b'],"more":' + text + b'}'
-        yield 'a file whose blocks are ' + name, front + b'5' + rest + b'{"pubkey":"0x' + b'1' * 96 + b'","signed_blocks":' + text + b'}]}'
-    yield 'a file of a long version', inputs.padded(front, b'x', rest + b']}', size)
-    yield 'a file of keys', front + b'5' + rest + b','.join(b'{"pubkey":"0x%096x"}' % n for n in range(65537)) + b']}'
-    yield 'a file of one key often', inputs.padded(front + b'5' + rest + b'{"pubkey":"0x' + b'1' * 96 + b'"}', b',{"pubkey":"0x' + b'1' * 96 + b'"}', b']}', size)
-    yield 'a file of blocks', front + b'5' + rest + b'{"pubkey":"0x' + b'1' * 96 + b'","signed_blocks":[' + b','.join(b'{"slot":"%d"}' % n for n in range(size // 18)) + b']}]}'
-    yield 'a file too long', b' ' * (268435457)
-
-def large_requests(text, name):
-    yield 'a body of ' + name, inputs.request('POST', text)
-    yield 'a body with ' + name, inputs.request('DELETE', b'{"pubkeys":[],"more":' + text + b'}')
-    yield 'keystores of ' + name, inputs.request('POST', b'{"passwords":[],"keystores":' + text + b'}')
-    yield 'a refused body of ' + name, inputs.request('POST', text).replace(TOKEN.encode(), b'other')
-
-def large_heads():
-    for name, field in (('one field', b'X: ' + b'y' * 65000), ('fields', (b'X: ' + b'y' * 1000 + b'\r\n') * 60 + b'X: y'), ('too many fields', b'X: y\r\n' * 70), ('a long field', b'X: ' + b'y' * 70000)):
-        yield 'a head of ' + name, inputs.request('GET', b'').replace(b'\r\n\r\n', b'\r\n' + field + b'\r\n\r\n')
-    yield 'a head of empty lines', b'\n' * 60000 + inputs.request('GET', b'')
-    yield 'chunks of a byte', inputs.request('POST', b'').replace(b'Content-Length: 0', b'Transfer-Encoding: chunked') + b'1\r\n[\r\n' * 200000 + b'0\r\n\r\n'
-    yield 'chunks with extensions', inputs.request('POST', b'').replace(b'Content-Length: 0', b'Transfer-Encoding: chunked') + (b'1;' + b'x' * 60000 + b'\r\n[\r\n') * 60 + b'0\r\n\r\n'
-
-def large_responses(text, name):
-    yield 'a response of ' + name, inputs.response(200, text)
-    yield 'a response with ' + name, inputs.response(200, b'{"signature":' + text + b'}')
-
-def large_journals(size):
-    head, key = b'\x01' + reading.MAGIC + bytes(32), b'\x11' * 48
-    def journal(payload, times=1):
-        frame = b'\x01' + len(payload).to_bytes(4, 'little') + payload
-        return head + frame * times + b'\x00'
-    yield 'a journal of activations', journal(b'\x04' + key, size // 54)
-    yield 'a journal of blocks', head + b''.join(b'\x01' + (58).to_bytes(4, 'little') + b'\x01' + key + n.to_bytes(8, 'little') + b'\x00' for n in range(size // 63)) + b'\x00'
-    yield 'a journal of one batch', journal(b''.join(b'\x02' + key + n.to_bytes(8, 'little') + (n + 1).to_bytes(8, 'little') + b'\x00' for n in range(size // 66)))
-    yield 'a journal of rubbish', journal(b'\x01' * size)
-    yield 'a journal that is cut', head + b'\x01\xff\xff\xff\xff' + b'\x01' * size
-    yield 'a journal after its gate', head + b'\x00' + b'\x01' * size
-
 def large(draw, count, tally):
     """Each of these once, of LARGE bytes (4 MiB)."""
     size = int(os.environ.get('LARGE', 4 << 20))
-    texts = inputs.large_texts(size)
-    for name, text in texts.items():
-        play_all(tally, play_lines, large_lines(text, name))
-        play_all(tally, requests, large_requests(text, name))
-        play_all(tally, signatures, large_responses(text, name))
-    play_all(tally, requests, large_heads())
-    play_all(tally, signatures, ((name.replace('head', 'response'), data.replace(b'GET /eth/v1/keystores HTTP/1.1', b'HTTP/1.1 200 OK')) for name, data in large_heads() if 'head' in name))
+    for name, text in inputs.large_texts(size).items():
+        play_all(tally, play_lines, limits.lines(text, name))
+        play_all(tally, requests, limits.requests(text, name))
+        play_all(tally, signatures, limits.responses(text, name))
+    play_all(tally, play_lines, [('a file of too many keys in a line', inputs.as_line(limits.file_of_keys(reading.KEY_LIMIT + 1), True))])
+    play_all(tally, requests, [('a body with a file of too many keys', limits.import_of_keys(reading.KEY_LIMIT + 1))])
+    play_all(tally, requests, limits.heads())
+    play_all(tally, signatures, ((name.replace('head', 'response'), data.replace(b'GET /eth/v1/keystores HTTP/1.1', b'HTTP/1.1 200 OK')) for name, data in limits.heads() if 'head' in name))
+    play_all(tally, signatures, limits.signatures())
+    play_all(tally, fixed_answers, limits.answers(size, inputs.plain_answers(0), SLOT // 32))
     with tempfile.TemporaryDirectory() as folder:
-        play_all(tally, merged_files, large_files(size), folder)
+        play_all(tally, merged_files, limits.files(size), folder)
     with tempfile.TemporaryDirectory() as folder:
         journal = Journal(folder)
         each = Each(folder, 'show', '--genesis', GENESIS, '--journal', journal.path)
         for pair in example_journals(draw, folder):
             journal.put(*pair)
             each.warm()
-        for name, data in large_journals(size):
+        for name, data in limits.journals(size):
             part = Tally()
             try:
                 play_journal(each, journal, part, data, b'', name)

@@ -1,5 +1,5 @@
-"""The inputs of `hostile.sh`: the examples of the repository's own trials, and changes of them."""
-import json, os, re
+"""The inputs of `hostile.sh`: the examples of the repository's own trials, and changes of them; and what its peers say that do not lie."""
+import json, os, re, time
 from hostile_readings import GENESIS, TOKEN
 
 CRATES = os.path.join(os.path.dirname(os.path.abspath(__file__)), '..', 'crates')
@@ -32,6 +32,10 @@ def example_lines():
     told = [filled(line[2:]) for line in lines_of('session_trials') if line.startswith('> {')]
     told += [of_chain(case) for case in cases_of('word_trials', 'request') if case.startswith('{') or case.startswith(' ')]
     return [line.encode() for line in dict.fromkeys(told)]
+
+def as_line(data, escaped):
+    """A line that merges a file."""
+    return json.dumps({'op': 'merge', 'file': data.decode()}, ensure_ascii=escaped).encode()
 
 def example_requests():
     told = []
@@ -80,6 +84,49 @@ def example_answers():
         if kind == 'answers' and status == '200' and call.startswith('ask ') and body.startswith('{'):
             told.setdefault(call.split(' ')[1], []).append(body.encode())
     return {question: list(dict.fromkeys(bodies)) for question, bodies in told.items()}
+
+# ---- what peers say that do not lie
+
+def as_json(value):
+    return response(200, json.dumps(value).encode())
+
+def quiet_node(method, target, body):
+    """A node before genesis."""
+    path = target.partition('?')[0]
+    if path.endswith('/beacon/genesis'):
+        return as_json({'data': {'genesis_time': str(int(time.time()) + 864000), 'genesis_validators_root': GENESIS, 'genesis_fork_version': '0x00000000'}})
+    if path.endswith('/fork'):
+        return as_json({'data': {'previous_version': '0x00000000', 'current_version': '0x00000000', 'epoch': '0'}})
+    if path.endswith('/syncing'):
+        return as_json({'data': {'is_syncing': False}})
+    if path.endswith('/version'):
+        return as_json({'data': {'version': 'stand-in/1'}})
+    return response(404, b'{}')
+
+def holding_signer(method, target, body):
+    listed = json.loads(body)
+    count = len(listed.get('keystores') or listed.get('pubkeys') or [])
+    return as_json({'data': [{'status': 'imported' if method == 'POST' else 'deleted', 'message': ''}] * count})
+
+SLOT, KEY = 100, '0x' + '1' * 96
+ZERO = '0x' + '0' * 64
+PATHS = (('genesis', '/beacon/genesis'), ('fork', '/fork'), ('syncing', '/node/syncing'), ('version', '/node/version'), ('validators', '/head/validators'),
+         ('proposer', '/duties/proposer/'), ('attester', '/duties/attester/'), ('liveness', '/liveness/'), ('data', '/attestation_data'), ('block', '/validator/blocks/'))
+
+def plain_answers(genesis_time):
+    """What a node says that does not lie, by question and epoch."""
+    row = {'pubkey': KEY, 'validator_index': '7', 'slot': str(SLOT)}
+    block = {'slot': str(SLOT), 'proposer_index': '7', 'parent_root': ZERO, 'state_root': ZERO, 'body': {
+        'randao_reveal': '0x' + '0' * 192, 'eth1_data': {'deposit_root': ZERO, 'deposit_count': '0', 'block_hash': ZERO}, 'graffiti': ZERO,
+        'proposer_slashings': [], 'attester_slashings': [], 'attestations': [], 'deposits': [], 'voluntary_exits': []}}
+    return {'genesis': {'data': {'genesis_time': str(genesis_time), 'genesis_validators_root': GENESIS, 'genesis_fork_version': '0x00000000'}},
+            'fork': {'data': {'previous_version': '0x00000000', 'current_version': '0x00000000', 'epoch': '0'}}, 'syncing': {'data': {'is_syncing': False}},
+            'version': {'data': {'version': 'stand-in/1'}}, 'validators': {'data': [{'index': '7', 'validator': {'pubkey': KEY}}]},
+            'proposer': {'dependent_root': ZERO, 'data': [row]},
+            'attester': {'dependent_root': ZERO, 'data': [{**row, 'committee_index': '2', 'committee_length': '128', 'committees_at_slot': '64', 'validator_committee_index': '3'}]},
+            'liveness': {'data': [{'index': '7', 'is_live': False}]},
+            'data': {'data': {'slot': str(SLOT), 'index': '2', 'beacon_block_root': ZERO, 'source': {'epoch': '2', 'root': ZERO}, 'target': {'epoch': '3', 'root': ZERO}}},
+            'block': {'version': 'phase0', 'data': block}}
 
 # ---- changes
 

@@ -6,6 +6,7 @@ HERE = os.path.dirname(os.path.abspath(__file__))
 GENESIS = '0x' + '0' * 64
 TOKEN = 'TOKEN'
 BODY_LIMIT, HEAD_LIMIT, FIELD_LIMIT = 16777216, 65536, 64
+FILE_LIMIT, KEY_LIMIT, ROW_LIMIT = 268435456, 65536, 65536
 
 def taken_from(script, first, last):
     """The names that the lines of a script define from the one that begins so on, up to the one that begins so."""
@@ -40,7 +41,7 @@ def root_or_none(root):
 
 def file_of(data):
     """The genesis root of a file, and by key its blocks and votes as `reference.sh` has them. Else Unread, with the members of a refusal."""
-    if len(data) > 268435456:
+    if len(data) > FILE_LIMIT:
         raise Unread({'reason': 'too_long', 'len': str(len(data))})
     try:
         genesis, books = files['file_of'](data)
@@ -77,6 +78,9 @@ class Client:
         """Merges a file; else why not."""
         if genesis != self.genesis:
             return {'reason': 'genesis_differs', 'kept': self.genesis, 'given': genesis}
+        new = sum(key not in self.keys for key in books)
+        if len(self.keys) + new > KEY_LIMIT:
+            return {'reason': 'too_many_keys', 'have': str(len(self.keys)), 'new': str(new)}
         for key, book in books.items():
             self.key(key).files.append(book)
 
@@ -130,6 +134,27 @@ class Client:
         """The list of what becomes of keys, and the text of the file that comes with it."""
         outcomes = [(key, self.give_up(key)) for key in keys]
         return [it for _, it in outcomes], self.file([key for key, it in outcomes if it['status'] != 'not_found'])
+
+# ---- files that are merged by a run
+
+def end_of_merge(client, data):
+    """The status and the output of a merge, and what it is counted as."""
+    if len(data) > FILE_LIMIT:
+        return 9, 'validator: input too long: limit %d\n' % FILE_LIMIT, 'too_long'
+    try:
+        genesis, books = file_of(data)
+    except Unread as unread:
+        return refused_merge(unread.args[0])
+    refused = client.merge(genesis, books)
+    if refused and refused['reason'] == 'genesis_differs':
+        return 7, 'validator: genesis differs: kept %s, given %s\n' % (refused['kept'], genesis), 'genesis_differs'
+    if refused:
+        return refused_merge(refused)
+    return 0, 'merged %d\n' % len(books), 'read, merged'
+
+def refused_merge(told):
+    words = ''.join(' %s %s' % it for it in told.items() if it[0] != 'reason')
+    return 12, 'validator: file refused: %s%s\n' % (told['reason'], words), ' '.join(told[it] for it in ('reason', 'member') if it in told)
 
 # ---- members of an object
 
@@ -431,6 +456,8 @@ def reply_to(client, data):
             return 200, {'data': outcomes, 'slashing_protection': text}
         if of[2] is not None:
             answer, is_merged = merged(client, of[2])
+            if not is_merged and answer['reason'] == 'too_many_keys':
+                raise Unread(500, 'too_many_keys')
             if not is_merged:
                 raise Unread(400, 'protection refused: ' + answer['reason'])
         return 200, {'data': [client.take_in(it) for it in of[0]]}
@@ -480,7 +507,7 @@ def distinct(items):
 def duties_in(value, epoch, reading):
     some_hex(value, 'dependent_root', 32)
     rows = rows_in(value, reading)
-    if len(rows) > 65536 or any(slot // 32 != epoch for slot, _ in rows):
+    if len(rows) > ROW_LIMIT or any(slot // 32 != epoch for slot, _ in rows):
         raise Unread('rows')
     return rows
 
@@ -695,3 +722,9 @@ def opened(first, second, genesis):
     begun = [it for it in found if it is not None]
     items = max(begun, key=lambda it: it[0])[1] if begun else []
     return 0, replayed(items, genesis).shown()
+
+def after_opening(first, second):
+    """The first file once a journal was opened: where none of the two was begun it is made."""
+    if any(len(it) > 1 and it[0] == 1 for it in (first, second)):
+        return first
+    return b'\x01' + MAGIC + bytes(32) + b'\x00' + first[42:]
