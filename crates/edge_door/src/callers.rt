@@ -30,9 +30,17 @@ impl Callers {
         }
     }
 
-    /// For how many microseconds the door naps after a look that found something, or the first of a turn, before it looks again
-    /// whether a connection came, more of one came in or can be sent, or its halt was raised. Naps below `shortest_nap` are left
-    /// out.
+    /// For how many microseconds the door naps after a look, where no connection waits for its request to come in, before it looks
+    /// again whether one came, more can be sent, or its halt was raised.
+    pub(crate) fn first_nap(self) -> u64 {
+        match self {
+            Callers::KeyManagers => 1_000,
+            Callers::ValidatorClients => 100,
+        }
+    }
+
+    /// For how many microseconds it naps after a look that found something, where a connection waits for its request to come in.
+    /// Naps below `shortest_nap` are left out.
     pub(crate) fn first_look(self) -> u64 {
         match self {
             Callers::KeyManagers => 1_000,
@@ -42,7 +50,8 @@ impl Callers {
 
     /// Naps that are shorter than this many microseconds are left out: the door looks again at once, and only lets others run
     /// before. The request of a validator client follows its connection within some 50 microseconds, and to fall asleep and to
-    /// be woken takes as long as that.
+    /// be woken takes as long as that. Where no connection waits it naps all the same: the lane that serves the one before is to
+    /// have the processor.
     pub(crate) fn shortest_nap(self) -> u64 {
         match self {
             Callers::KeyManagers => 0,

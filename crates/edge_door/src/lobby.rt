@@ -132,7 +132,7 @@ impl<'a, N: Net + Eprint + Clock + Drop> Lobby<'a, N> {
         listener: &N::Listener,
     ) -> io::Result<Option<Waiting<N::Stream>>> {
         self.resume();
-        let mut nap = self.callers.first_look();
+        let mut nap = self.callers.first_nap();
         'looks: for _ in 0..u64::MAX {
             if self.halt.is_raised() {
                 self.send_out();
@@ -145,7 +145,7 @@ impl<'a, N: Net + Eprint + Clock + Drop> Lobby<'a, N> {
                         return Ok(Some(waiting));
                     }
                 }
-                Look::More => nap = self.callers.first_look(),
+                Look::More => nap = self.next_nap(),
                 found => nap = self.look_later(found, nap),
             }
         }
@@ -162,7 +162,7 @@ impl<'a, N: Net + Eprint + Clock + Drop> Lobby<'a, N> {
     // one more to leave. Once the halt is raised none comes any more, and no peer is asked for the body of its request.
     pub(crate) fn go_on(&mut self, listener: &N::Listener) {
         self.resume();
-        let mut nap = self.callers.first_look();
+        let mut nap = self.callers.first_nap();
         'looks: for _ in 0..u64::MAX {
             if self.halt.is_raised() {
                 return self.send_out();
@@ -175,7 +175,7 @@ impl<'a, N: Net + Eprint + Clock + Drop> Lobby<'a, N> {
                 return;
             }
             nap = match found {
-                Look::More => self.callers.first_look(),
+                Look::More => self.next_nap(),
                 found => self.look_later(found, nap),
             };
         }
@@ -198,16 +198,25 @@ impl<'a, N: Net + Eprint + Clock + Drop> Lobby<'a, N> {
 
     // Lets all connections leave.
     fn send_out(&mut self) {
-        let mut nap = self.callers.first_look();
+        let mut nap = self.callers.first_nap();
         'looks: for _ in 0..u64::MAX {
             if self.exit.is_empty() {
                 return;
             }
             nap = if self.exit.work(&self.handle) {
-                self.callers.first_look()
+                self.callers.first_nap()
             } else {
                 self.look_later(Look::Nothing, nap)
             };
+        }
+    }
+
+    // For how many microseconds it naps after a look that found something.
+    fn next_nap(&self) -> u64 {
+        if self.room.is_empty() {
+            self.callers.first_nap()
+        } else {
+            self.callers.first_look()
         }
     }
 

@@ -112,6 +112,11 @@ impl<S: Read + Write + OpenStream + Drop> Room<S> {
         let _ = self.waiting.push(waiting);
     }
 
+    /// Whether no connection waits.
+    pub(crate) fn is_empty(&self) -> bool {
+        self.waiting.is_empty()
+    }
+
     /// Makes no connection's time shorter by this pause, in which none was looked at.
     pub(crate) fn overlook(&mut self, pause: Duration) {
         'waiting: for waiting in self.waiting.iter_mut() {
