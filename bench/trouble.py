@@ -204,8 +204,8 @@ def dripping(name):
     return wrong + run.amiss([(API + 'POST /eth/v1/keystores: no reply', 1, 1)])
 
 def drips_next_to_a_caller(name):
-    """A peer that sends a byte a second is given up in its 30 seconds, though others are served meanwhile."""
-    run = begin(name, connections=8)
+    """A peer that sends a byte a second is given up in its 30 seconds, though others are served meanwhile. It is one of the nine connections."""
+    run = begin(name, connections=9)
     once_listening(run)
     begun, gone = time.time(), []
     def drips(link):
