@@ -31,7 +31,7 @@ class Tally:
         self.slowest, self.longest, self.greedy = (0, 0, ''), (0, 0, ''), (0, 0, '')
         self.over, self.late = collections.Counter(), collections.Counter()
 
-    def count(self, kind, name, size, micros, wall, extra, peak):
+    def count(self, kind, name, size, micros, wall, extra, peak, data=b''):
         """An input of this size took so many microseconds of processor time, so many went by, and so many KiB more memory were held at its peak."""
         self.tried += 1
         self.kinds[kind] += 1
@@ -41,9 +41,9 @@ class Tally:
         above = extra - TIMES * size // 1024
         self.greedy = max(self.greedy, (above, size, name))
         if micros > MICROS * max(1, size / 2 ** 20):
-            self.over['time: ' + name] += 1
+            self.over['time: %s of %d bytes took %.1f ms: %r' % (name, size, micros / 1000, data[:200])] += 1
         if above > SLACK:
-            self.over['memory: ' + name] += 1
+            self.over['memory: %s of %d bytes took %d KiB: %r' % (name, size, extra, data[:200])] += 1
 
     def join(self, other):
         self.tried += other.tried
@@ -63,8 +63,10 @@ class Tally:
         yield '  slowest %.1f ms of processor time (%s, %d bytes); longest %.1f ms (%s, %d bytes)' % (
             self.slowest[0] / 1000, self.slowest[2], self.slowest[1], self.longest[0] / 1000, self.longest[2], self.longest[1])
         yield '  late %d%s' % (sum(self.late.values()), ''.join(', %s %d' % it for it in sorted(self.late.items())))
-        for what, number in sorted(self.over.items()):
-            yield '  above the bounds: %s, %d times' % (what, number)
+        for what in sorted(self.over)[:20]:
+            yield '  above the bounds: %s' % what
+        if len(self.over) > 20:
+            yield '  above the bounds: %d more' % (len(self.over) - 20)
 
 # ---- the program, as a process that lives over many inputs
 
@@ -129,7 +131,7 @@ class Living:
         except OSError as fault:
             self.fail('a process that lives', fault)
         self.took = (wall - self.begun) / 1e9
-        tally.count(kind, name, size, (spent - self.spent) // 1000, (wall - self.begun) // 1000, max(0, peak - of_files - self.held), peak)
+        tally.count(kind, name, size, (spent - self.spent) // 1000, (wall - self.begun) // 1000, max(0, peak - of_files - self.held), peak, self.data)
 
     def stop(self):
         self.process.kill()
@@ -274,7 +276,7 @@ def play_file(each, show, journal, client, tally, data, name='a file'):
     before = journal.held()
     status, text, kind = reading.end_of_merge(client, data)
     got, out, micros, wall, extra, peak = each.run(data)
-    tally.count(kind, name, len(data), micros, wall, extra, peak)
+    tally.count(kind, name, len(data), micros, wall, extra, peak, data)
     wanted('a merge', data, got == status and out == text.encode('utf-8', 'surrogatepass'), (status, text), (got, out))
     wanted('a journal after a refused file', data, status == 0 or journal.held() == before)
     if status == 0 and tally.tried % 3 == 1:
@@ -363,7 +365,7 @@ def play_journal(each, journal, tally, first, second, name='a journal'):
     status, text = reading.opened(first, second, GENESIS)
     got, out, micros, wall, extra, peak = each.run()
     kind = 'read, shown' if status == 0 else 'genesis differs' if status == 7 else 'damaged, ' + ('end' if text.endswith('end\n') else 'a byte')
-    tally.count(kind, name, len(first) + len(second), micros, wall, extra, peak)
+    tally.count(kind, name, len(first) + len(second), micros, wall, extra, peak, first + second)
     data = first + b' | ' + second
     wanted('a journal', data, got == status and out == text.encode(), (status, text), (got, out))
     wanted('the files of a journal', data, journal.held() == (reading.after_opening(first, second) if status == 0 else first, second), journal.held())

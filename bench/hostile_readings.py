@@ -69,6 +69,8 @@ class Client:
 
     def __init__(self, genesis=GENESIS):
         self.genesis, self.keys, self.states = genesis, {}, {}
+        # (what the signer gave up with a deletion, and did not take in again)
+        self.lacking = set()
 
     def key(self, key):
         self.states.setdefault(key, 'known')
@@ -94,6 +96,8 @@ class Client:
         own = self.keys[key].blocks if len(message) == 2 else self.keys[key].votes
         if message not in own:
             own.append(message)
+        if key in self.lacking:
+            return {'answer': 'unsigned', 'cause': 'no_key'}
         return records['signed_answer'](key, message[-1])
 
     def file(self, keys):
@@ -122,12 +126,15 @@ class Client:
         was = self.states.get(key)
         self.key(key)
         self.states[key] = 'active'
+        if was != 'active':
+            self.lacking.discard(key)
         return {'message': '', 'status': 'duplicate' if was == 'active' else 'imported'}
 
     def give_up(self, key):
         was = self.states.get(key)
         if was == 'active':
             self.states[key] = 'closed'
+            self.lacking.add(key)
         return {'message': '', 'status': {None: 'not_found', 'active': 'deleted'}.get(was, 'not_active')}
 
     def delete(self, keys):

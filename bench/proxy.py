@@ -169,13 +169,15 @@ def scene_times():
     share = throughput(proxy, max(1, min(5, seconds / 12)))
     goal('16 connections and 20 ms: %.2f of what the service itself gives; wanted at least 0.9' % share, share >= 0.9)
     slot_at_once(proxy)
+    idle(proxy)
+    proxy.stop()
+    proxy = Proxy('one', MANY_KEYS, lanes=None)
     for place, pause in enumerate((0, 0.0005, 0.02)):
         of = added(proxy, 1_000_000 * (place + 1), pause, rounds=20 if pause < 0.001 else 4)
         more = of['proxy'] - of['service']
         print('one signature, medians, %.1f ms before each: %.3f ms through the proxy, %.3f by the service itself: the proxy adds %.3f ms; twice 200 bytes and a sync: %.3f ms by fsync, %.3f by fdatasync'
               % tuple(1000 * it for it in (pause, of['proxy'], of['service'], more, of['fsync'], of['fdatasync'])))
         goal('what the proxy adds is %.2f times two syncs; wanted at most 2.5' % (more / of['fsync']), more <= 2.5 * of['fsync'])
-    idle(proxy)
     proxy.stop()
 
 # ---- a storm
