@@ -76,7 +76,7 @@ def signatures():
 # ---- answers of a node
 
 def duties(plain, count, epoch):
-    """The plain answer to a question for duties, with so many rows of this epoch, each of another key."""
+    """The plain answer to a question for duties, with that many rows of this epoch, each of another key."""
     row = plain['data'][0]
     rows = [row] + [{**row, 'pubkey': '0x%096x' % n, 'slot': str(32 * epoch + n % 32)} for n in range(count - 1)]
     return compact({**plain, 'data': rows}).encode()
