@@ -16,7 +16,7 @@ if [ -z "$program" ]; then
         for source in bench/benches/*.rt.txt; do
             cp "$source" "$copy/crates/benches/src/$(basename "$source" .txt)"
         done
-        echo "benches: interchange_io http_wire phase0_blocks phase0_types protect_record slash_defs edge_kit serde_json" >>"$copy/crates.txt"
+        echo "benches: interchange_io http_wire altair_blocks phase0_blocks phase0_types protect_record slash_defs edge_kit serde_json" >>"$copy/crates.txt"
         (cd "$copy/crates/benches" && rt run -- check 1 >"$copy/build" 2>&1) || { cat "$copy/build" >&2; exit 1; }
     fi
 fi

@@ -1,7 +1,7 @@
 #!/bin/sh
-# Hashes per second for the root of a phase 0 block whose lists are all full, beside Python's hashlib doing the same
-# number of hashes of 64 bytes in the same run, and the number of SHA-256 calls for the root. The number is counted by
-# a walk in Python over the same trees, which also computes the root that the program has to print.
+# Hashes per second for the root of a block of phase 0 and of one of Altair whose lists are all full, next to Python's
+# hashlib doing the same number of hashes of 64 bytes in the same run, and the number of SHA-256 calls for each root. The
+# number is counted by a walk in Python over the same trees, which also computes the root that the program has to print.
 # Run it at the top of the repository. The program is built as lay_out.sh says.
 set -eu
 work=$(mktemp -d)
@@ -68,8 +68,10 @@ def indexed(): return container(attesting_indices=numbers(range(2048), 2048), da
 def deposit(): return container(proof=vector([root_of(n) for n in range(33)]), data=container(
     pubkey=raw(b"\x11" * 48), withdrawal_credentials=root_of(6), amount=number(32), signature=sig()))
 
-def block(full):
-    some = lambda make, limit: listing([make() for _ in range(limit if full else 0)], limit)
+def block(version):
+    some = lambda make, limit: listing([make() for _ in range(limit)], limit)
+    more = {} if version == "phase0" else {"sync_aggregate": container(
+        sync_committee_bits=raw(b"\xff" * 64), sync_committee_signature=sig())}
     body = container(
         randao_reveal=sig(),
         eth1_data=container(deposit_root=root_of(1), deposit_count=number(5), block_hash=root_of(2)),
@@ -78,32 +80,34 @@ def block(full):
         attester_slashings=some(lambda: container(attestation_1=indexed(), attestation_2=indexed()), 2),
         attestations=some(lambda: container(aggregation_bits=bits(2048, 2048), data=data(), signature=sig()), 128),
         deposits=some(deposit, 16),
-        voluntary_exits=some(lambda: signed(container(epoch=number(1), validator_index=number(2))), 16))
+        voluntary_exits=some(lambda: signed(container(epoch=number(1), validator_index=number(2))), 16),
+        **more)
     return container(slot=number(1), proposer_index=number(2), parent_root=root_of(3), state_root=root_of(4), body=body)
-
-if len(sys.argv) > 3:
-    root, value = block(False)
-    json.dump(value, open(work + "/stdin", "w"))
-    open(work + "/stdout", "w").write(json.dumps("0x" + root.hex()) + "\n")
-    sys.exit()
-root, value = block(True)
-calls_of_root = calls
-text = json.dumps(value).encode()
 
 def run(given):
     began = time.perf_counter()
     done = subprocess.run([program, "roots"], input=given, stdout=subprocess.PIPE, check=True)
     return time.perf_counter() - began, done.stdout.decode().strip()
-seconds, answer = run(text)
-wanted = json.dumps("0x" + root.hex())
-if answer != wanted:
-    sys.exit(f"the program's root is {answer}, and not {wanted}")
-piece = bytes(64)
-began = time.perf_counter()
-for _ in range(calls_of_root * TIMES):
-    hashlib.sha256(piece).digest()
-theirs = time.perf_counter() - began
-print(f"SHA-256 calls for the root of a full block: {calls_of_root}")
-print(f"the program: {calls_of_root * TIMES / seconds:,.0f} hashes a second ({TIMES} roots, reading {len(text) / 1e6:.1f} MB of JSON included)")
-print(f"Python's hashlib: {calls_of_root * TIMES / theirs:,.0f} hashes of 64 bytes a second")
+
+def look(version):
+    global calls
+    calls = 0
+    root, value = block(version)
+    calls_of_root = calls
+    text = json.dumps({"version": version, "data": value}).encode()
+    seconds, answer = run(text)
+    wanted = json.dumps("0x" + root.hex())
+    if answer != wanted:
+        sys.exit(f"{version}: the program's root is {answer}, and not {wanted}")
+    piece = bytes(64)
+    began = time.perf_counter()
+    for _ in range(calls_of_root * TIMES):
+        hashlib.sha256(piece).digest()
+    theirs = time.perf_counter() - began
+    print(f"{version}: SHA-256 calls for the root of a full block: {calls_of_root}")
+    print(f"{version}: the program: {calls_of_root * TIMES / seconds:,.0f} hashes a second ({TIMES} roots, reading {len(text) / 1e6:.1f} MB of JSON included)")
+    print(f"{version}: Python's hashlib: {calls_of_root * TIMES / theirs:,.0f} hashes of 64 bytes a second; the program takes {seconds / theirs:.2f} times as long")
+
+for version in ("phase0", "altair"):
+    look(version)
 PY

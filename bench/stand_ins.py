@@ -101,10 +101,11 @@ def sign(state, method, target, body):
 
 # ---- the beacon node: what is due is set before each run
 
-def block_at(due, slot, reveal):
+def block_at(due, slot, reveal, version='phase0'):
+    more = {} if version == 'phase0' else {'sync_aggregate': {'sync_committee_bits': '0x' + '%02x' % (slot % 256) * 64, 'sync_committee_signature': '0x' + '55' * 96}}
     return {'slot': str(slot), 'proposer_index': str(due['blocks'][slot]), 'parent_root': '0x%064x' % slot, 'state_root': ZERO, 'body': {
         'randao_reveal': reveal, 'eth1_data': {'deposit_root': ZERO, 'deposit_count': '0', 'block_hash': ZERO}, 'graffiti': ZERO,
-        'proposer_slashings': [], 'attester_slashings': [], 'attestations': [], 'deposits': [], 'voluntary_exits': []}}
+        'proposer_slashings': [], 'attester_slashings': [], 'attestations': [], 'deposits': [], 'voluntary_exits': [], **more}}
 
 def data_at(slot):
     return {'slot': str(slot), 'index': '0', 'beacon_block_root': '0x%064x' % slot, 'source': {'epoch': '0', 'root': ZERO}, 'target': {'epoch': str(slot // 32), 'root': ZERO}}
@@ -135,7 +136,9 @@ def tell(due, method, target, body):
     if path == DATA:
         return 200, {'data': data_at(int(dict(asked)['slot']))}
     if path.startswith('/eth/v2/validator/blocks/'):
-        return 200, {'version': 'phase0', 'data': block_at(due, int(path.split('/')[-1]), dict(asked)['randao_reveal'])}
+        slot = int(path.split('/')[-1])
+        version = due.get('versions', {}).get(slot, 'phase0')
+        return 200, {'version': version, 'data': block_at(due, slot, dict(asked)['randao_reveal'], version)}
     if path in (VOTES, BLOCKS):
         due['refuses'] = due.get('refuses', 0) - 1
         return (503, {'code': 503, 'message': 'takes none'}) if due.get('takes_none') or due['refuses'] >= 0 else (200, None)

@@ -601,6 +601,22 @@ def standard_error(name, quiet):
     wrong += [] if quiet or epochs == sent else ['%s sent in place of %s' % (epochs, dict(sent))]
     return wrong + slowest_amiss(run)
 
+# ---- blocks of two versions
+
+def blocks_of_altair(name):
+    """Blocks are Altair's from epoch 1 on: one of each version is signed whole and posted as it was signed, and one of phase 0 after that is not the duty's."""
+    sessions(name, [{'op': 'activate', 'pubkey': key(n)} for n in range(3)])
+    genesis, blocks = int(time.time()) - 2 - BEGINS * SLOT, {31: 0, 32: 1, 33: 2}
+    node.set(genesis_time=genesis, blocks=blocks, votes={}, versions={32: 'altair'})
+    node.take(), signer.take()
+    due = {(slot, 'block', key(n)) for slot, n in blocks.items()}
+    run = Run(serve(name, 4, 0, options=['--altair', '1']), due, genesis, signer.url, [(node.url, HEALTHY)], 3)
+    wrong = run.amiss(other={(33, 'block', key(2)): 'nodata differs'}, by=genesis + 35 * SLOT + 30)
+    node.set(versions={})
+    wrong += [] if run.versions == {31: 'PHASE0', 32: 'ALTAIR'} else ['the service was sent the versions %s' % run.versions]
+    whole = {int(body['message']['slot']): 'sync_aggregate' in body['message']['body'] for _, body in posted(run.handed)}
+    return wrong + ([] if whole == {31: False, 32: True} else ['posted with a sync aggregate or without: %s' % whole])
+
 SCENES = {
     'first_node_swallows': lambda name: first_node(name, swallow, TIMED_OUT),
     'first_node_drips': lambda name: first_node(name, drip, TIMED_OUT),
@@ -639,6 +655,7 @@ SCENES = {
     'clock_jumps_and_comes_back': clock_steps,
     'clock_goes_back_in_a_watch': clock_goes_back_in_a_watch,
     'token_of_a_file': token_of_a_file,
+    'blocks_of_altair': blocks_of_altair,
     'standard_error': lambda name: standard_error(name, False),
     'standard_error_when_quiet': lambda name: standard_error(name, True),
 }

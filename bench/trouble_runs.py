@@ -231,6 +231,7 @@ class Run:
         """What is wrong with what was signed and posted: what is due and the service signed, within its slot, as often as it should be, the last time to a
         node that took it."""
         asked, self.handed = signer.take(), node.take()
+        self.versions = {int(of['block']['slot']): of['version'] for r in asked if 'block' in (of := (r.body or {}).get('beacon_block', {}))}
         signed, done, wrong = given(asked), collections.Counter(), []
         self.accepted = set()
         for request, body in posted(self.handed):

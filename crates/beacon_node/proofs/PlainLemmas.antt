@@ -4,10 +4,9 @@ use Rattle.std.specs.Prelude.{decimal}
 use Rattle.serde_json.specs.Data.{string}
 use Rattle.serde_json.specs.Written.{has_float, items_have_float}
 use Rattle.phase0_types.specs.Writing.{write}
-use Rattle.phase0_types.specs.Containers.{attestation, beacon_block, signed}
+use Rattle.phase0_types.specs.Containers.{attestation, signed}
 use Rattle.phase0_blocks.specs.Votes.{attestation_value}
-use Rattle.phase0_blocks.specs.Blocks.{beacon_block_value}
-use Rattle.phase0_blocks.specs.Signed.{signed_value}
+use Rattle.altair_blocks.specs.AnyBlocks.{block_shape, block_value, write_signed}
 use Rattle.block_copies.proofs.PlainLemmas.{items_plain, neither, write_plain}
 use Rattle.node_calls.specs.declared.post.Post.{Post}
 use Rattle.node_calls.specs.declared.post.Post.TheVariants as post
@@ -17,5 +16,6 @@ pub numbers_plain : (ns : List ℕ) → items_have_float (number_items ns) ≡ f
 numbers_plain ns = items_plain (λ n. string (decimal n)) ns (λ n. refl)
 
 pub post_plain : (given : Post) → has_float (post_data given) ≡ false
+unfolding write_signed signed
 post_plain (post.Vote vote) = neither (has_float (write attestation (attestation_value vote))) false (write_plain attestation (attestation_value vote)) refl
-post_plain (post.Block block) = write_plain (signed beacon_block) (signed_value beacon_block beacon_block_value block)
+post_plain (post.Block given) = write_plain (signed (block_shape (block_value given.message).0)) ((block_value given.message).1, (given.signature.0, tt))

@@ -1,6 +1,5 @@
 -- What a response of a beacon node means (Beacon API). Members that are not named here are not looked at.
 use Rattle.std.specs.Prelude.{ℕ, ◌&&◌, Bool, List, [], ◌∷◌, Option, Some, None, option_map, if◌then◌else◌, Result, Ok, Err, codes, nat_le}
-use Rattle.std.specs.Str.{bytes_eq}
 use Rattle.std.specs.Result.{result_ok}
 use Rattle.edge_kit.specs.declared.bytes.PubKey.{PubKey}
 use Rattle.edge_kit.specs.declared.bytes.Root.{Root}
@@ -11,7 +10,9 @@ use Rattle.json_members.specs.Reading.{json_of, text_in, number_in, bytes_in, fl
 use Rattle.phase0_types.specs.Shapes.{Shape}
 use Rattle.phase0_types.specs.Values.{ValueOf}
 use Rattle.phase0_types.specs.Reading.{read_at}
-use Rattle.phase0_types.specs.Containers.{fork, checkpoint, attestation_data, beacon_block}
+use Rattle.phase0_types.specs.Containers.{fork, checkpoint, attestation_data}
+use Rattle.altair_blocks.specs.AnyBlocks.{read_block}
+use Rattle.altair_blocks.specs.Versions.{version_named}
 use Rattle.http_wire.specs.declared.message.Response.{Response}
 use Rattle.http_wire.specs.declared.message.WireFault.{WireFault}
 use Rattle.http_wire.specs.declared.message.WireFault.TheVariants as wire
@@ -132,11 +133,14 @@ details_in d = do
   details ← data_value attestation_data d
   if is_ordered details then Some (data_is details) else None
 
--- a block of the first fork
+-- a block of the version that the answer names
 abbrev pub block_in : Data → Option Said
 block_in d = do
-  version ← text_in (codes "version") d
-  if bytes_eq version (codes "phase0") then option_map block_is (data_value beacon_block d) else None
+  name ← text_in (codes "version") d
+  version ← version_named name
+  inner ← get (codes "data") d
+  block ← result_ok (read_block version inner)
+  Some (block_is block)
 
 -- the answer that JSON gives to a question
 abbrev pub answer_in : Ask → Data → Option Said

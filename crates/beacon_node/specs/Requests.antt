@@ -8,10 +8,9 @@ use Rattle.serde_json.specs.Data.{Data, string, array, Items, item, no_items}
 use Rattle.serde_json.specs.View.{items_of}
 use Rattle.serde_json.specs.Written.{compact_text}
 use Rattle.phase0_types.specs.Writing.{write}
-use Rattle.phase0_types.specs.Containers.{attestation, beacon_block, signed}
+use Rattle.phase0_types.specs.Containers.{attestation}
 use Rattle.phase0_blocks.specs.Votes.{attestation_value}
-use Rattle.phase0_blocks.specs.Blocks.{beacon_block_value}
-use Rattle.phase0_blocks.specs.Signed.{signed_value}
+use Rattle.altair_blocks.specs.AnyBlocks.{block_value, write_signed}
 use Rattle.node_calls.specs.declared.ask.Ask.{Ask}
 use Rattle.node_calls.specs.declared.ask.Ask.TheVariants as ask
 use Rattle.node_calls.specs.declared.post.Post.{Post}
@@ -74,7 +73,7 @@ post_path (post.Block block) = codes "/eth/v1/beacon/blocks"
 -- a list with one vote, or the block
 abbrev pub post_data : Post → Data
 post_data (post.Vote vote) = array (item (write attestation (attestation_value vote)) no_items)
-post_data (post.Block block) = write (signed beacon_block) (signed_value beacon_block beacon_block_value block)
+post_data (post.Block signed) = write_signed (block_value signed.message) signed.signature
 
 unfoldable pub post_body : Post → List ℕ
 post_body given = compact_text (post_data given)

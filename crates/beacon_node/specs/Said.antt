@@ -2,10 +2,10 @@
 use Rattle.std.specs.Prelude.{ℕ, Bool, List, Result, Ok, Err}
 use Rattle.edge_kit.specs.declared.bytes.Root.{Root}
 use Rattle.phase0_types.specs.Values.{ValueOf}
-use Rattle.phase0_types.specs.Containers.{fork, attestation_data, beacon_block}
+use Rattle.phase0_types.specs.Containers.{fork, attestation_data}
 use Rattle.phase0_types.specs.Forks.{fork_value}
 use Rattle.phase0_types.specs.Attestations.{attestation_data_value}
-use Rattle.phase0_blocks.specs.Blocks.{beacon_block_value}
+use Rattle.altair_blocks.specs.AnyBlocks.{BlockValue, block_value}
 use Rattle.node_calls.specs.declared.answer.Answer.{Answer}
 use Rattle.node_calls.specs.declared.answer.Answer.TheVariants as answer
 use Rattle.node_calls.specs.declared.answer.NodeFault.{NodeFault}
@@ -22,7 +22,7 @@ pub data Said : Type 0 where
   proposers_are : (dependent_root : Root) → List ProposerRow → Said
   attesters_are : (dependent_root : Root) → List AttesterRow → Said
   data_is : ValueOf attestation_data → Said
-  block_is : ValueOf beacon_block → Said
+  block_is : BlockValue → Said
   liveness_is : List LivenessRow → Said
 
 abbrev pub said : Answer → Said
@@ -33,7 +33,7 @@ said (answer.Validators rows) = validators_are rows
 said (answer.Proposer root rows) = proposers_are root rows
 said (answer.Attester root rows) = attesters_are root rows
 said (answer.Data details) = data_is (attestation_data_value details)
-said (answer.Block block) = block_is (beacon_block_value block)
+said (answer.Block block) = block_is (block_value block)
 said (answer.Liveness rows) = liveness_is rows
 
 -- of a reply

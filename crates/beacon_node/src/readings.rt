@@ -1,11 +1,14 @@
 //! What a response of a beacon node means.
-ghost use Rattle.std.specs.Prelude.{◌≡◌, ◌⊎◌, ℕ, List, true, Err, IfOk, IfSome, option_map};
+ghost use Rattle.std.specs.Prelude.{◌≡◌, ◌⊎◌, ℕ, List, true, Err, IfOk, IfSome, codes, option_and_then, option_map};
 ghost use Rattle.serde_json.specs.View.{view};
+ghost use Rattle.altair_blocks.specs.Versions.{version_named};
+ghost use Rattle.json_members.specs.Reading as members;
 ghost use Rattle.node_calls.specs.Fitting.{fits};
 ghost use Rattle.beacon_node.specs.Readings as reading;
 ghost use Rattle.beacon_node.specs.Said.{reply_said, said};
 
 use crate::rows::{duty_rows_in, rows_in};
+use altair_blocks::{AnyBlock, ConsensusVersion};
 use edge_kit::{Items, Root, Sig};
 use http_wire::{Response, WireFault};
 use json_members::{bytes_in, flag_in, json_of, number_in, text_in};
@@ -141,10 +144,21 @@ fn block_in(alloc: Global, value: &Value) -> Result<Option<Answer>, AllocError>
     ensures means { IfOk result (λ found. option_map said found ≡ reading.block_in (view value.now)) }
     ensures fits { IfOk result (λ found. IfSome found (λ answer. (slot : ℕ) (reveal : Sig) → fits (Ask.Block slot reveal) answer ≡ true)) }
 {
-    if text_in(value, "version") != Some("phase0") {
+    let Some(version) = version_in(value) else {
         return Ok(None);
-    }
-    Ok(data_in(alloc, value)?.map(Answer::Block))
+    };
+    let Some(inner) = value.get("data") else {
+        return Ok(None);
+    };
+    let block = AnyBlock::read_value(alloc, version, inner)?;
+    Ok(block.ok().map(Answer::Block))
+}
+
+/// The version that an answer names, if it is one whose blocks are read.
+fn version_in(value: &Value) -> Option<ConsensusVersion>
+    ensures { result ≡ option_and_then version_named (members.text_in (codes "version") (view value.now)) }
+{
+    ConsensusVersion::named(text_in(value, "version")?)
 }
 
 fn details_in(alloc: Global, value: &Value) -> Result<Option<Answer>, AllocError>

@@ -5,6 +5,7 @@ ghost use Rattle.serde_json.specs.Data.{array, string};
 ghost use Rattle.serde_json.specs.View.{items_view, view};
 ghost use Rattle.beacon_node.specs.Requests as request;
 
+use altair_blocks::signed_to_value;
 use edge_kit::{PubKey, Sig, push_hex};
 use http::Method;
 use node_calls::{Ask, Post};
@@ -193,6 +194,6 @@ fn post_value(alloc: Global, post: &Post) -> Result<Value, AllocError>
             let vote = vote.to_value(alloc)?;
             json!(in alloc; [vote])
         }
-        Post::Block(block) => block.to_value(alloc),
+        Post::Block(signed) => signed_to_value(alloc, signed),
     }
 }

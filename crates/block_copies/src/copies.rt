@@ -1,6 +1,7 @@
 //! The same values again, of blocks and votes, which hold lists. Each error is want of memory.
 ghost use Rattle.std.specs.Prelude.{◌≡◌, IfOk};
 
+use altair_blocks::{AltairBlock, AltairBlockBody, AnyBlock};
 use phase0_blocks::{
     Attestation, AttesterSlashing, BeaconBlock, BeaconBlockBody, IndexedAttestation,
 };
@@ -97,7 +98,31 @@ fn body_copy(alloc: Global, body: &BeaconBlockBody) -> Result<BeaconBlockBody, A
 }
 
 /// The same block again. The error is want of memory.
-pub fn block_copy(alloc: Global, block: &BeaconBlock) -> Result<BeaconBlock, AllocError>
+pub fn block_copy(alloc: Global, block: &AnyBlock) -> Result<AnyBlock, AllocError>
+    ensures { IfOk result (λ copy. copy ≡ block.now) }
+{
+    match block {
+        AnyBlock::Phase0(block) => Ok(AnyBlock::Phase0(phase0_copy(alloc, block)?)),
+        AnyBlock::Altair(block) => Ok(AnyBlock::Altair(altair_copy(alloc, block)?)),
+    }
+}
+
+fn altair_copy(alloc: Global, block: &AltairBlock) -> Result<AltairBlock, AllocError>
+    ensures { IfOk result (λ copy. copy ≡ block.now) }
+{
+    Ok(AltairBlock {
+        slot: block.slot,
+        proposer_index: block.proposer_index,
+        parent_root: block.parent_root,
+        state_root: block.state_root,
+        body: AltairBlockBody {
+            phase0: body_copy(alloc, &block.body.phase0)?,
+            sync_aggregate: block.body.sync_aggregate,
+        },
+    })
+}
+
+fn phase0_copy(alloc: Global, block: &BeaconBlock) -> Result<BeaconBlock, AllocError>
     ensures { IfOk result (λ copy. copy ≡ block.now) }
 {
     Ok(BeaconBlock {

@@ -2,6 +2,7 @@
 ghost use Rattle.std.specs.Prelude.{◌≡◌};
 
 use crate::words::{key, numbers_of, root};
+use altair_blocks::{AltairBlock, AltairBlockBody, AnyBlock, SyncAggregate};
 use edge_kit::{Items, Root, Sig};
 use node_calls::{Answer, AttesterRow, LivenessRow, ProposerRow, ValidatorRow};
 use phase0_blocks::{BeaconBlock, BeaconBlockBody};
@@ -148,13 +149,33 @@ fn block(alloc: Global, numbers: &[u64]) -> Option<Answer> {
     let [slot, parent] = numbers else {
         return None;
     };
-    Some(Answer::Block(BeaconBlock {
+    Some(Answer::Block(AnyBlock::Phase0(BeaconBlock {
         slot: *slot,
         proposer_index: 1,
         parent_root: root(*parent),
         state_root: root(0),
         body: body(alloc),
-    }))
+    })))
+}
+
+/// `altair_block=SLOT,ROOT`: such a block of Altair, which no member of a sync committee signed.
+fn altair_block(alloc: Global, numbers: &[u64]) -> Option<Answer> {
+    let [slot, parent] = numbers else {
+        return None;
+    };
+    Some(Answer::Block(AnyBlock::Altair(AltairBlock {
+        slot: *slot,
+        proposer_index: 1,
+        parent_root: root(*parent),
+        state_root: root(0),
+        body: AltairBlockBody {
+            phase0: body(alloc),
+            sync_aggregate: SyncAggregate {
+                sync_committee_bits: [0; 64],
+                sync_committee_signature: Sig([0; 96]),
+            },
+        },
+    })))
 }
 
 fn answer(alloc: Global, name: &str, numbers: &[u64]) -> Option<Answer> {
@@ -167,6 +188,7 @@ fn answer(alloc: Global, name: &str, numbers: &[u64]) -> Option<Answer> {
         "votes" => votes(alloc, numbers),
         "data" => details(numbers),
         "block" => block(alloc, numbers),
+        "altair_block" => altair_block(alloc, numbers),
         _ => None,
     }
 }

@@ -1,7 +1,7 @@
 //! The duties of one slot.
 use crate::answers::{FORK, attester, proposer};
 use crate::lanes::MemLane;
-use crate::words::{number_in, numbers_in};
+use crate::words::{epoch_in, number_in, numbers_in};
 use duty_plans::DutySetup;
 use duty_schedule::Duty;
 use duty_workers::{Ended, Task, run_slot};
@@ -9,14 +9,18 @@ use edge_kit::Root;
 use sign_roots::Domains;
 use std::alloc::{AllocError, Global};
 
-const SETUP: &DutySetup = &DutySetup {
-    genesis: Root([0; 32]),
-    genesis_time: 0,
-    fork: FORK,
-    watch: false,
-    slots: 1,
-    keep_epochs: None,
-};
+/// What the duties share, where blocks are Altair's from this epoch on, or never.
+fn setup_at(altair: Option<u64>) -> DutySetup {
+    DutySetup {
+        genesis: Root([0; 32]),
+        genesis_time: 0,
+        fork: FORK,
+        altair,
+        watch: false,
+        slots: 1,
+        keep_epochs: None,
+    }
+}
 
 /// Casts three votes of a slot.
 fn vote(
@@ -25,10 +29,11 @@ fn vote(
     slot: u64,
     keys: [u64; 3],
 ) -> Result<Vec<Ended>, AllocError> {
+    let setup = setup_at(None);
     run_slot(
         alloc,
-        SETUP,
-        &Domains::new(FORK, SETUP.genesis),
+        &setup,
+        &Domains::new(FORK, setup.genesis),
         slot,
         1,
         &[
@@ -46,13 +51,15 @@ fn vote(
 fn propose(
     alloc: Global,
     lane: &mut MemLane,
+    altair: Option<u64>,
     slot: u64,
     keys: [u64; 3],
 ) -> Result<Vec<Ended>, AllocError> {
+    let setup = setup_at(altair);
     run_slot(
         alloc,
-        SETUP,
-        &Domains::new(FORK, SETUP.genesis),
+        &setup,
+        &Domains::new(FORK, setup.genesis),
         slot,
         1,
         &[
@@ -73,7 +80,8 @@ fn write_results(text: &mut String, ends: &[Ended]) -> Option<()> {
     Some(())
 }
 
-/// `vote slot=N keys=K,K,K` or `propose slot=N keys=K,K,K`: three duties of a slot in epoch 1, one after another.
+/// `vote slot=N keys=K,K,K` or `propose slot=N keys=K,K,K`, maybe with `altair=EPOCH`: three duties of a slot in epoch 1, one
+/// after another.
 pub fn do_duties(
     alloc: Global,
     text: &mut String,
@@ -88,7 +96,8 @@ pub fn do_duties(
     };
     let keys = [first, second, third];
     let ends = if are_blocks {
-        propose(alloc, lane, slot, keys).ok()?
+        let altair = epoch_in(alloc, rest, "altair")?;
+        propose(alloc, lane, altair, slot, keys).ok()?
     } else {
         vote(alloc, lane, slot, keys).ok()?
     };

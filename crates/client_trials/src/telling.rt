@@ -2,6 +2,7 @@
 use crate::desks::standings;
 use crate::lanes::{MemLane, NotedDesk};
 use crate::words::{key, root};
+use altair_blocks::AnyBlock;
 use check_sign::{DeskEvent, Event};
 use edge_kit::push_hex;
 use node_calls::{Ask, MemNode, NodeCall, Post, PostCall};
@@ -40,7 +41,10 @@ fn write_post(text: &mut String, call: &PostCall) -> Result<(), AllocError> {
     let star = if call.key == key(1) { "" } else { "*" };
     match &call.post {
         Post::Vote(vote) => write!(text, " vote@{}{star}", vote.details.slot),
-        Post::Block(signed) => write!(text, " block@{}{star}", signed.message.slot),
+        Post::Block(signed) => match &signed.message {
+            AnyBlock::Phase0(block) => write!(text, " block@{}{star}", block.slot),
+            AnyBlock::Altair(block) => write!(text, " altair_block@{}{star}", block.slot),
+        },
     }
 }
 

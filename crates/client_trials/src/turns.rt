@@ -11,7 +11,7 @@ use crate::answers::FORK;
 use crate::clocks::{Jump, TrialClock};
 use crate::lanes::{MemLane, activate_all, lane_of};
 use crate::telling::{write_kept, write_lane};
-use crate::words::{keys_in, number_in, numbers_in, root};
+use crate::words::{epoch_in, keys_in, number_in, numbers_in, root};
 use duty_loop::{DutyEnd, Held, first_held, run_duties, take_turn};
 use duty_plans::DutySetup;
 use edge_clock::{Clock, Delay, MemClock};
@@ -51,12 +51,14 @@ fn course_of(alloc: Global, part: &str) -> Option<Course> {
         0 => None,
         epochs => Some(epochs),
     };
+    let altair = epoch_in(alloc, part, "altair")?;
     let clock = clock_of(alloc, part)?;
     let joining = keys_in(alloc, part, "joins")?;
     let setup = DutySetup {
         genesis: root(0),
         genesis_time: 1000,
         fork: FORK,
+        altair,
         watch,
         slots,
         keep_epochs,

@@ -37,6 +37,15 @@ pub fn number_in(words: &str, name: &str) -> Option<u64> {
     }
 }
 
+/// The epoch of the word of this name; none where there is no such word.
+pub fn epoch_in(alloc: Global, words: &str, name: &str) -> Option<Option<u64>> {
+    let numbers = numbers_in(alloc, words, name)?;
+    match *numbers.as_slice() {
+        [epoch] => Some(Some(epoch)),
+        _ => Some(None),
+    }
+}
+
 /// The key that a number below 16 stands for: 1 for 0x1111.., 2 for 0x2222...
 pub fn key(number: u64) -> PubKey {
     PubKey([(number % 16) as u8 * 17; 48])

@@ -8,7 +8,7 @@ use Rattle.client_world.proofs.ProxyRunLemmas.{proxy_goes_on}
 
 module _ {D C : Type 0} (shows : D → List ℕ → Type 0) (moment : D → ℕ) (leaves : D → ℕ → List ℕ → Type 0) (faults : D → ℕ) (see : C → LinkSeen) where
   pub session_lives : SessionLivesOn {D = D} {C = C} shows moment leaves faults see
-  session_lives genesis journal fork signer_at watch disks_before disks_now before now noted ended ending client past files visible stop left lived = ⊎_elim
+  session_lives genesis journal fork altair signer_at watch disks_before disks_now before now noted ended ending client past files visible stop left lived = ⊎_elim
       (λ idle. inl idle)
       (λ x. inr (
         x,
@@ -19,6 +19,7 @@ module _ {D C : Type 0} (shows : D → List ℕ → Type 0) (moment : D → ℕ)
             lived.1,
             inl (record {
               fork = fork;
+              altair = altair;
               watch = watch;
               before = before;
               now = now;
@@ -34,7 +35,7 @@ module _ {D C : Type 0} (shows : D → List ℕ → Type 0) (moment : D → ℕ)
           ),
         ),
       ))
-      (run_goes_on shows moment leaves faults genesis journal fork signer_at watch disks_before disks_now before now noted ended ending client past files visible stop left)
+      (run_goes_on shows moment leaves faults genesis journal fork altair signer_at watch disks_before disks_now before now noted ended ending client past files visible stop left)
 
   pub command_lives : CommandLivesOn {D = D} {C = C} shows moment leaves faults see
   command_lives genesis asked is disks_before disks_now before now noted ended ending client past files visible stop left lived = ⊎_elim

@@ -45,6 +45,7 @@ module _ {D C : Type 0} (moment : D → ℕ) (leaves : D → ℕ → List ℕ �
   -- after a stop of what a client had done, a session was served
   pub record SessionRun (past events : List Event) : Type 0 where
     pub fork : Fork
+    pub altair : Option ℕ
     pub watch : Bool
     pub before : Outside
     pub now : Outside
@@ -54,7 +55,7 @@ module _ {D C : Type 0} (moment : D → ℕ) (leaves : D → ℕ → List ℕ �
     pub stop : StopsIn genesis client (no_state genesis) past files
     pub first : Disks D
     pub last : Disks D
-    pub served : Served moment leaves faults genesis fork watch before now noted ended client past files stop first last
+    pub served : Served moment leaves faults genesis fork altair watch before now noted ended client past files stop first last
     pub are : events ≡ started genesis client past files stop watch ++ served.events
 
   -- a desk was called, as for a merge or a showing
@@ -160,12 +161,12 @@ Headline {D} {C} moment leaves faults see = (before : List (PubKey × Message)) 
 -- However a run ends that was asked for a session, over disks that show what a stop of the client left, and of which a crash leaves such
 -- files: no desk was opened, or the client has lived on, by what it had done up to that stop and what the session's lines did.
 abbrev pub SessionLivesOn : {D C : Type 0} → (D → List ℕ → Type 0) → (D → ℕ) → (D → ℕ → List ℕ → Type 0) → (D → ℕ) → (C → LinkSeen) → Type 0
-SessionLivesOn {D} {C} shows moment leaves faults see = (genesis : Root) (journal : Option (List ℕ)) (fork : Fork) (signer_at : Option Service) (watch : Bool) (disks_before disks_now : Disks D) (before now : Outside) (noted : List DeskEvent) (ended : Status)
-    → RunEnds shows moment leaves faults (session genesis journal fork signer_at watch) disks_before disks_now before now noted ended
+SessionLivesOn {D} {C} shows moment leaves faults see = (genesis : Root) (journal : Option (List ℕ)) (fork : Fork) (altair : Option ℕ) (signer_at : Option Service) (watch : Bool) (disks_before disks_now : Disks D) (before now : Outside) (noted : List DeskEvent) (ended : Status)
+    → RunEnds shows moment leaves faults (session genesis journal fork altair signer_at watch) disks_before disks_now before now noted ended
     → (client : ℕ) (past : List Event) (files : Files) → Show shows disks_before files → (stop : StopsIn genesis client (no_state genesis) past files) → LeftBy leaves genesis client past disks_before (now_of moment disks_before)
     → HasLived {D = D} {C = C} moment leaves faults see genesis client past
     → Idle moment leaves genesis client past before now noted disks_before disks_now
-    ⊎ ((x : Served moment leaves faults genesis fork watch before now noted ended client past files stop disks_before disks_now)
+    ⊎ ((x : Served moment leaves faults genesis fork altair watch before now noted ended client past files stop disks_before disks_now)
     × HasLived {D = D} {C = C} moment leaves faults see genesis client (started genesis client past files stop watch ++ x.events))
 
 -- so of a merge or a showing

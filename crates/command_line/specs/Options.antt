@@ -36,6 +36,10 @@ watch_in options = flag_in (codes "watch") options
 abbrev pub quiet_in : List Row → Bool
 quiet_in options = flag_in (codes "quiet") options
 
+-- the epoch that the value of `--altair` writes in decimal, or, where it is absent, no epoch
+abbrev pub altair_in : List Row → Option (Option ℕ)
+altair_in options = option_map_or (λ text. option_map Some (quoted_number text)) (first_of (codes "altair") options) (Some None)
+
 -- the number that a value writes in decimal
 abbrev pub number_in : Text → List Row → Option ℕ
 number_in id options = option_and_then quoted_number (first_of id options)

@@ -7,7 +7,7 @@ use Rattle.service_url.specs.Services.{Service, service_at}
 use Rattle.clap.specs.Words.{Kinds, Row, Text, fault_of, first_of, subcommand_of}
 use Rattle.clap.specs.declared.error.kind.ErrorKind.{ErrorKind}
 use Rattle.clap.specs.declared.error.kind.ErrorKind.TheVariants.{DisplayHelp, DisplayVersion}
-use Rattle.command_line.specs.Options.{clients_in, fork_in, genesis_in, journal_in, number_in, path_at, steps_in, watch_in}
+use Rattle.command_line.specs.Options.{altair_in, clients_in, fork_in, genesis_in, journal_in, number_in, path_at, steps_in, watch_in}
 use Rattle.command_line.specs.Serving.{serve_options_in}
 use Rattle.command_line.specs.Proxying.{proxy_options_in}
 use Rattle.command_table.specs.Table.{table}
@@ -17,9 +17,9 @@ use Rattle.command_line.specs.declared.planned.Usage.{Usage}
 use Rattle.command_line.specs.declared.proxy_options.ProxyOptions.{ProxyOptions}
 use Rattle.command_line.specs.declared.serve_options.ServeOptions.{ServeOptions}
 
--- what words ask for: a session, with its journal's path and its signing service if any and whether keys are watched, a server with its options, a signing proxy with its options, a merge or a showing of a journal, a rehearsal by its number, its clients and its steps, the text of help or the version, or nothing that there is
+-- what words ask for: a session, with its journal's path, the epoch of Altair and its signing service if any and whether keys are watched, a server with its options, a signing proxy with its options, a merge or a showing of a journal, a rehearsal by its number, its clients and its steps, the text of help or the version, or nothing that there is
 pub data Asked : Type 0 where
-  session : Root → Option (List ℕ) → Fork → Option Service → Bool → Asked
+  session : Root → Option (List ℕ) → Fork → Option ℕ → Option Service → Bool → Asked
   serve : ServeOptions → Asked
   proxy : ProxyOptions → Asked
   merge : Root → List ℕ → Asked
@@ -30,7 +30,7 @@ pub data Asked : Type 0 where
 
 -- what an answer takes the words to ask for
 abbrev pub taken_as : Result Plan Usage → Asked
-taken_as (Ok (Session genesis journal fork signer watch)) = session genesis journal fork signer watch
+taken_as (Ok (Session genesis journal fork altair signer watch)) = session genesis journal fork altair signer watch
 taken_as (Ok (Serve options)) = serve options
 taken_as (Ok (Proxy options)) = proxy options
 taken_as (Ok (Merge genesis journal)) = merge genesis journal
@@ -49,18 +49,18 @@ abbrev pub at_most_one : {A : Type 0} → (Text → Option A) → Option Text �
 at_most_one read None = Some None
 at_most_one read (Some text) = option_map Some (read text)
 
--- the session of a chain, a fork and a journal, with the value of `--signer`, if there is one, and with or without a watch
-abbrev pub session_by : Root → Fork → Option (List ℕ) → Option Text → Bool → Asked
-session_by genesis fork journal signer watch = or_nothing (option_map (λ service. session genesis journal fork service watch) (at_most_one service_at signer))
+-- the session of a chain, a fork, the epoch of Altair if any and a journal, with the value of `--signer`, if there is one, and with or without a watch
+abbrev pub session_by : Root → Fork → Option ℕ → Option (List ℕ) → Option Text → Bool → Asked
+session_by genesis fork altair journal signer watch = or_nothing (option_map (λ service. session genesis journal fork altair service watch) (at_most_one service_at signer))
 
--- the session of a chain and a fork with the values of `--journal` and `--signer`, if there are any, and with or without a watch
-abbrev pub session_with : Root → Fork → Option Text → Option Text → Bool → Asked
-session_with genesis fork journal signer watch = or_nothing (option_map (λ path. session_by genesis fork path signer watch) (at_most_one path_at journal))
+-- the session of a chain, a fork and the epoch of Altair if any, with the values of `--journal` and `--signer`, if there are any, and with or without a watch
+abbrev pub session_with : Root → Fork → Option ℕ → Option Text → Option Text → Bool → Asked
+session_with genesis fork altair journal signer watch = or_nothing (option_map (λ path. session_by genesis fork altair path signer watch) (at_most_one path_at journal))
 
 -- the session of these options
 abbrev pub session_in : List Row → Asked
 session_in options =
-    or_nothing (option_and_then (λ genesis. option_map (λ fork. session_with genesis fork (first_of (codes "journal") options) (first_of (codes "signer") options) (watch_in options)) (fork_in options)) (genesis_in options))
+    or_nothing (option_and_then (λ genesis. option_and_then (λ fork. option_map (λ altair. session_with genesis fork altair (first_of (codes "journal") options) (first_of (codes "signer") options) (watch_in options)) (altair_in options)) (fork_in options)) (genesis_in options))
 
 -- the merge of these options
 abbrev pub merge_in : List Row → Asked

@@ -1,5 +1,5 @@
--- What the values of the options of `serve` write: where it listens, its token, when it ends, its lanes, what it keeps, how
--- long it waits for a node, whether it tells of faults alone, and its nodes.
+-- What the values of the options of `serve` write: where it listens, its token, when blocks have the Altair body, when it
+-- ends, its lanes, what it keeps, how long it waits for a node, whether it reports only faults, and its nodes.
 use Rattle.std.specs.Prelude.{ℕ, ◌==◌, ◌&&◌, nat_le, nat_lt, Bool, List, [], ◌∷◌, length, Option, Some, None, is_some, option_map, filter_map, if◌then◌else◌, codes}
 use Rattle.std.specs.Char.{is_ascii_graphic}
 use Rattle.std.specs.List.{list_all, slice_split}
@@ -9,7 +9,7 @@ use Rattle.edge_kit.specs.Texts.{quoted_number}
 use Rattle.service_url.specs.Services.{Service, service_at}
 use Rattle.clap.specs.Words.{Row, Text, all_of, first_of}
 use Rattle.command_line.specs.Forks.{at_colon}
-use Rattle.command_line.specs.Options.{at_most, between, genesis_in, journal_in, quiet_in, watch_in}
+use Rattle.command_line.specs.Options.{altair_in, at_most, between, genesis_in, journal_in, quiet_in, watch_in}
 use Rattle.command_line.specs.declared.listen_address.ListenAddress.{ListenAddress}
 use Rattle.command_line.specs.declared.listen_address.ListenHost.{ListenHost}
 use Rattle.command_line.specs.declared.listen_address.ListenHost.TheVariants.{Localhost, Ipv4}
@@ -139,13 +139,14 @@ limit_in id options = option_map_or quoted_number (first_of id options) (Some 18
 abbrev pub lanes_in : List Row → Option ℕ
 lanes_in options = option_map_or lanes_at (first_of (codes "lanes") options) (Some 4)
 
--- after how many slots and connections it ends, and in how many lanes it does its duties
+-- from which epoch on blocks have the Altair body, after how many slots and connections it ends, and in how many lanes it does its duties
 abbrev pub ends_in : List Row → Option EndOptions
 ends_in options = do
+  altair ← altair_in options
   slots ← limit_in (codes "slots") options
   connections ← limit_in (codes "connections") options
   lanes ← lanes_in options
-  Some (record { slots = slots; connections = connections; lanes = lanes })
+  Some (record { altair = altair; slots = slots; connections = connections; lanes = lanes })
 
 -- the epochs that the value of `--keep-epochs` writes, or, where it is absent, the last 64
 abbrev pub keep_epochs_in : List Row → Option KeptEpochs
@@ -180,6 +181,7 @@ serve_options_in options = do
     signer = signing.signer;
     listen = door.listen;
     token = door.token;
+    altair = ends.altair;
     watch = watch_in options;
     slots = ends.slots;
     connections = ends.connections;

@@ -30,6 +30,9 @@ pub(crate) enum Fault<'a> {
     /// The value of `--fork` is out of form.
     #[error("error: invalid value '{0}' for '--fork <PREVIOUS:CURRENT:EPOCH>': two versions, each 0x and 8 hex digits, and an epoch in decimal below 2^64 are wanted, joined by :")]
     Fork(&'a str),
+    /// The value of `--altair` is out of form.
+    #[error("error: invalid value '{0}' for '--altair <EPOCH>': a number in decimal below 2^64 is wanted")]
+    Altair(&'a str),
     /// The value of `--listen` is no address that a server listens at.
     #[error("error: invalid value '{0}' for '--listen <ADDR:PORT>': localhost or four decimals up to 255 joined by dots, and a port up to 65535 in decimal are wanted, joined by :")]
     Listen(&'a str),

@@ -2,7 +2,7 @@
 ghost use Rattle.std.specs.Prelude.{◌≡◌, ◌<◌, ◌≤◌, IfOk, IfSome, map, option_map};
 ghost use Rattle.clap.specs.Words.{all_of, first_of, found_of, rows_of};
 ghost use Rattle.command_line.specs.Serving.{keep_epochs_in, lanes_in, limit_in, listen_in, signer_in, timeout_in, token_in};
-ghost use Rattle.command_line.specs.Options.{clients_in, flag_in, fork_in, genesis_in, journal_in, number_in, quiet_in, steps_in, watch_in};
+ghost use Rattle.command_line.specs.Options.{altair_in, clients_in, flag_in, fork_in, genesis_in, journal_in, number_in, quiet_in, steps_in, watch_in};
 
 use crate::fork_text::read_fork;
 use crate::kept_epochs::KeptEpochs;
@@ -79,6 +79,17 @@ pub(crate) fn fork_of(options: &ArgMatches<'_>) -> Option<Fork>
 {
     let text = text_of(options, "fork")?;
     read_fork(text)
+}
+
+/// The epoch that the value of `--altair` writes in decimal, or no epoch where the option is absent. None where the value
+/// is out of form.
+pub(crate) fn altair_of(options: &ArgMatches<'_>) -> Option<Option<u64>>
+    ensures { result ≡ altair_in (rows_of (found_of options.now)) }
+{
+    match text_of(options, "altair") {
+        Some(text) => read_quoted(text).map(Some),
+        None => Some(None),
+    }
 }
 
 /// The number that a value writes in decimal, if it has its form.

@@ -17,13 +17,16 @@ use thiserror::Error;
 pub enum Plan {
     /// A session over standard input and output, for the chain of this genesis validators root, whose
     /// signing domains are those of this fork. What it signs is kept in the journal of this path, and
-    /// where there is none, for the length of the run. The signing service at this address signs, and
-    /// where there is none, a stand-in in memory, whose signatures are no BLS signatures. With a watch, a
-    /// key that becomes active signs only once it was told not live in the two epochs after.
+    /// where there is none, for the length of the run. From the epoch of Altair on blocks have the Altair
+    /// body (consensus-specs, `ALTAIR_FORK_EPOCH`), and where there is none, never. The signing service at
+    /// this address signs, and where there is none, a stand-in in memory, whose signatures are no BLS
+    /// signatures. With a watch, a key that becomes active signs only once it was told not live in the two
+    /// epochs after.
     Session {
         genesis: Root,
         journal: Option<PathText>,
         fork: Fork,
+        altair: Option<u64>,
         signer: Option<ServiceUrl>,
         watch: bool,
     },

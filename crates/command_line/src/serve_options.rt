@@ -22,6 +22,8 @@ pub struct ServeOptions {
     pub listen: ListenAddress,
     /// The token that they must carry.
     pub token: TokenText,
+    /// From which epoch on blocks have the Altair body (consensus-specs, `ALTAIR_FORK_EPOCH`); `None`: never.
+    pub altair: Option<u64>,
     /// Whether a key that becomes active signs only once it was told not live in the two epochs after.
     pub watch: bool,
     /// After how many slots the duties end.
@@ -48,6 +50,7 @@ impl fmt::Debug for ServeOptions {
             .field("signer", &self.signer)
             .field("listen", &self.listen)
             .field("token", &self.token)
+            .field("altair", &self.altair)
             .field("watch", &self.watch)
             .field("slots", &self.slots)
             .field("connections", &self.connections)
@@ -75,9 +78,11 @@ pub(crate) struct DoorOptions {
     pub(crate) token: TokenText,
 }
 
-/// After how many slots and connections a server ends, and in how many lanes it does its duties.
+/// From which epoch on blocks have the Altair body, after how many slots and connections a server ends, and in how many
+/// lanes it does its duties.
 #[derive(Clone, Copy)]
 pub(crate) struct EndOptions {
+    pub(crate) altair: Option<u64>,
     pub(crate) slots: u64,
     pub(crate) connections: u64,
     pub(crate) lanes: LaneCount,

@@ -7,8 +7,8 @@ ghost use Rattle.command_line.specs.Serving.{door_in, ends_in, nodes_in, serve_o
 
 use crate::fault::{Fault, refused};
 use crate::options::{
-    genesis_of, journal_of, keep_epochs_of, lanes_of, limit_of, listen_of, quiet_of, signer_of,
-    text_of, texts_of, timeout_of, token_of, watch_of,
+    altair_of, genesis_of, journal_of, keep_epochs_of, lanes_of, limit_of, listen_of, quiet_of,
+    signer_of, text_of, texts_of, timeout_of, token_of, watch_of,
 };
 use crate::planned::{Plan, Usage};
 use crate::serve_options::{DoorOptions, EndOptions, ServeOptions, SigningOptions, WorkOptions};
@@ -63,6 +63,7 @@ fn read_options<'a>(
         signer: signing.signer,
         listen: door.listen,
         token: door.token,
+        altair: ends.altair,
         watch: watch_of(options),
         slots: ends.slots,
         connections: ends.connections,
@@ -113,10 +114,14 @@ pub(crate) fn read_door<'a>(
     Ok(Ok(DoorOptions { listen, token }))
 }
 
-/// After how many slots and connections a server ends, and in how many lanes it does its duties.
+/// From which epoch on blocks have the Altair body, after how many slots and connections a server ends, and in how many
+/// lanes it does its duties.
 fn read_ends<'a>(options: &ArgMatches<'a>) -> Result<EndOptions, Fault<'a>>
     ensures { result_ok result ≡ ends_in (rows_of (found_of options.now)) }
 {
+    let Some(altair) = altair_of(options) else {
+        return Err(Fault::Altair(value_of(options, "altair")));
+    };
     let Some(slots) = limit_of(options, "slots") else {
         return Err(Fault::Slots(value_of(options, "slots")));
     };
@@ -127,6 +132,7 @@ fn read_ends<'a>(options: &ArgMatches<'a>) -> Result<EndOptions, Fault<'a>>
         return Err(Fault::Lanes(value_of(options, "lanes")));
     };
     Ok(EndOptions {
+        altair,
         slots,
         connections,
         lanes,

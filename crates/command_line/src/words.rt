@@ -6,7 +6,7 @@ ghost use Rattle.command_line.specs.Plans.{asked_at, asked_in, asked_of, help_on
 
 use crate::fault::{Fault, refused};
 use crate::options::{
-    clients_of, fork_of, genesis_of, journal_of, number_of, steps_of, text_of, watch_of,
+    altair_of, clients_of, fork_of, genesis_of, journal_of, number_of, steps_of, text_of, watch_of,
 };
 use crate::path_text::{PathText, read_path};
 use crate::planned::{Plan, ShownText, Usage};
@@ -27,14 +27,16 @@ use std::alloc::{AllocError, Global};
 ///   `--signer`, a URL of scheme http with a host and without user, password, query and fragment, and maybe
 ///   `--fork`, two versions and an epoch joined by `:`, each version `0x` and 8 hex digits, the
 ///   epoch 1 to 20 decimal digits below 2^64; `0x00000000:0x00000000:0` where it is absent. Hex digits
-///   are of either case. Maybe also `--watch`, which has no value.
+///   are of either case. Maybe also `--altair`, an epoch of 1 to 20 decimal digits below 2^64; none where it is absent.
+///   Maybe also `--watch`, which has no value. The first that is out of form of `--genesis`, `--fork`, `--altair`,
+///   `--journal` and `--signer`, in this order, is reported.
 /// - `serve` with `--genesis`, `--journal` and `--signer` as above, `--listen`, `localhost` or four decimals of at
 ///   most 255 joined by dots, `:` and a port of at most 65535, and `--token`, 1 to 256 ASCII characters from `!` to
-///   `~`; maybe `--watch` and `--quiet`, which have no value; maybe `--slots` and `--connections`, which are
-///   18446744073709551615 where they are absent; maybe `--lanes`, 1 to 64, which is 4 where it is absent; maybe
-///   `--keep-epochs`, 2 or more, or `all`, which is 64 where it is absent; maybe `--timeout`, 1 to 60, which is 2 where it
-///   is absent; and one node or more, each a URL as for `--signer`. Each number has 1 to 20 decimal digits and is below
-///   2^64.
+///   `~`; maybe `--altair`, an epoch, none where it is absent; maybe `--watch` and `--quiet`, which have no value; maybe
+///   `--slots` and `--connections`, which are 18446744073709551615 where they are absent; maybe `--lanes`, 1 to 64, which
+///   is 4 where it is absent; maybe `--keep-epochs`, 2 or more, or `all`, which is 64 where it is absent; maybe
+///   `--timeout`, 1 to 60, which is 2 where it is absent; and one node or more, each a URL as for `--signer`. Each number
+///   has 1 to 20 decimal digits and is below 2^64. The first that is out of form, in the order of this list, is reported.
 /// - `proxy` with `--genesis`, `--journal`, `--signer`, `--listen` and `--token` as for `serve`, and `--genesis-time`, a
 ///   number; maybe `--connections`, `--lanes` and `--quiet`, also as there.
 /// - `merge` and `show`, each with `--genesis` and `--journal`.
@@ -113,49 +115,64 @@ fn session_plan(alloc: Global, options: &ArgMatches<'_>) -> Result<Result<Plan, 
         let text = text_of(options, "fork").unwrap_or("");
         return refused(alloc, Fault::Fork(text));
     };
+    let Some(altair) = altair_of(options) else {
+        let text = text_of(options, "altair").unwrap_or("");
+        return refused(alloc, Fault::Altair(text));
+    };
     let journal = text_of(options, "journal");
     let signer = text_of(options, "signer");
-    session_at(alloc, genesis, fork, journal, signer, watch_of(options))
+    session_at(
+        alloc,
+        genesis,
+        fork,
+        altair,
+        journal,
+        signer,
+        watch_of(options),
+    )
 }
 
-/// The answer to `session` for a chain and a fork, with the values of `--journal` and `--signer`, if there
-/// are any, and with or without a watch.
+/// The answer to `session` for a chain, a fork and the epoch of Altair, if there is one, with the values of `--journal`
+/// and `--signer`, if there are any, and with or without a watch.
 fn session_at(
     alloc: Global,
     genesis: Root,
     fork: Fork,
+    altair: Option<u64>,
     path: Option<&str>,
     url: Option<&str>,
     watch: bool,
 ) -> Result<Result<Plan, Usage>, AllocError>
-    ensures { IfOk result (λ answer. taken_as answer ≡ session_with genesis fork (option_map (λ s. s.now) path.entry) (option_map (λ s. s.now) url.entry) watch) }
+    ensures { IfOk result (λ answer. taken_as answer ≡ session_with genesis fork altair (option_map (λ s. s.now) path.entry) (option_map (λ s. s.now) url.entry) watch) }
 {
     let Some(path) = path else {
-        return session_by(alloc, genesis, fork, None, url, watch);
+        return session_by(alloc, genesis, fork, altair, None, url, watch);
     };
     let Some(journal) = read_path(alloc, path)? else {
         return refused(alloc, Fault::Journal);
     };
-    session_by(alloc, genesis, fork, Some(journal), url, watch)
+    session_by(alloc, genesis, fork, altair, Some(journal), url, watch)
 }
 
-/// The answer to `session` for a chain, a fork and a journal, with the value of `--signer`, if there is one,
-/// and with or without a watch.
+/// The answer to `session` for a chain, a fork, the epoch of Altair, if there is one, and a journal, with the value of
+/// `--signer`, if there is one, and with or without a watch.
 fn session_by(
     alloc: Global,
     genesis: Root,
     fork: Fork,
+    altair: Option<u64>,
     journal: Option<PathText>,
     url: Option<&str>,
     watch: bool,
 ) -> Result<Result<Plan, Usage>, AllocError>
-    ensures { IfOk result (λ answer. taken_as answer ≡ session_by genesis fork journal (option_map (λ s. s.now) url.entry) watch) }
+    ensures { IfOk result (λ answer. taken_as answer ≡ session_by genesis fork altair journal (option_map (λ s. s.now) url.entry) watch) }
 {
     let Some(url) = url else {
         return Ok(Ok(Plan::Session {
             genesis,
             journal,
             fork,
+            altair,
             signer: None,
             watch,
         }));
@@ -167,6 +184,7 @@ fn session_by(
         genesis,
         journal,
         fork,
+        altair,
         signer: Some(signer),
         watch,
     }))

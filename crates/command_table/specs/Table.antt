@@ -25,6 +25,10 @@ fork_rule = record (new_rule (codes "fork")) {
   defaults = codes "0x00000000:0x00000000:0" ∷ [];
 }
 
+-- `--altair EPOCH`, which may be absent
+abbrev pub altair_rule : Rule
+altair_rule = option_rule (codes "altair") false
+
 -- `--ID`, which has no value
 abbrev pub flag_rule : Text → Rule
 flag_rule id = record (new_rule id) {
@@ -53,7 +57,7 @@ signing_rules is_required = genesis_rule ∷ option_rule (codes "journal") is_re
 
 -- the command `session` with its options
 abbrev pub session_shape : Shape
-session_shape = (fold with_rule (new_app (codes "session")) (signing_rules false ++ fork_rule ∷ watch_rule ∷ [])).top
+session_shape = (fold with_rule (new_app (codes "session")) (signing_rules false ++ fork_rule ∷ altair_rule ∷ watch_rule ∷ [])).top
 
 -- where a server answers the Keymanager API, and for whom
 abbrev pub door_rules : List Rule
@@ -61,7 +65,7 @@ door_rules = option_rule (codes "listen") true ∷ option_rule (codes "token") t
 
 -- what a server may do without
 abbrev pub end_rules : List Rule
-end_rules = watch_rule ∷ option_rule (codes "slots") false ∷ option_rule (codes "connections") false ∷ option_rule (codes "lanes") false ∷ []
+end_rules = altair_rule ∷ watch_rule ∷ option_rule (codes "slots") false ∷ option_rule (codes "connections") false ∷ option_rule (codes "lanes") false ∷ []
 
 -- what it keeps of what was signed, how long it waits for a node, and whether it tells of faults alone
 abbrev pub work_rules : List Rule

@@ -21,6 +21,8 @@ const OPTIONS_AT_A_GLANCE: &str = "Options of session:
       --fork <PREVIOUS:CURRENT:EPOCH>
           Fork of the signing domains: two versions, each 0x and 8 hex digits, and the epoch from
           which the second holds, in decimal [default: 0x00000000:0x00000000:0]
+      --altair <EPOCH>
+          From that epoch on, blocks have the Altair body [default: never]
       --watch
           A key that becomes active signs only once it was told not live in the two epochs after
 
@@ -36,6 +38,8 @@ Options of serve:
       --token <TEXT>
           Requests of the Keymanager API must carry it: 1 to 256 characters from ! to ~ [required];
           --token-file PATH in its place names a file that holds it, so that ps does not show it
+      --altair <EPOCH>
+          From that epoch on, blocks have the Altair body [default: never]
       --watch
           A key that becomes active signs only once it was told not live in the two epochs after
       --slots <N>
@@ -86,7 +90,7 @@ A session reads requests from standard input, one JSON object a line, and writes
 to standard output, until the input ends. Hex digits may be of either case.";
 
 /// The options of `session`.
-const SESSION: [Row; 5] = [
+const SESSION: [Row; 6] = [
     Row::Genesis,
     Row::Choice {
         id: "journal",
@@ -101,11 +105,17 @@ const SESSION: [Row; 5] = [
         is_required: false,
     },
     Row::Fork,
+    Row::Choice {
+        id: "altair",
+        name: "EPOCH",
+        about: "From that epoch on, blocks have the Altair body [default: never]",
+        is_required: false,
+    },
     Row::Watch,
 ];
 
 /// The options of `serve`, and its nodes last.
-const SERVE: [Row; 13] = [
+const SERVE: [Row; 14] = [
     Row::Genesis,
     Row::Choice {
         id: "journal",
@@ -130,6 +140,12 @@ const SERVE: [Row; 13] = [
         name: "TEXT",
         about: "Requests of the Keymanager API must carry it: 1 to 256 characters{n}from ! to ~; --token-file PATH in its place names a file{n}that holds it, so that ps does not show it",
         is_required: true,
+    },
+    Row::Choice {
+        id: "altair",
+        name: "EPOCH",
+        about: "From that epoch on, blocks have the Altair body [default: never]",
+        is_required: false,
     },
     Row::Watch,
     Row::Choice {

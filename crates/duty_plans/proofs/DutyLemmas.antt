@@ -4,7 +4,7 @@ use Rattle.edge_kit.specs.declared.bytes.PubKey.{PubKey}
 use Rattle.edge_kit.specs.declared.bytes.Sig.{Sig}
 use Rattle.slash_defs.specs.declared.message.Message.{Message}
 use Rattle.phase0_types.specs.declared.attestation.AttestationData.{AttestationData}
-use Rattle.phase0_blocks.specs.declared.block.BeaconBlock.{BeaconBlock}
+use Rattle.altair_blocks.specs.declared.any_block.AnyBlock.{AnyBlock}
 use Rattle.protect_record.specs.declared.verdict.Verdict.{Verdict}
 use Rattle.protect_record.specs.declared.verdict.Verdict.TheVariants as verdict
 use Rattle.desk_machine.specs.Grants.{IsGrantFor}
@@ -67,12 +67,12 @@ vote_got row (Ok (answer.Data given)) details e =
 vote_got row (Ok a) details e = absurd cc
 vote_got row (Err why) details e = no_nothing why details e
 
-pub block_got : (row : ProposerRow) (a : Result Answer NoAnswer) (block : BeaconBlock) → block_of row a ≡ got.Given block → first_that_differs (block_members row.slot block) ≡ None
-block_got row (Ok (answer.Block given)) block e =
-    let m = matched (first_that_differs (block_members row.slot given)) given block e in
-    subst (λ (x : BeaconBlock). first_that_differs (block_members row.slot x) ≡ None) m.1 m.0
-block_got row (Ok a) block e = absurd cc
-block_got row (Err why) block e = no_nothing why block e
+pub block_got : (altair : Option ℕ) (row : ProposerRow) (a : Result Answer NoAnswer) (block : AnyBlock) → block_of altair row a ≡ got.Given block → first_that_differs (block_members row.slot altair block) ≡ None
+block_got altair row (Ok (answer.Block given)) block e =
+    let m = matched (first_that_differs (block_members row.slot altair given)) given block e in
+    subst (λ (x : AnyBlock). first_that_differs (block_members row.slot altair x) ≡ None) m.1 m.0
+block_got altair row (Ok a) block e = absurd cc
+block_got altair row (Err why) block e = no_nothing why block e
 
 no_judged : {P : Type 0} (v : Verdict) (grant : OpenGrant) → judged v ≡ got.Given grant → P
 no_judged verdict.Pass grant e = absurd cc
@@ -162,11 +162,11 @@ only_vote work row = (
   λ r f. only_got (IsOwn work (duty.Vote row)) over (vote_of row (answer_reply r)) (λ details. voted_plan work row details) (λ details e. only_voted work row details (vote_got row (answer_reply r) details e)),
 )
 
-made_own : (work : SlotWork) (row : ProposerRow) (block : BeaconBlock) (grant : OpenGrant) → first_that_differs (block_members row.slot block) ≡ None
+made_own : (work : SlotWork) (row : ProposerRow) (block : AnyBlock) (grant : OpenGrant) → first_that_differs (block_members row.slot work.altair block) ≡ None
     → IsGrantOf grant row.pubkey (block_message work.domains block) → IsOwnBlock work row grant block
 made_own work row block grant same of = record { same = same; leave = of }
 
-only_made : (work : SlotWork) (row : ProposerRow) (block : BeaconBlock) → first_that_differs (block_members row.slot block) ≡ None → Only (IsOwn work (duty.Block row)) (made_plan work row block)
+only_made : (work : SlotWork) (row : ProposerRow) (block : AnyBlock) → first_that_differs (block_members row.slot work.altair block) ≡ None → Only (IsOwn work (duty.Block row)) (made_plan work row block)
 only_made work row block same =
     only_publish (IsOwn work (duty.Block row)) row.pubkey (block_message work.domains block) work.moment (granted.Block block) (block_request work block) (block_post block) tt (λ grant o. tt)
     (λ given of. ((block, refl, made_own work row block given same of), λ s. made_own work row block given same of))
@@ -175,8 +175,8 @@ only_revealed : (work : SlotWork) (row : ProposerRow) (grant : OpenGrant) (revea
 only_revealed work row grant reveal =
     let P : DutyCall → Type 0 = IsOwn work (duty.Block row) in (
       tt,
-      λ r f. only_settles P grant outcome.Sent (with_got over (block_of row (answer_reply r)) (λ block. made_plan work row block)) (λ given o. tt)
-          (only_got P over (block_of row (answer_reply r)) (λ block. made_plan work row block) (λ block e. only_made work row block (block_got row (answer_reply r) block e))),
+      λ r f. only_settles P grant outcome.Sent (with_got over (block_of work.altair row (answer_reply r)) (λ block. made_plan work row block)) (λ given o. tt)
+          (only_got P over (block_of work.altair row (answer_reply r)) (λ block. made_plan work row block) (λ block e. only_made work row block (block_got work.altair row (answer_reply r) block e))),
     )
 
 only_block : (work : SlotWork) (row : ProposerRow) → Only (IsOwn work (duty.Block row)) (block_plan work row)
@@ -188,7 +188,7 @@ only_block work row =
           ((refl, of.0, of.1), λ s f2. only_under P (left_by granted.Reveal) grant (signature_of (sign_reply s)) (λ reveal. revealed_plan work row grant reveal) (λ given o. tt) (λ reveal. only_revealed work row grant reveal))),
     )
 
-pub task_own : (work : SlotWork) (t : Task) (steps : List DutyStep) (v : Option Ended) → IsOwnTask t → Follows Fits (task_plan work t) steps v → AllOwn work (duty_of t) steps
+pub task_own : (work : SlotWork) (t : Task) (steps : List DutyStep) (v : Option Ended) → IsOwnTask work.altair t → Follows Fits (task_plan work t) steps v → AllOwn work (duty_of t) steps
 task_own work (task.Fresh (duty.Vote row)) steps v own f = own_follows work (duty.Vote row) (vote_plan work row) steps v (only_vote work row) f
 task_own work (task.Fresh (duty.Block row)) steps v own f = own_follows work (duty.Block row) (block_plan work row) steps v (only_block work row) f
 task_own work (task.Again (duty.Vote row) (granted.Vote details)) steps v own f = own_follows work (duty.Vote row) (voted_plan work row details) steps v (only_voted work row details own) f
@@ -230,83 +230,83 @@ first_on None b c = refl
 first_on (Some x) b c = refl
 
 -- after steps of which the first failure is this, the plan ends as the first failure of all says
-abbrev pub Gives : Duty → Option DutyResult → DutyPlan Ended → Type 0
-Gives d so (Done x) = x.result ≡ unwrap_or so ended.Sent
-Gives d so Stop = Unit {0}
-Gives d so (Step c k) = (r : DutyReply) → Fits c r → Gives d (first_of so (failure_of d (c, r))) (k r)
+abbrev pub Gives : Option ℕ → Duty → Option DutyResult → DutyPlan Ended → Type 0
+Gives altair d so (Done x) = x.result ≡ unwrap_or so ended.Sent
+Gives altair d so Stop = Unit {0}
+Gives altair d so (Step c k) = (r : DutyReply) → Fits c r → Gives altair d (first_of so (failure_of altair d (c, r))) (k r)
 
-abbrev GivesBy : Duty → Option DutyResult → List DutyStep → Ended → Type 0
-GivesBy d so steps e = e.result ≡ unwrap_or (first_of so (first_failure d steps)) ended.Sent
+abbrev GivesBy : Option ℕ → Duty → Option DutyResult → List DutyStep → Ended → Type 0
+GivesBy altair d so steps e = e.result ≡ unwrap_or (first_of so (first_failure altair d steps)) ended.Sent
 
-gives_follows : (d : Duty) (so : Option DutyResult) (plan : DutyPlan Ended) (steps : List DutyStep) (e : Ended) → Gives d so plan → Follows Fits plan steps (Some e) → GivesBy d so steps e
-gives_follows d so (Done x) [] e g f = ap (λ (y : Ended). y.result) f ∙ g ∙ ap (λ o. unwrap_or o ended.Sent) (sym (first_none so))
-gives_follows d so (Done x) (s ∷ steps) e g f = absurd f
-gives_follows d so Stop [] e g f = absurd f
-gives_follows d so Stop (s ∷ steps) e g f = absurd f
-gives_follows d so (Step c k) [] e g f = absurd f
-gives_follows d so (Step c k) (s ∷ steps) e g f =
-    let rest = gives_follows d (first_of so (failure_of d (c, s.1))) (k s.1) steps e (g s.1 f.1) f.2 in
-    let same : failure_of d (c, s.1) ≡ failure_of d s = ap (λ (x : DutyCall). failure_of d (x, s.1)) (sym f.0) in
-    rest ∙ ap (λ o. unwrap_or o ended.Sent) (first_on so (failure_of d (c, s.1)) (first_failure d steps) ∙ ap (λ o. first_of so (first_of o (first_failure d steps))) same)
+gives_follows : (altair : Option ℕ) (d : Duty) (so : Option DutyResult) (plan : DutyPlan Ended) (steps : List DutyStep) (e : Ended) → Gives altair d so plan → Follows Fits plan steps (Some e) → GivesBy altair d so steps e
+gives_follows altair d so (Done x) [] e g f = ap (λ (y : Ended). y.result) f ∙ g ∙ ap (λ o. unwrap_or o ended.Sent) (sym (first_none so))
+gives_follows altair d so (Done x) (s ∷ steps) e g f = absurd f
+gives_follows altair d so Stop [] e g f = absurd f
+gives_follows altair d so Stop (s ∷ steps) e g f = absurd f
+gives_follows altair d so (Step c k) [] e g f = absurd f
+gives_follows altair d so (Step c k) (s ∷ steps) e g f =
+    let rest = gives_follows altair d (first_of so (failure_of altair d (c, s.1))) (k s.1) steps e (g s.1 f.1) f.2 in
+    let same : failure_of altair d (c, s.1) ≡ failure_of altair d s = ap (λ (x : DutyCall). failure_of altair d (x, s.1)) (sym f.0) in
+    rest ∙ ap (λ o. unwrap_or o ended.Sent) (first_on so (failure_of altair d (c, s.1)) (first_failure altair d steps) ∙ ap (λ o. first_of so (first_of o (first_failure altair d steps))) same)
 
 -- an end by this is one
 abbrev EndsSo : (DutyResult → Ended) → Type 0
 EndsSo ends = (by : DutyResult) → (ends by).result ≡ by
 
-gives_got : {T : Type 0} (d : Duty) (so : Option DutyResult) (ends : DutyResult → Ended) (g : Got T) (k : T → DutyPlan Ended) → EndsSo ends → so ≡ failed_in g → ((x : T) → Gives d None (k x)) → Gives d so (with_got ends g k)
-gives_got d so ends (got.Given x) k is e h = subst (λ (o : Option DutyResult). Gives d o (k x)) (sym e) (h x)
-gives_got d so ends (got.Failed by) k is e h = is by ∙ ap (λ o. unwrap_or o ended.Sent) (sym e)
-gives_got d so ends got.Nothing k is e h = tt
+gives_got : {T : Type 0} (altair : Option ℕ) (d : Duty) (so : Option DutyResult) (ends : DutyResult → Ended) (g : Got T) (k : T → DutyPlan Ended) → EndsSo ends → so ≡ failed_in g → ((x : T) → Gives altair d None (k x)) → Gives altair d so (with_got ends g k)
+gives_got altair d so ends (got.Given x) k is e h = subst (λ (o : Option DutyResult). Gives altair d o (k x)) (sym e) (h x)
+gives_got altair d so ends (got.Failed by) k is e h = is by ∙ ap (λ o. unwrap_or o ended.Sent) (sym e)
+gives_got altair d so ends got.Nothing k is e h = tt
 
 settled_none : (c : DeskReply) (grant : OpenGrant) (o : Outcome) → Fits (Calls (call.Settle grant o)) (Replies c) → failed_in (grant_of c) ≡ None
 settled_none reply.Settled grant o f = refl
 settled_none c grant o f = absurd f.0
 
-settle_none : (d : Duty) (r : DutyReply) (grant : OpenGrant) (o : Outcome) → Fits (Calls (call.Settle grant o)) r → failure_of d (Calls (call.Settle grant o), r) ≡ None
-settle_none d (Replies c) grant o f = settled_none c grant o f
-settle_none d (Signed s) grant o f = absurd f
-settle_none d (Answered tried) grant o f = absurd f
-settle_none d (Taken tried) grant o f = absurd f
+settle_none : (altair : Option ℕ) (d : Duty) (r : DutyReply) (grant : OpenGrant) (o : Outcome) → Fits (Calls (call.Settle grant o)) r → failure_of altair d (Calls (call.Settle grant o), r) ≡ None
+settle_none altair d (Replies c) grant o f = settled_none c grant o f
+settle_none altair d (Signed s) grant o f = absurd f
+settle_none altair d (Answered tried) grant o f = absurd f
+settle_none altair d (Taken tried) grant o f = absurd f
 
-gives_settles : (d : Duty) (so : Option DutyResult) (grant : OpenGrant) (o : Outcome) (next : DutyPlan Ended) → Gives d so next → Gives d so (settles grant o next)
-gives_settles d so grant o next g r f =
-    subst (λ (x : Option DutyResult). Gives d x next) (sym (ap (λ x. first_of so x) (settle_none d r grant o f) ∙ first_none so)) g
+gives_settles : (altair : Option ℕ) (d : Duty) (so : Option DutyResult) (grant : OpenGrant) (o : Outcome) (next : DutyPlan Ended) → Gives altair d so next → Gives altair d so (settles grant o next)
+gives_settles altair d so grant o next g r f =
+    subst (λ (x : Option DutyResult). Gives altair d x next) (sym (ap (λ x. first_of so x) (settle_none altair d r grant o f) ∙ first_none so)) g
 
-gives_under : {T : Type 0} (d : Duty) (so : Option DutyResult) (ends : DutyResult → Ended) (grant : OpenGrant) (g : Got T) (k : T → DutyPlan Ended) → EndsSo ends → so ≡ failed_in g → ((x : T) → Gives d None (k x)) → Gives d so (under ends grant g k)
-gives_under d so ends grant (got.Given x) k is e h = subst (λ (o : Option DutyResult). Gives d o (k x)) (sym e) (h x)
-gives_under d so ends grant (got.Failed by) k is e h = gives_settles d so grant outcome.Dropped (Done (ends by)) (is by ∙ ap (λ o. unwrap_or o ended.Sent) (sym e))
-gives_under d so ends grant got.Nothing k is e h = gives_settles d so grant outcome.Dropped Stop tt
+gives_under : {T : Type 0} (altair : Option ℕ) (d : Duty) (so : Option DutyResult) (ends : DutyResult → Ended) (grant : OpenGrant) (g : Got T) (k : T → DutyPlan Ended) → EndsSo ends → so ≡ failed_in g → ((x : T) → Gives altair d None (k x)) → Gives altair d so (under ends grant g k)
+gives_under altair d so ends grant (got.Given x) k is e h = subst (λ (o : Option DutyResult). Gives altair d o (k x)) (sym e) (h x)
+gives_under altair d so ends grant (got.Failed by) k is e h = gives_settles altair d so grant outcome.Dropped (Done (ends by)) (is by ∙ ap (λ o. unwrap_or o ended.Sent) (sym e))
+gives_under altair d so ends grant got.Nothing k is e h = gives_settles altair d so grant outcome.Dropped Stop tt
 
 -- the failure of a reply is that of what was read of it
-sign_failure : (d : Duty) (grant : OpenGrant) (q : SignRequest) (r : DutyReply) → Fits (Signs grant q) r → failure_of d (Signs grant q, r) ≡ failed_in (signature_of (sign_reply r))
-sign_failure d grant q (Signed s) f = refl
-sign_failure d grant q (Replies c) f = absurd f
-sign_failure d grant q (Answered tried) f = absurd f
-sign_failure d grant q (Taken tried) f = absurd f
+sign_failure : (altair : Option ℕ) (d : Duty) (grant : OpenGrant) (q : SignRequest) (r : DutyReply) → Fits (Signs grant q) r → failure_of altair d (Signs grant q, r) ≡ failed_in (signature_of (sign_reply r))
+sign_failure altair d grant q (Signed s) f = refl
+sign_failure altair d grant q (Replies c) f = absurd f
+sign_failure altair d grant q (Answered tried) f = absurd f
+sign_failure altair d grant q (Taken tried) f = absurd f
 
-reveal_failure : (d : Duty) (grant : OpenGrant) (work : SlotWork) (r : DutyReply) → Fits (Reveals grant (reveal_request work)) r → failure_of d (Reveals grant (reveal_request work), r) ≡ failed_in (signature_of (sign_reply r))
-reveal_failure d grant work (Signed s) f = refl
-reveal_failure d grant work (Replies c) f = absurd f
-reveal_failure d grant work (Answered tried) f = absurd f
-reveal_failure d grant work (Taken tried) f = absurd f
+reveal_failure : (altair : Option ℕ) (d : Duty) (grant : OpenGrant) (work : SlotWork) (r : DutyReply) → Fits (Reveals grant (reveal_request work)) r → failure_of altair d (Reveals grant (reveal_request work), r) ≡ failed_in (signature_of (sign_reply r))
+reveal_failure altair d grant work (Signed s) f = refl
+reveal_failure altair d grant work (Replies c) f = absurd f
+reveal_failure altair d grant work (Answered tried) f = absurd f
+reveal_failure altair d grant work (Taken tried) f = absurd f
 
-post_failure : (d : Duty) (grant : OpenGrant) (p : Post) (r : DutyReply) → Fits (Posts grant p) r → failure_of d (Posts grant p, r) ≡ failed_in (posted_of (post_reply r))
-post_failure d grant p (Taken tried) f = refl
-post_failure d grant p (Replies c) f = absurd f
-post_failure d grant p (Signed s) f = absurd f
-post_failure d grant p (Answered tried) f = absurd f
+post_failure : (altair : Option ℕ) (d : Duty) (grant : OpenGrant) (p : Post) (r : DutyReply) → Fits (Posts grant p) r → failure_of altair d (Posts grant p, r) ≡ failed_in (posted_of (post_reply r))
+post_failure altair d grant p (Taken tried) f = refl
+post_failure altair d grant p (Replies c) f = absurd f
+post_failure altair d grant p (Signed s) f = absurd f
+post_failure altair d grant p (Answered tried) f = absurd f
 
-call_failure : (d : Duty) (c : DeskCall) (r : DutyReply) → Fits (Calls c) r → failure_of d (Calls c, r) ≡ failed_in (grant_of (desk_reply r))
-call_failure d c (Replies x) f = refl
-call_failure d c (Signed s) f = absurd f
-call_failure d c (Answered tried) f = absurd f
-call_failure d c (Taken tried) f = absurd f
+call_failure : (altair : Option ℕ) (d : Duty) (c : DeskCall) (r : DutyReply) → Fits (Calls c) r → failure_of altair d (Calls c, r) ≡ failed_in (grant_of (desk_reply r))
+call_failure altair d c (Replies x) f = refl
+call_failure altair d c (Signed s) f = absurd f
+call_failure altair d c (Answered tried) f = absurd f
+call_failure altair d c (Taken tried) f = absurd f
 
-ask_failure : (d : Duty) (a : Ask) (r : DutyReply) → Fits (Asks a) r → failure_of d (Asks a, r) ≡ failed_answer d (answer_reply r)
-ask_failure d a (Answered tried) f = refl
-ask_failure d a (Replies c) f = absurd f
-ask_failure d a (Signed s) f = absurd f
-ask_failure d a (Taken tried) f = absurd f
+ask_failure : (altair : Option ℕ) (d : Duty) (a : Ask) (r : DutyReply) → Fits (Asks a) r → failure_of altair d (Asks a, r) ≡ failed_answer altair d (answer_reply r)
+ask_failure altair d a (Answered tried) f = refl
+ask_failure altair d a (Replies c) f = absurd f
+ask_failure altair d a (Signed s) f = absurd f
+ask_failure altair d a (Taken tried) f = absurd f
 
 over_so : EndsSo over
 over_so by = refl
@@ -314,37 +314,37 @@ over_so by = refl
 left_so : (unsent : Unsent) → EndsSo (left_by unsent)
 left_so unsent by = refl
 
-gives_post : (d : Duty) (unsent : Unsent) (grant : OpenGrant) (p : Post) → Gives d None (post_plan unsent grant p)
-gives_post d unsent grant p r f = gives_settles d (failure_of d (Posts grant p, r)) grant outcome.Sent (with_got (left_by unsent) (posted_of (post_reply r)) (sent unsent))
-    (gives_got d (failure_of d (Posts grant p, r)) (left_by unsent) (posted_of (post_reply r)) (sent unsent) (left_so unsent) (post_failure d grant p r f) (λ x. refl))
+gives_post : (altair : Option ℕ) (d : Duty) (unsent : Unsent) (grant : OpenGrant) (p : Post) → Gives altair d None (post_plan unsent grant p)
+gives_post altair d unsent grant p r f = gives_settles altair d (failure_of altair d (Posts grant p, r)) grant outcome.Sent (with_got (left_by unsent) (posted_of (post_reply r)) (sent unsent))
+    (gives_got altair d (failure_of altair d (Posts grant p, r)) (left_by unsent) (posted_of (post_reply r)) (sent unsent) (left_so unsent) (post_failure altair d grant p r f) (λ x. refl))
 
-gives_publish : (d : Duty) (key : PubKey) (m : Message) (now : ℕ) (unsent : Unsent) (q : SignRequest) (made : Sig → Post) → Gives d None (publish_plan key m now unsent q made)
-gives_publish d key m now unsent q made r f = gives_got d (failure_of d (Calls (call.Propose key m now), r)) over (grant_of (desk_reply r)) (λ grant. granted_plan unsent q made grant) over_so (call_failure d (call.Propose key m now) r f)
-    (λ grant s f2. gives_under d (failure_of d (Signs grant q, s)) (left_by unsent) grant (signature_of (sign_reply s)) (λ signature. post_plan unsent grant (made signature)) (left_so unsent) (sign_failure d grant q s f2) (λ signature. gives_post d unsent grant (made signature)))
+gives_publish : (altair : Option ℕ) (d : Duty) (key : PubKey) (m : Message) (now : ℕ) (unsent : Unsent) (q : SignRequest) (made : Sig → Post) → Gives altair d None (publish_plan key m now unsent q made)
+gives_publish altair d key m now unsent q made r f = gives_got altair d (failure_of altair d (Calls (call.Propose key m now), r)) over (grant_of (desk_reply r)) (λ grant. granted_plan unsent q made grant) over_so (call_failure altair d (call.Propose key m now) r f)
+    (λ grant s f2. gives_under altair d (failure_of altair d (Signs grant q, s)) (left_by unsent) grant (signature_of (sign_reply s)) (λ signature. post_plan unsent grant (made signature)) (left_so unsent) (sign_failure altair d grant q s f2) (λ signature. gives_post altair d unsent grant (made signature)))
 
-gives_voted : (work : SlotWork) (row : AttesterRow) (details : AttestationData) → Gives (duty.Vote row) None (voted_plan work row details)
-gives_voted work row details = gives_publish (duty.Vote row) row.pubkey (vote_message work.domains details) work.moment (granted.Vote details) (vote_request work details) (vote_post row details)
+gives_voted : (work : SlotWork) (row : AttesterRow) (details : AttestationData) → Gives work.altair (duty.Vote row) None (voted_plan work row details)
+gives_voted work row details = gives_publish work.altair (duty.Vote row) row.pubkey (vote_message work.domains details) work.moment (granted.Vote details) (vote_request work details) (vote_post row details)
 
-gives_vote : (work : SlotWork) (row : AttesterRow) → Gives (duty.Vote row) None (vote_plan work row)
-gives_vote work row r f = gives_got (duty.Vote row) (failure_of (duty.Vote row) (Asks (ask.Data work.slot row.committee_index), r)) over (vote_of row (answer_reply r)) (λ details. voted_plan work row details) over_so (ask_failure (duty.Vote row) (ask.Data work.slot row.committee_index) r f) (gives_voted work row)
+gives_vote : (work : SlotWork) (row : AttesterRow) → Gives work.altair (duty.Vote row) None (vote_plan work row)
+gives_vote work row r f = gives_got work.altair (duty.Vote row) (failure_of work.altair (duty.Vote row) (Asks (ask.Data work.slot row.committee_index), r)) over (vote_of row (answer_reply r)) (λ details. voted_plan work row details) over_so (ask_failure work.altair (duty.Vote row) (ask.Data work.slot row.committee_index) r f) (gives_voted work row)
 
-gives_made : (work : SlotWork) (row : ProposerRow) (block : BeaconBlock) → Gives (duty.Block row) None (made_plan work row block)
-gives_made work row block = gives_publish (duty.Block row) row.pubkey (block_message work.domains block) work.moment (granted.Block block) (block_request work block) (block_post block)
+gives_made : (work : SlotWork) (row : ProposerRow) (block : AnyBlock) → Gives work.altair (duty.Block row) None (made_plan work row block)
+gives_made work row block = gives_publish work.altair (duty.Block row) row.pubkey (block_message work.domains block) work.moment (granted.Block block) (block_request work block) (block_post block)
 
-gives_revealed : (work : SlotWork) (row : ProposerRow) (grant : OpenGrant) (reveal : Sig) → Gives (duty.Block row) None (revealed_plan work row grant reveal)
-gives_revealed work row grant reveal r f = gives_settles (duty.Block row) (failure_of (duty.Block row) (Asks (ask.Block work.slot reveal), r)) grant outcome.Sent (with_got over (block_of row (answer_reply r)) (λ block. made_plan work row block))
-    (gives_got (duty.Block row) (failure_of (duty.Block row) (Asks (ask.Block work.slot reveal), r)) over (block_of row (answer_reply r)) (λ block. made_plan work row block) over_so (ask_failure (duty.Block row) (ask.Block work.slot reveal) r f) (gives_made work row))
+gives_revealed : (work : SlotWork) (row : ProposerRow) (grant : OpenGrant) (reveal : Sig) → Gives work.altair (duty.Block row) None (revealed_plan work row grant reveal)
+gives_revealed work row grant reveal r f = gives_settles work.altair (duty.Block row) (failure_of work.altair (duty.Block row) (Asks (ask.Block work.slot reveal), r)) grant outcome.Sent (with_got over (block_of work.altair row (answer_reply r)) (λ block. made_plan work row block))
+    (gives_got work.altair (duty.Block row) (failure_of work.altair (duty.Block row) (Asks (ask.Block work.slot reveal), r)) over (block_of work.altair row (answer_reply r)) (λ block. made_plan work row block) over_so (ask_failure work.altair (duty.Block row) (ask.Block work.slot reveal) r f) (gives_made work row))
 
-gives_block : (work : SlotWork) (row : ProposerRow) → Gives (duty.Block row) None (block_plan work row)
-gives_block work row r f = gives_got (duty.Block row) (failure_of (duty.Block row) (Calls (call.Allow row.pubkey work.moment), r)) over (grant_of (desk_reply r)) (λ grant. allowed_plan work row grant) over_so (call_failure (duty.Block row) (call.Allow row.pubkey work.moment) r f)
-    (λ grant s f2. gives_under (duty.Block row) (failure_of (duty.Block row) (Reveals grant (reveal_request work), s)) (left_by granted.Reveal) grant (signature_of (sign_reply s)) (λ reveal. revealed_plan work row grant reveal) (left_so granted.Reveal) (reveal_failure (duty.Block row) grant work s f2) (λ reveal. gives_revealed work row grant reveal))
+gives_block : (work : SlotWork) (row : ProposerRow) → Gives work.altair (duty.Block row) None (block_plan work row)
+gives_block work row r f = gives_got work.altair (duty.Block row) (failure_of work.altair (duty.Block row) (Calls (call.Allow row.pubkey work.moment), r)) over (grant_of (desk_reply r)) (λ grant. allowed_plan work row grant) over_so (call_failure work.altair (duty.Block row) (call.Allow row.pubkey work.moment) r f)
+    (λ grant s f2. gives_under work.altair (duty.Block row) (failure_of work.altair (duty.Block row) (Reveals grant (reveal_request work), s)) (left_by granted.Reveal) grant (signature_of (sign_reply s)) (λ reveal. revealed_plan work row grant reveal) (left_so granted.Reveal) (reveal_failure work.altair (duty.Block row) grant work s f2) (λ reveal. gives_revealed work row grant reveal))
 
-pub task_result : (work : SlotWork) (t : Task) (steps : List DutyStep) (e : Ended) → Follows Fits (task_plan work t) steps (Some e) → e.result ≡ result_by (duty_of t) steps
-task_result work (task.Fresh (duty.Vote row)) steps e f = gives_follows (duty.Vote row) None (vote_plan work row) steps e (gives_vote work row) f
-task_result work (task.Fresh (duty.Block row)) steps e f = gives_follows (duty.Block row) None (block_plan work row) steps e (gives_block work row) f
-task_result work (task.Again (duty.Vote row) (granted.Vote details)) steps e f = gives_follows (duty.Vote row) None (voted_plan work row details) steps e (gives_voted work row details) f
-task_result work (task.Again (duty.Block row) (granted.Block block)) steps e f = gives_follows (duty.Block row) None (made_plan work row block) steps e (gives_made work row block) f
-task_result work (task.Again (duty.Block row) granted.Reveal) steps e f = gives_follows (duty.Block row) None (block_plan work row) steps e (gives_block work row) f
-task_result work (task.Again (duty.Vote row) granted.Reveal) steps e f = gives_follows (duty.Vote row) None Stop steps e tt f
-task_result work (task.Again (duty.Vote row) (granted.Block block)) steps e f = gives_follows (duty.Vote row) None Stop steps e tt f
-task_result work (task.Again (duty.Block row) (granted.Vote details)) steps e f = gives_follows (duty.Block row) None Stop steps e tt f
+pub task_result : (work : SlotWork) (t : Task) (steps : List DutyStep) (e : Ended) → Follows Fits (task_plan work t) steps (Some e) → e.result ≡ result_by work.altair (duty_of t) steps
+task_result work (task.Fresh (duty.Vote row)) steps e f = gives_follows work.altair (duty.Vote row) None (vote_plan work row) steps e (gives_vote work row) f
+task_result work (task.Fresh (duty.Block row)) steps e f = gives_follows work.altair (duty.Block row) None (block_plan work row) steps e (gives_block work row) f
+task_result work (task.Again (duty.Vote row) (granted.Vote details)) steps e f = gives_follows work.altair (duty.Vote row) None (voted_plan work row details) steps e (gives_voted work row details) f
+task_result work (task.Again (duty.Block row) (granted.Block block)) steps e f = gives_follows work.altair (duty.Block row) None (made_plan work row block) steps e (gives_made work row block) f
+task_result work (task.Again (duty.Block row) granted.Reveal) steps e f = gives_follows work.altair (duty.Block row) None (block_plan work row) steps e (gives_block work row) f
+task_result work (task.Again (duty.Vote row) granted.Reveal) steps e f = gives_follows work.altair (duty.Vote row) None Stop steps e tt f
+task_result work (task.Again (duty.Vote row) (granted.Block block)) steps e f = gives_follows work.altair (duty.Vote row) None Stop steps e tt f
+task_result work (task.Again (duty.Block row) (granted.Vote details)) steps e f = gives_follows work.altair (duty.Block row) None Stop steps e tt f

@@ -8,7 +8,7 @@ use Rattle.edge_kit.specs.declared.bytes.PubKey.{PubKey}
 use Rattle.edge_kit.specs.declared.bytes.Sig.{Sig}
 use Rattle.slash_defs.specs.declared.message.Message.{Message}
 use Rattle.phase0_types.specs.declared.attestation.AttestationData.{AttestationData}
-use Rattle.phase0_blocks.specs.declared.block.BeaconBlock.{BeaconBlock}
+use Rattle.altair_blocks.specs.declared.any_block.AnyBlock.{AnyBlock}
 use Rattle.desk_machine.specs.declared.open_grant.OpenGrant.{OpenGrant}
 use Rattle.desk_machine.specs.declared.call.DeskCall.{DeskCall}
 use Rattle.desk_machine.specs.declared.call.DeskCall.TheVariants as call
@@ -65,7 +65,7 @@ module _ (work : SlotWork) (d : Duty) where
   Had so unsent = HadLeave so (owner_of d) (unsent_message work.domains unsent)
 
   abbrev LeftBy : Given → Ended → Type 0
-  LeftBy so e = IfSome e.unsent (λ unsent. (is_repeated e.result ≡ true) × IsOwnUnsent d unsent × HadLeave so (owner_of d) (unsent_message work.domains unsent))
+  LeftBy so e = IfSome e.unsent (λ unsent. (is_repeated e.result ≡ true) × IsOwnUnsent work.altair d unsent × HadLeave so (owner_of d) (unsent_message work.domains unsent))
 
   -- where leave was given for these before it, the plan leaves only what leave was given for
   abbrev Leaves : Given → DutyPlan Ended → Type 0
@@ -90,36 +90,36 @@ module _ (work : SlotWork) (d : Duty) where
   had_more : (so more : Given) (unsent : Unsent) → Had so unsent → Had (so ++ more) unsent
   had_more so more unsent h = leave_more so more (owner_of d) (unsent_message work.domains unsent) h
 
-  left_if : (so : Given) (unsent : Unsent) (by : DutyResult) (b : Bool) → is_repeated by ≡ b → IsOwnUnsent d unsent → Had so unsent
-      → IfSome (if b then Some unsent else None) (λ u. (is_repeated by ≡ true) × IsOwnUnsent d u × HadLeave so (owner_of d) (unsent_message work.domains u))
+  left_if : (so : Given) (unsent : Unsent) (by : DutyResult) (b : Bool) → is_repeated by ≡ b → IsOwnUnsent work.altair d unsent → Had so unsent
+      → IfSome (if b then Some unsent else None) (λ u. (is_repeated by ≡ true) × IsOwnUnsent work.altair d u × HadLeave so (owner_of d) (unsent_message work.domains u))
   left_if so unsent by true is own h = (is, own, h)
   left_if so unsent by false is own h = tt
 
-  leaves_end : (so : Given) (unsent : Unsent) (by : DutyResult) → IsOwnUnsent d unsent → Had so unsent → LeftBy so (left_by unsent by)
+  leaves_end : (so : Given) (unsent : Unsent) (by : DutyResult) → IsOwnUnsent work.altair d unsent → Had so unsent → LeftBy so (left_by unsent by)
   leaves_end so unsent by own h = left_if so unsent by (is_repeated by) refl own h
 
-  settled_end : (so : Given) (unsent : Unsent) (grant : OpenGrant) (o : Outcome) (by : DutyResult) → IsOwnUnsent d unsent → Had so unsent → Leaves so (settles grant o (Done (left_by unsent by)))
+  settled_end : (so : Given) (unsent : Unsent) (grant : OpenGrant) (o : Outcome) (by : DutyResult) → IsOwnUnsent work.altair d unsent → Had so unsent → Leaves so (settles grant o (Done (left_by unsent by)))
   settled_end so unsent grant o by own h r f =
       let more = granted_in (step_calls (Calls (call.Settle grant o), r)) in
       leaves_end (so ++ more) unsent by own (had_more so more unsent h)
 
-  leaves_posted : (so : Given) (unsent : Unsent) (g : Got (Unit {0})) → IsOwnUnsent d unsent → Had so unsent → Leaves so (with_got (left_by unsent) g (sent unsent))
+  leaves_posted : (so : Given) (unsent : Unsent) (g : Got (Unit {0})) → IsOwnUnsent work.altair d unsent → Had so unsent → Leaves so (with_got (left_by unsent) g (sent unsent))
   leaves_posted so unsent (got.Given x) own h = leaves_end so unsent ended.Sent own h
   leaves_posted so unsent (got.Failed by) own h = leaves_end so unsent by own h
   leaves_posted so unsent got.Nothing own h = tt
 
-  leaves_post : (so : Given) (unsent : Unsent) (grant : OpenGrant) (p : Post) → IsOwnUnsent d unsent → Had so unsent → Leaves so (post_plan unsent grant p)
+  leaves_post : (so : Given) (unsent : Unsent) (grant : OpenGrant) (p : Post) → IsOwnUnsent work.altair d unsent → Had so unsent → Leaves so (post_plan unsent grant p)
   leaves_post so unsent grant p own h r f r2 f2 =
       let one = so ++ granted_in [] in
       let more = granted_in (step_calls (Calls (call.Settle grant outcome.Sent), r2)) in
       leaves_posted (one ++ more) unsent (posted_of (post_reply r)) own (had_more one more unsent (had_more so (granted_in []) unsent h))
 
-  leaves_signed : (so : Given) (unsent : Unsent) (grant : OpenGrant) (g : Got Sig) (made : Sig → Post) → IsOwnUnsent d unsent → Had so unsent → Leaves so (under (left_by unsent) grant g (λ signature. post_plan unsent grant (made signature)))
+  leaves_signed : (so : Given) (unsent : Unsent) (grant : OpenGrant) (g : Got Sig) (made : Sig → Post) → IsOwnUnsent work.altair d unsent → Had so unsent → Leaves so (under (left_by unsent) grant g (λ signature. post_plan unsent grant (made signature)))
   leaves_signed so unsent grant (got.Given x) made own h = leaves_post so unsent grant (made x) own h
   leaves_signed so unsent grant (got.Failed by) made own h = settled_end so unsent grant outcome.Dropped by own h
   leaves_signed so unsent grant got.Nothing made own h = λ r f. tt
 
-  leaves_granted : (so : Given) (unsent : Unsent) (q : SignRequest) (made : Sig → Post) (grant : OpenGrant) → IsOwnUnsent d unsent → Had so unsent → Leaves so (granted_plan unsent q made grant)
+  leaves_granted : (so : Given) (unsent : Unsent) (q : SignRequest) (made : Sig → Post) (grant : OpenGrant) → IsOwnUnsent work.altair d unsent → Had so unsent → Leaves so (granted_plan unsent q made grant)
   leaves_granted so unsent q made grant own h r f = leaves_signed (so ++ granted_in []) unsent grant (signature_of (sign_reply r)) made own (had_more so (granted_in []) unsent h)
 
   -- ---- where nothing is left
@@ -129,7 +129,7 @@ module _ (work : SlotWork) (d : Duty) where
   leaves_got so (got.Failed by) k h = tt
   leaves_got so got.Nothing k h = tt
 
-  leaves_under : {T : Type 0} (so : Given) (unsent : Unsent) (grant : OpenGrant) (g : Got T) (k : T → DutyPlan Ended) → IsOwnUnsent d unsent → Had so unsent → ((x : T) → Leaves so (k x)) → Leaves so (under (left_by unsent) grant g k)
+  leaves_under : {T : Type 0} (so : Given) (unsent : Unsent) (grant : OpenGrant) (g : Got T) (k : T → DutyPlan Ended) → IsOwnUnsent work.altair d unsent → Had so unsent → ((x : T) → Leaves so (k x)) → Leaves so (under (left_by unsent) grant g k)
   leaves_under so unsent grant (got.Given x) k own had h = h x
   leaves_under so unsent grant (got.Failed by) k own had h = settled_end so unsent grant outcome.Dropped by own had
   leaves_under so unsent grant got.Nothing k own had h = λ r f. tt
@@ -144,7 +144,7 @@ module _ (work : SlotWork) (d : Duty) where
   granted_now key m now (Answered tried) grant f e = absurd f
   granted_now key m now (Taken tried) grant f e = absurd f
 
-  leaves_publish : (so : Given) (m : Message) (now : ℕ) (unsent : Unsent) (q : SignRequest) (made : Sig → Post) → unsent_message work.domains unsent ≡ Some m → IsOwnUnsent d unsent → Leaves so (publish_plan (owner_of d) m now unsent q made)
+  leaves_publish : (so : Given) (m : Message) (now : ℕ) (unsent : Unsent) (q : SignRequest) (made : Sig → Post) → unsent_message work.domains unsent ≡ Some m → IsOwnUnsent work.altair d unsent → Leaves so (publish_plan (owner_of d) m now unsent q made)
   leaves_publish so m now unsent q made is own r f =
       let key = owner_of d in
       let more = granted_in (step_calls (Calls (call.Propose key m now), r)) in
@@ -154,7 +154,7 @@ module _ (work : SlotWork) (d : Duty) where
 leaves_voted : (work : SlotWork) (row : AttesterRow) (details : AttestationData) (so : Given) → first_that_differs (data_members row details) ≡ None → Leaves work (duty.Vote row) so (voted_plan work row details)
 leaves_voted work row details so own = leaves_publish work (duty.Vote row) so (vote_message work.domains details) work.moment (granted.Vote details) (vote_request work details) (vote_post row details) refl own
 
-leaves_made : (work : SlotWork) (row : ProposerRow) (block : BeaconBlock) (so : Given) → first_that_differs (block_members row.slot block) ≡ None → Leaves work (duty.Block row) so (made_plan work row block)
+leaves_made : (work : SlotWork) (row : ProposerRow) (block : AnyBlock) (so : Given) → first_that_differs (block_members row.slot work.altair block) ≡ None → Leaves work (duty.Block row) so (made_plan work row block)
 leaves_made work row block so own = leaves_publish work (duty.Block row) so (block_message work.domains block) work.moment (granted.Block block) (block_request work block) (block_post block) refl own
 
 leaves_vote : (work : SlotWork) (row : AttesterRow) (so : Given) → Leaves work (duty.Vote row) so (vote_plan work row)
@@ -169,9 +169,9 @@ leaves_block work row so r f =
     leaves_got work D one (grant_of (desk_reply r)) (λ grant. allowed_plan work row grant) (λ grant e s f2.
     leaves_under work D two granted.Reveal grant (signature_of (sign_reply s)) (λ reveal. revealed_plan work row grant reveal) tt tt (λ reveal a f3 t f4.
     let three = (two ++ granted_in []) ++ granted_in (step_calls (Calls (call.Settle grant outcome.Sent), t)) in
-    leaves_got work D three (block_of row (answer_reply a)) (λ block. made_plan work row block) (λ block is. leaves_made work row block three (block_got row (answer_reply a) block is))))
+    leaves_got work D three (block_of work.altair row (answer_reply a)) (λ block. made_plan work row block) (λ block is. leaves_made work row block three (block_got work.altair row (answer_reply a) block is))))
 
-pub task_left : (work : SlotWork) (t : Task) (steps : List DutyStep) (e : Ended) → IsOwnTask t → Follows Fits (task_plan work t) steps (Some e) → IsLeft work t steps e
+pub task_left : (work : SlotWork) (t : Task) (steps : List DutyStep) (e : Ended) → IsOwnTask work.altair t → Follows Fits (task_plan work t) steps (Some e) → IsLeft work t steps e
 task_left work (task.Fresh (duty.Vote row)) steps e own f = leaves_follows work (duty.Vote row) [] (vote_plan work row) steps e (leaves_vote work row []) f
 task_left work (task.Fresh (duty.Block row)) steps e own f = leaves_follows work (duty.Block row) [] (block_plan work row) steps e (leaves_block work row []) f
 task_left work (task.Again (duty.Vote row) (granted.Vote details)) steps e own f = leaves_follows work (duty.Vote row) [] (voted_plan work row details) steps e (leaves_voted work row details [] own) f

@@ -4,11 +4,9 @@ use Rattle.edge_kit.specs.declared.bytes.Root.{Root}
 use Rattle.edge_kit.specs.declared.bytes.Sig.{Sig}
 use Rattle.slash_defs.specs.declared.message.Message.{Message}
 use Rattle.slash_defs.specs.declared.message.Message.TheVariants as message
-use Rattle.phase0_types.specs.Roots.{root_of}
-use Rattle.phase0_types.specs.Containers.{beacon_block}
 use Rattle.phase0_types.specs.declared.attestation.AttestationData.{AttestationData}
-use Rattle.phase0_blocks.specs.Blocks.{beacon_block_value}
-use Rattle.phase0_blocks.specs.declared.block.BeaconBlock.{BeaconBlock}
+use Rattle.altair_blocks.specs.AnyBlocks.{block_value, root_of_block, slot_of}
+use Rattle.altair_blocks.specs.declared.any_block.AnyBlock.{AnyBlock}
 use Rattle.sign_roots.specs.Domains.{domain_of}
 use Rattle.sign_roots.specs.SigningRoots.{attestation_root_of, signing_root_of, slots_per_epoch}
 use Rattle.sign_roots.specs.declared.domains.Domains.{Domains}
@@ -29,12 +27,12 @@ abbrev pub vote_message : Domains → AttestationData → Message
 vote_message domains details = message.Vote details.source.epoch details.target.epoch (record { 0 = attestation_root_of domains details })
 
 -- what a proposer signs for a block (`get_block_signature`)
-abbrev pub whole_block_root : Domains → BeaconBlock → List ℕ
-whole_block_root domains block = signing_root_of (root_of beacon_block (beacon_block_value block)) (domain_of domains kind.BeaconProposer (block.slot / slots_per_epoch))
+abbrev pub whole_block_root : Domains → AnyBlock → List ℕ
+whole_block_root domains block = signing_root_of (root_of_block (block_value block)) (domain_of domains kind.BeaconProposer (slot_of block / slots_per_epoch))
 
 -- the message of a block, whose root is signed under the proposer's domain of the epoch of its slot
-abbrev pub block_message : Domains → BeaconBlock → Message
-block_message domains block = message.Block block.slot (record { 0 = whole_block_root domains block })
+abbrev pub block_message : Domains → AnyBlock → Message
+block_message domains block = message.Block (slot_of block) (record { 0 = whole_block_root domains block })
 
 -- what goes to the service: the chain, and the whole object that the message was made of
 abbrev pub object_request : SlotWork → SignObject → SignRequest
@@ -43,7 +41,7 @@ object_request work object = record { fork = work.domains.fork; genesis = work.g
 abbrev pub vote_request : SlotWork → AttestationData → SignRequest
 vote_request work details = object_request work (made_of.Attestation details)
 
-abbrev pub block_request : SlotWork → BeaconBlock → SignRequest
+abbrev pub block_request : SlotWork → AnyBlock → SignRequest
 block_request work block = object_request work (made_of.Block block)
 
 -- the proposer reveals its randomness for the epoch of the slot (`get_epoch_signature`)
@@ -54,7 +52,7 @@ reveal_request work = record { fork = work.domains.fork; genesis = work.genesis;
 abbrev pub vote_post : AttesterRow → AttestationData → Sig → Post
 vote_post row details signature = post.Vote (record { aggregation_bits = aggregation_bits row.validator_committee_index row.committee_length; details = details; signature = signature })
 
-abbrev pub block_post : BeaconBlock → Sig → Post
+abbrev pub block_post : AnyBlock → Sig → Post
 block_post block signature = post.Block (record { message = block; signature = signature })
 
 -- the message of what is posted

@@ -3,7 +3,7 @@ use Rattle.std.specs.Prelude.{◌≡◌, List, [], ◌∷◌, Some, None}
 use Rattle.edge_kit.specs.declared.bytes.PubKey.{PubKey}
 use Rattle.slash_defs.specs.declared.message.Message.{Message}
 use Rattle.phase0_types.specs.declared.attestation.AttestationData.{AttestationData}
-use Rattle.phase0_blocks.specs.declared.block.BeaconBlock.{BeaconBlock}
+use Rattle.altair_blocks.specs.declared.any_block.AnyBlock.{AnyBlock}
 use Rattle.desk_machine.specs.declared.open_grant.OpenGrant.{OpenGrant}
 use Rattle.signer_link.specs.declared.request.SignRequest.{SignRequest}
 use Rattle.signer_link.specs.declared.request.PlainRequest.{PlainRequest}
@@ -29,15 +29,15 @@ pub record IsOwnVote (work : SlotWork) (row : AttesterRow) (grant : OpenGrant) (
   pub same : first_that_differs (data_members row details) ≡ None
   pub leave : IsGrantOf grant row.pubkey (vote_message work.domains details)
 
--- a block is of the duty's slot, and leave was given for just that
-pub record IsOwnBlock (work : SlotWork) (row : ProposerRow) (grant : OpenGrant) (block : BeaconBlock) : Type 0 where
-  pub same : first_that_differs (block_members row.slot block) ≡ None
+-- a block is of the duty's slot and of its version, and leave was given for just that
+pub record IsOwnBlock (work : SlotWork) (row : ProposerRow) (grant : OpenGrant) (block : AnyBlock) : Type 0 where
+  pub same : first_that_differs (block_members row.slot work.altair block) ≡ None
   pub leave : IsGrantOf grant row.pubkey (block_message work.domains block)
 
 -- what is signed
 abbrev pub SignsOwn : SlotWork → Duty → OpenGrant → SignRequest → Type 0
 SignsOwn work (duty.Vote row) grant q = (details : AttestationData) × (q ≡ vote_request work details) × IsOwnVote work row grant details
-SignsOwn work (duty.Block row) grant q = (block : BeaconBlock) × (q ≡ block_request work block) × IsOwnBlock work row grant block
+SignsOwn work (duty.Block row) grant q = (block : AnyBlock) × (q ≡ block_request work block) × IsOwnBlock work row grant block
 
 -- what is posted: of a vote with the bit of the validator's own place
 abbrev pub PostsOwn : SlotWork → Duty → OpenGrant → Post → Type 0

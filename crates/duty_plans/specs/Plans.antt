@@ -5,7 +5,7 @@ use Rattle.edge_kit.specs.declared.bytes.Root.{Root}
 use Rattle.edge_kit.specs.declared.bytes.Sig.{Sig}
 use Rattle.slash_defs.specs.declared.message.Message.{Message}
 use Rattle.phase0_types.specs.declared.attestation.AttestationData.{AttestationData}
-use Rattle.phase0_blocks.specs.declared.block.BeaconBlock.{BeaconBlock}
+use Rattle.altair_blocks.specs.declared.any_block.AnyBlock.{AnyBlock}
 use Rattle.sign_roots.specs.declared.domains.Domains.{Domains}
 use Rattle.desk_machine.specs.declared.open_grant.OpenGrant.{OpenGrant}
 use Rattle.desk_machine.specs.declared.call.DeskCall.{DeskCall}
@@ -36,6 +36,7 @@ use Rattle.duty_plans.specs.declared.ended.Unsent.{Unsent}
 use Rattle.duty_plans.specs.declared.ended.Unsent.TheVariants as granted
 use Rattle.duty_plans.specs.declared.result.DutyResult.{DutyResult}
 use Rattle.duty_plans.specs.declared.result.DutyResult.TheVariants as ended
+use Rattle.duty_plans.specs.declared.setup.DutySetup.{DutySetup}
 use Rattle.duty_plans.specs.declared.task.Task.{Task}
 use Rattle.duty_plans.specs.declared.task.Task.TheVariants as task
 use Rattle.duty_plans.specs.declared.work.SlotWork.{SlotWork}
@@ -120,12 +121,12 @@ vote_plan work row = asks (ask.Data work.slot row.committee_index) (λ a. with_g
 
 -- ---- a block
 
-abbrev pub made_plan : SlotWork → ProposerRow → BeaconBlock → DutyPlan Ended
+abbrev pub made_plan : SlotWork → ProposerRow → AnyBlock → DutyPlan Ended
 made_plan work row block = publish_plan row.pubkey (block_message work.domains block) work.moment (granted.Block block) (block_request work block) (block_post block)
 
 -- a block is asked for with the reveal, whose grant is then settled as sent
 abbrev pub revealed_plan : SlotWork → ProposerRow → OpenGrant → Sig → DutyPlan Ended
-revealed_plan work row grant reveal = asks (ask.Block work.slot reveal) (λ a. settles grant outcome.Sent (with_got over (block_of row a) (λ block. made_plan work row block)))
+revealed_plan work row grant reveal = asks (ask.Block work.slot reveal) (λ a. settles grant outcome.Sent (with_got over (block_of work.altair row a) (λ block. made_plan work row block)))
 
 -- the randomness is revealed; another try may begin with the reveal once more
 abbrev pub allowed_plan : SlotWork → ProposerRow → OpenGrant → DutyPlan Ended
@@ -157,5 +158,5 @@ task_plan work (task.Again d unsent) = again_plan work d unsent
 abbrev pub slot_plan : SlotWork → List Task → DutyPlan (List Ended)
 slot_plan work tasks = each_plan (λ t. task_plan work t) [] tasks
 
-abbrev pub slot_work : Root → Domains → ℕ → ℕ → SlotWork
-slot_work genesis domains slot now = record { genesis = genesis; domains = domains; slot = slot; moment = now }
+abbrev pub slot_work : DutySetup → Domains → ℕ → ℕ → SlotWork
+slot_work setup domains slot now = record { genesis = setup.genesis; domains = domains; altair = setup.altair; slot = slot; moment = now }

@@ -1,10 +1,10 @@
 -- What is read of the replies to a duty's calls.
-use Rattle.std.specs.Prelude.{List, Option, Some, None, Result, Ok, Err}
+use Rattle.std.specs.Prelude.{ℕ, List, Option, Some, None, Result, Ok, Err}
 use Rattle.edge_kit.specs.declared.bytes.Sig.{Sig}
 use Rattle.protect_record.specs.declared.verdict.Verdict.{Verdict}
 use Rattle.protect_record.specs.declared.verdict.Verdict.TheVariants as verdict
 use Rattle.phase0_types.specs.declared.attestation.AttestationData.{AttestationData}
-use Rattle.phase0_blocks.specs.declared.block.BeaconBlock.{BeaconBlock}
+use Rattle.altair_blocks.specs.declared.any_block.AnyBlock.{AnyBlock}
 use Rattle.desk_machine.specs.declared.open_grant.OpenGrant.{OpenGrant}
 use Rattle.desk_machine.specs.declared.call.DeskReply.{DeskReply}
 use Rattle.desk_machine.specs.declared.call.DeskReply.TheVariants as reply
@@ -74,11 +74,11 @@ vote_of row (Ok (answer.Data details)) = matching (first_that_differs (data_memb
 vote_of row (Ok a) = got.Nothing
 vote_of row (Err why) = nothing_of why
 
--- a block, where it is this duty's
-abbrev pub block_of : ProposerRow → Result Answer NoAnswer → Got BeaconBlock
-block_of row (Ok (answer.Block block)) = matching (first_that_differs (block_members row.slot block)) block
-block_of row (Ok a) = got.Nothing
-block_of row (Err why) = nothing_of why
+-- a block, where it is this duty's; blocks are Altair's from this epoch on, or never
+abbrev pub block_of : Option ℕ → ProposerRow → Result Answer NoAnswer → Got AnyBlock
+block_of altair row (Ok (answer.Block block)) = matching (first_that_differs (block_members row.slot altair block)) block
+block_of altair row (Ok a) = got.Nothing
+block_of altair row (Err why) = nothing_of why
 
 -- whether a node took the post
 abbrev pub posted_of : Result (Unit {0}) NoAnswer → Got (Unit {0})

@@ -29,5 +29,5 @@ HadLeave so key (Some m) = Contains so (key, m)
 -- Another try may follow only where the service failed or answered something else, or no node took what was posted. What is left is the
 -- duty's, and the desk gave leave for its message, if it has one, in these steps.
 abbrev pub IsLeft : SlotWork → Task → List DutyStep → Ended → Type 0
-IsLeft work t steps e = IfSome e.unsent (λ unsent. (is_repeated e.result ≡ true) × IsOwnUnsent (duty_of t) unsent
+IsLeft work t steps e = IfSome e.unsent (λ unsent. (is_repeated e.result ≡ true) × IsOwnUnsent work.altair (duty_of t) unsent
     × HadLeave (granted_in (desk_calls steps)) (owner_of (duty_of t)) (unsent_message work.domains unsent))

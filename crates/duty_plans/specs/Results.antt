@@ -1,5 +1,5 @@
 -- How a duty ended, by the first of its calls that failed.
-use Rattle.std.specs.Prelude.{List, [], ◌∷◌, Option, Some, None, unwrap_or, Result}
+use Rattle.std.specs.Prelude.{ℕ, List, [], ◌∷◌, Option, Some, None, unwrap_or, Result}
 use Rattle.node_calls.specs.declared.answer.Answer.{Answer}
 use Rattle.node_fallback.specs.declared.no_node.NoAnswer.{NoAnswer}
 use Rattle.duty_schedule.specs.declared.rows.Duty.{Duty}
@@ -17,30 +17,30 @@ failed_in (got.Given x) = None
 failed_in (got.Failed r) = Some r
 failed_in got.Nothing = None
 
--- of what the nodes gave, or that it is not the duty's
-abbrev pub failed_answer : Duty → Result Answer NoAnswer → Option DutyResult
-failed_answer (duty.Block row) a = failed_in (block_of row a)
-failed_answer (duty.Vote row) a = failed_in (vote_of row a)
+-- of what the nodes gave, or that it is not the duty's; blocks are Altair's from this epoch on, or never
+abbrev pub failed_answer : Option ℕ → Duty → Result Answer NoAnswer → Option DutyResult
+failed_answer altair (duty.Block row) a = failed_in (block_of altair row a)
+failed_answer altair (duty.Vote row) a = failed_in (vote_of row a)
 
 -- how a duty ends by this step, where it failed: the desk refused; the service gave no signature; no node gave what was asked for, or
 -- it is not the duty's; no node took what was posted
-abbrev pub failure_of : Duty → DutyStep → Option DutyResult
-failure_of d (Calls c, Replies r) = failed_in (grant_of r)
-failure_of d (Signs grant q, Signed s) = failed_in (signature_of s)
-failure_of d (Reveals grant q, Signed s) = failed_in (signature_of s)
-failure_of d (Asks a, Answered tried) = failed_answer d (came_of tried)
-failure_of d (Posts grant p, Taken tried) = failed_in (posted_of (came_of tried))
-failure_of d s = None
+abbrev pub failure_of : Option ℕ → Duty → DutyStep → Option DutyResult
+failure_of altair d (Calls c, Replies r) = failed_in (grant_of r)
+failure_of altair d (Signs grant q, Signed s) = failed_in (signature_of s)
+failure_of altair d (Reveals grant q, Signed s) = failed_in (signature_of s)
+failure_of altair d (Asks a, Answered tried) = failed_answer altair d (came_of tried)
+failure_of altair d (Posts grant p, Taken tried) = failed_in (posted_of (came_of tried))
+failure_of altair d s = None
 
 abbrev pub first_of : {A : Type 0} → Option A → Option A → Option A
 first_of (Some x) later = Some x
 first_of None later = later
 
 -- the first of the steps that failed
-abbrev pub first_failure : Duty → List DutyStep → Option DutyResult
-first_failure d [] = None
-first_failure d (s ∷ steps) = first_of (failure_of d s) (first_failure d steps)
+abbrev pub first_failure : Option ℕ → Duty → List DutyStep → Option DutyResult
+first_failure altair d [] = None
+first_failure altair d (s ∷ steps) = first_of (failure_of altair d s) (first_failure altair d steps)
 
 -- it decides; where none failed, it is sent
-abbrev pub result_by : Duty → List DutyStep → DutyResult
-result_by d steps = unwrap_or (first_failure d steps) ended.Sent
+abbrev pub result_by : Option ℕ → Duty → List DutyStep → DutyResult
+result_by altair d steps = unwrap_or (first_failure altair d steps) ended.Sent

@@ -1,5 +1,5 @@
 -- What is done of duties: all of each, or what was granted and not sent once more.
-use Rattle.std.specs.Prelude.{◌≡◌, List, [], ◌∷◌, ◌++◌, map, Option, Some, None}
+use Rattle.std.specs.Prelude.{◌≡◌, ℕ, List, [], ◌∷◌, ◌++◌, map, Option, Some, None}
 use Rattle.edge_kit.specs.declared.bytes.PubKey.{PubKey}
 use Rattle.slash_defs.specs.declared.message.Message.{Message}
 use Rattle.sign_roots.specs.declared.domains.Domains.{Domains}
@@ -44,13 +44,13 @@ unsent_message domains granted.Reveal = None
 unsent_message domains (granted.Vote details) = Some (vote_message domains details)
 unsent_message domains (granted.Block block) = Some (block_message domains block)
 
--- what was granted for a duty is the duty's
-abbrev pub IsOwnUnsent : Duty → Unsent → Type 0
-IsOwnUnsent (duty.Block row) granted.Reveal = Unit {0}
-IsOwnUnsent (duty.Vote row) (granted.Vote details) = first_that_differs (data_members row details) ≡ None
-IsOwnUnsent (duty.Block row) (granted.Block block) = first_that_differs (block_members row.slot block) ≡ None
-IsOwnUnsent d unsent = ⊥
+-- what was granted for a duty is the duty's; blocks are Altair's from this epoch on, or never
+abbrev pub IsOwnUnsent : Option ℕ → Duty → Unsent → Type 0
+IsOwnUnsent altair (duty.Block row) granted.Reveal = Unit {0}
+IsOwnUnsent altair (duty.Vote row) (granted.Vote details) = first_that_differs (data_members row details) ≡ None
+IsOwnUnsent altair (duty.Block row) (granted.Block block) = first_that_differs (block_members row.slot altair block) ≡ None
+IsOwnUnsent altair d unsent = ⊥
 
-abbrev pub IsOwnTask : Task → Type 0
-IsOwnTask (task.Fresh d) = Unit {0}
-IsOwnTask (task.Again d unsent) = IsOwnUnsent d unsent
+abbrev pub IsOwnTask : Option ℕ → Task → Type 0
+IsOwnTask altair (task.Fresh d) = Unit {0}
+IsOwnTask altair (task.Again d unsent) = IsOwnUnsent altair d unsent

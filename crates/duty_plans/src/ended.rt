@@ -3,8 +3,8 @@ ghost use Rattle.std.specs.Prelude.{◌≡◌, ◌<◌, IfOk, drop};
 ghost use Rattle.duty_plans.specs.Ends.{is_repeated, last_result, left_by, merged, place_after, results_of};
 
 use crate::result::{DutyResult, Unsigned};
+use altair_blocks::AnyBlock;
 use block_copies::block_copy;
-use phase0_blocks::BeaconBlock;
 use phase0_types::AttestationData;
 use std::alloc::{AllocError, Global};
 
@@ -16,7 +16,7 @@ pub enum Unsent {
     /// What a committee is to vote.
     Vote(AttestationData),
     /// A block.
-    Block(BeaconBlock),
+    Block(AnyBlock),
 }
 
 impl Unsent {

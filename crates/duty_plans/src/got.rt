@@ -4,12 +4,12 @@ ghost use Rattle.duty_plans.specs.Reading.{block_of, grant_of, judged, matching,
 ghost use Rattle.duty_schedule.specs.Checking.{block_members, data_members, first_that_differs};
 
 use crate::result::{DutyResult, Refusal, Unsigned};
+use altair_blocks::AnyBlock;
 use desk_machine::{DeskReply, Grant};
 use duty_schedule::{check_block, check_data};
 use edge_kit::Sig;
 use node_calls::{Answer, AttesterRow, ProposerRow};
 use node_fallback::NoAnswer;
-use phase0_blocks::BeaconBlock;
 use phase0_types::AttestationData;
 use protect_record::Verdict;
 use signer_link::SignReply;
@@ -110,12 +110,16 @@ pub fn vote_in(row: &AttesterRow, answer: Result<Answer, NoAnswer>) -> Got<Attes
     }
 }
 
-/// The block of this duty, or why there is none.
-pub fn block_in(row: &ProposerRow, answer: Result<Answer, NoAnswer>) -> Got<BeaconBlock>
-    ensures { result ≡ block_of row.now answer }
+/// The block of this duty, or why there is none; blocks are Altair's from this epoch on, or never.
+pub fn block_in(
+    altair: Option<u64>,
+    row: &ProposerRow,
+    answer: Result<Answer, NoAnswer>,
+) -> Got<AnyBlock>
+    ensures { result ≡ block_of altair row.now answer }
 {
     match answer {
-        Ok(Answer::Block(block)) => matching_block(row, block),
+        Ok(Answer::Block(block)) => matching_block(altair, row, block),
         Ok(_) => Got::Nothing,
         Err(NoAnswer::NoNode(_)) => Got::Failed(DutyResult::NoData),
         Err(NoAnswer::OutOfMemory) => Got::Nothing,
@@ -133,10 +137,10 @@ fn matching_vote(row: &AttesterRow, details: AttestationData) -> Got<Attestation
 }
 
 /// The block, where it is the duty's.
-fn matching_block(row: &ProposerRow, block: BeaconBlock) -> Got<BeaconBlock>
-    ensures { result ≡ matching (first_that_differs (block_members row.now.slot block)) block }
+fn matching_block(altair: Option<u64>, row: &ProposerRow, block: AnyBlock) -> Got<AnyBlock>
+    ensures { result ≡ matching (first_that_differs (block_members row.now.slot altair block)) block }
 {
-    match check_block(row.slot, &block) {
+    match check_block(row.slot, altair, &block) {
         Ok(()) => Got::Given(block),
         Err(_) => Got::Failed(DutyResult::DataDiffers),
     }

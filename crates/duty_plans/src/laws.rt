@@ -34,8 +34,8 @@ pub fn lane_law<K: DeskCalls, X>()
 /// is the duty's; a duty ends by the first of its calls that failed, and is sent where none did. The steps of a slot's
 /// tasks are those of each, one after another, with one end each.
 pub fn duty_law()
-    ensures own { (work : SlotWork) (task : Task) (steps : List DutyStep) (v : Option Ended) → IsOwnTask task → Follows Fits (task_plan work task) steps v → AllOwn work (duty_of task) steps }
-    ensures result { (work : SlotWork) (task : Task) (steps : List DutyStep) (e : Ended) → Follows Fits (task_plan work task) steps (Some e) → e.result ≡ result_by (duty_of task) steps }
+    ensures own { (work : SlotWork) (task : Task) (steps : List DutyStep) (v : Option Ended) → IsOwnTask work.altair task → Follows Fits (task_plan work task) steps v → AllOwn work (duty_of task) steps }
+    ensures result { (work : SlotWork) (task : Task) (steps : List DutyStep) (e : Ended) → Follows Fits (task_plan work task) steps (Some e) → e.result ≡ result_by work.altair (duty_of task) steps }
     ensures each { (work : SlotWork) (tasks : List Task) (steps : List DutyStep) (ends : List Ended) → Follows Fits (slot_plan work tasks) steps (Some ends) → EachDone work tasks steps ends }
 {}
 
@@ -46,5 +46,5 @@ pub fn duty_law()
 pub fn repeat_law()
     ensures same { (work : SlotWork) (duty : Duty) (unsent : Unsent) (m : Message) (steps : List DutyStep) (v : Option Ended) → unsent_message work.domains unsent ≡ Some m
         → Follows Fits (task_plan work (Task.Again duty unsent)) steps v → AllPropose (owner_of duty) m steps }
-    ensures left { (work : SlotWork) (task : Task) (steps : List DutyStep) (e : Ended) → IsOwnTask task → Follows Fits (task_plan work task) steps (Some e) → IsLeft work task steps e }
+    ensures left { (work : SlotWork) (task : Task) (steps : List DutyStep) (e : Ended) → IsOwnTask work.altair task → Follows Fits (task_plan work task) steps (Some e) → IsLeft work task steps e }
 {}

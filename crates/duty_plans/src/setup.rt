@@ -11,6 +11,8 @@ pub struct DutySetup {
     pub genesis_time: u64,
     /// The chain's fork at the start. It stands until a node gives another.
     pub fork: Fork,
+    /// From which epoch on blocks are Altair's (consensus-specs, `ALTAIR_FORK_EPOCH`); `None`: never.
+    pub altair: Option<u64>,
     /// Whether keys are watched before they sign.
     pub watch: bool,
     /// How many turns are taken, one for each slot that is reached.

@@ -9,6 +9,8 @@ pub struct SlotWork {
     pub genesis: Root,
     /// The chain, by its fork and genesis root, under whose domains is signed.
     pub domains: Domains,
+    /// From which epoch on blocks are Altair's (consensus-specs, `ALTAIR_FORK_EPOCH`); `None`: never.
+    pub altair: Option<u64>,
     /// The slot, counted from genesis.
     pub slot: u64,
     /// The moment for the desk, an epoch.

@@ -1,11 +1,11 @@
 //! Whether the data that a node gives for a duty is that duty's.
 ghost use Rattle.std.specs.Prelude.{◌≡◌, [], ◌∷◌, Some};
 ghost use Rattle.std.specs.Result.{result_err};
-ghost use Rattle.duty_schedule.specs.Checking.{block_members, data_members, first_that_differs, in_member, member_name};
+ghost use Rattle.duty_schedule.specs.Checking.{block_members, data_members, first_that_differs, in_member, member_name, version_number};
 
 use crate::slots::epoch_of;
+use altair_blocks::{AnyBlock, ConsensusVersion, version_at};
 use node_calls::AttesterRow;
-use phase0_blocks::BeaconBlock;
 use phase0_types::AttestationData;
 use std::fmt;
 use thiserror::Error;
@@ -17,6 +17,7 @@ pub enum DataMember {
     Index,
     TargetEpoch,
     SourceEpoch,
+    Version,
 }
 
 impl fmt::Display for DataMember {
@@ -28,6 +29,7 @@ impl fmt::Display for DataMember {
             DataMember::Index => "index",
             DataMember::TargetEpoch => "target.epoch",
             DataMember::SourceEpoch => "source.epoch",
+            DataMember::Version => "version",
         })
     }
 }
@@ -58,11 +60,27 @@ pub fn check_data(duty: &AttesterRow, details: &AttestationData) -> Result<(), D
     check_member(DataMember::SourceEpoch, source.min(target), source)
 }
 
-/// Whether a block is for this slot. Takes no memory.
-pub fn check_block(slot: u64, block: &BeaconBlock) -> Result<(), DataDiffers>
-    ensures { result_err result ≡ first_that_differs (block_members slot block.now) }
+/// Whether a block is for this slot and of its version, where blocks are Altair's from this epoch on, or never. The error is
+/// the first that differs, the slot before the version, whose number is 0 for phase 0 and 1 for Altair. Takes no memory.
+pub fn check_block(slot: u64, altair: Option<u64>, block: &AnyBlock) -> Result<(), DataDiffers>
+    ensures { result_err result ≡ first_that_differs (block_members slot altair block.now) }
 {
-    check_member(DataMember::Slot, slot, block.slot)
+    check_member(DataMember::Slot, slot, block.slot())?;
+    check_member(
+        DataMember::Version,
+        version_number(version_at(altair, slot)),
+        version_number(block.version()),
+    )
+}
+
+/// The number that a version has where it differs.
+fn version_number(version: ConsensusVersion) -> u64
+    ensures { result ≡ version_number version }
+{
+    match version {
+        ConsensusVersion::Phase0 => 0,
+        ConsensusVersion::Altair => 1,
+    }
 }
 
 /// Whether a member is what is wanted.

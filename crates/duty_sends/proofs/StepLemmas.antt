@@ -6,7 +6,7 @@ use Rattle.edge_kit.specs.Tellings.{Tells}
 use Rattle.edge_kit.specs.declared.bytes.PubKey.{PubKey}
 use Rattle.edge_kit.specs.declared.bytes.Sig.{Sig}
 use Rattle.slash_defs.specs.declared.message.Message.{Message}
-use Rattle.phase0_blocks.specs.declared.block.BeaconBlock.{BeaconBlock}
+use Rattle.altair_blocks.specs.declared.any_block.AnyBlock.{AnyBlock}
 use Rattle.signer_link.specs.declared.request.SignObject.TheVariants as made_of
 use Rattle.duty_plans.specs.Messages.{block_post, block_request}
 use Rattle.duty_plans.specs.declared.work.SlotWork.{SlotWork}
@@ -139,14 +139,14 @@ module _ {K : Type 0} (leads : Leads K) (none : NoneLed leads) where
       (runs_spent d e s ms grant outcome.Sent (next (posted_of result)) v refl led (subst (λ y. Follows Fits (next y) [] v) is f))
 
   -- the block that goes with a request is the one that it was made of
-  block_same : (work : SlotWork) (block b : BeaconBlock) (q : SignRequest) → q ≡ block_request work block → q.object ≡ Some (made_of.Block b) → b ≡ block
+  block_same : (work : SlotWork) (block b : AnyBlock) (q : SignRequest) → q ≡ block_request work block → q.object ≡ Some (made_of.Block b) → b ≡ block
   block_same work block b q e h = cc
 
-  pub block_is : (work : SlotWork) (grant : OpenGrant) (block b : BeaconBlock) (q : SignRequest) (x : Got Sig) (a c : Seat K) (v : Option Ended) → q ≡ block_request work block → q.object ≡ Some (made_of.Block b)
+  pub block_is : (work : SlotWork) (grant : OpenGrant) (block b : AnyBlock) (q : SignRequest) (x : Got Sig) (a c : Seat K) (v : Option Ended) → q ≡ block_request work block → q.object ≡ Some (made_of.Block b)
       → Carries Fits (Does leads) (under (left_by (granted.Block b)) grant x (λ s. post_plan (granted.Block b) grant (block_post b s))) a c v
       → Carries Fits (Does leads) (under (left_by (granted.Block block)) grant x (λ s. post_plan (granted.Block block) grant (block_post block s))) a c v
   block_is work grant block b q x a c v e h run =
-      subst (λ (y : BeaconBlock). Carries Fits (Does leads) (under (left_by (granted.Block y)) grant x (λ s. post_plan (granted.Block y) grant (block_post y s))) a c v) (block_same work block b q e h) run
+      subst (λ (y : AnyBlock). Carries Fits (Does leads) (under (left_by (granted.Block y)) grant x (λ s. post_plan (granted.Block y) grant (block_post y s))) a c v) (block_same work block b q e h) run
 
   -- nothing was got under a grant
   pub runs_dropped : (d e : K) (s : SignerSeen) (ns : List Seen) (grant : OpenGrant) (next : DutyPlan Ended) (v : Option Ended)

@@ -309,7 +309,7 @@ abbrev pub at_slot : ℕ → Standing → Standing
 at_slot slot s = record s { slot = slot }
 
 abbrev pub work_of : DutySetup → Standing → SlotWork
-work_of setup s = slot_work setup.genesis (record { fork = s.fork; genesis = setup.genesis }) s.slot (epoch_of s.slot)
+work_of setup s = slot_work setup (record { fork = s.fork; genesis = setup.genesis }) s.slot (epoch_of s.slot)
 
 -- the next turn is of the slot of a moment at which a wait for another was over; where it is before that, since the clock was set back,
 -- no answer of before stands, as one of a later epoch would bar those of this one

@@ -330,13 +330,13 @@ module _ {K : Type 0} (leads : Leads K) (start : Option ℕ) where
       subst (λ (l : List Ended). Turns leads start Holds (again_plan setup s es l) a b result) by (subst (λ (l : List Duty). Turns leads start Holds (again_plan setup s l ends) a b result) of t)
 
   pub works_done : (setup : DutySetup) (held : Held) (s : Standing) (ls ks : List (Seat K)) (domains : Domains) (moment place : ℕ) (tasks : List Task) (v : Option (List Ended)) → HoldsPlaced held s → domains ≡ record { fork = held.fork; genesis = setup.genesis } → moment ≡ epoch_of held.slot
-      → WorksDone leads (slot_work setup.genesis domains held.slot moment) place tasks ls ks v → WorksDone leads (work_of setup s) place tasks ls ks v
+      → WorksDone leads (slot_work setup domains held.slot moment) place tasks ls ks v → WorksDone leads (work_of setup s) place tasks ls ks v
   works_done setup held s ls ks domains moment place tasks v h by epoch work =
       let P : SlotWork → Type 0 = λ w. WorksDone leads w place tasks ls ks v in
       let same : ◌≡◌ {A = Domains} (record { fork = held.fork; genesis = setup.genesis }) (record { fork = s.fork; genesis = setup.genesis }) = rw h.is.fork refl in
-      let one : P (slot_work setup.genesis (record { fork = s.fork; genesis = setup.genesis }) held.slot moment) = subst (λ (x : Domains). P (slot_work setup.genesis x held.slot moment)) (by ∙ same) work in
-      let two : P (slot_work setup.genesis (record { fork = s.fork; genesis = setup.genesis }) held.slot (epoch_of held.slot)) = subst (λ n. P (slot_work setup.genesis (record { fork = s.fork; genesis = setup.genesis }) held.slot n)) epoch one in
-      subst (λ n. P (slot_work setup.genesis (record { fork = s.fork; genesis = setup.genesis }) n (epoch_of n))) h.is.slot two
+      let one : P (slot_work setup (record { fork = s.fork; genesis = setup.genesis }) held.slot moment) = subst (λ (x : Domains). P (slot_work setup x held.slot moment)) (by ∙ same) work in
+      let two : P (slot_work setup (record { fork = s.fork; genesis = setup.genesis }) held.slot (epoch_of held.slot)) = subst (λ n. P (slot_work setup (record { fork = s.fork; genesis = setup.genesis }) held.slot n)) epoch one in
+      subst (λ n. P (slot_work setup (record { fork = s.fork; genesis = setup.genesis }) n (epoch_of n))) h.is.slot two
 
   -- ---- duties done for the first time
 

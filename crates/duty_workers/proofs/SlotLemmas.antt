@@ -5,7 +5,7 @@ use Rattle.call_plans.specs.Paths.{Carries, Comes}
 use Rattle.call_plans.proofs.EachLemmas.{each_cut, each_step}
 use Rattle.client_calls.proofs.SeatLemmas.{Leads}
 use Rattle.node_calls.specs.declared.answer.ProposerRow.{ProposerRow}
-use Rattle.phase0_blocks.specs.declared.block.BeaconBlock.{BeaconBlock}
+use Rattle.altair_blocks.specs.declared.any_block.AnyBlock.{AnyBlock}
 use Rattle.duty_plans.specs.declared.ended.Ended.{Ended}
 use Rattle.duty_plans.specs.declared.work.SlotWork.{SlotWork}
 use Rattle.duty_plans.specs.Plans.{made_plan}
@@ -26,6 +26,6 @@ module _ {S C R A X : Type 0} (fits : C → R → Type 0) (does : S → C × R �
   item_cut a b c p got xs i item h is g run = each_cut fits does plan a b c p got xs i item h g (subst (λ (y : A). Carries fits does (plan y) b c None) is run)
 
 -- the block that is proposed is the one that was copied
-pub made_as : {K : Type 0} (leads : Leads K) (work : SlotWork) (row : ProposerRow) (copy block : BeaconBlock) (a b : Seat K) (v : Option Ended) → copy ≡ block
+pub made_as : {K : Type 0} (leads : Leads K) (work : SlotWork) (row : ProposerRow) (copy block : AnyBlock) (a b : Seat K) (v : Option Ended) → copy ≡ block
     → Carries Fits (Does leads) (made_plan work row copy) a b v → Carries Fits (Does leads) (made_plan work row block) a b v
-made_as leads work row copy block a b v is run = subst (λ (x : BeaconBlock). Carries Fits (Does leads) (made_plan work row x) a b v) is run
+made_as leads work row copy block a b v is run = subst (λ (x : AnyBlock). Carries Fits (Does leads) (made_plan work row x) a b v) is run

@@ -3,7 +3,7 @@ ghost use Rattle.std.specs.Prelude.{◌≡◌, ◌≤◌, Some, option_map};
 ghost use Rattle.std.specs.Result.{result_ok};
 ghost use Rattle.desk_machine.specs.Machine.{moment_limit};
 ghost use Rattle.desk_machine.specs.declared.call.Outcome.{Outcome};
-ghost use Rattle.phase0_blocks.specs.declared.block.BeaconBlock.{BeaconBlock};
+ghost use Rattle.altair_blocks.specs.declared.any_block.AnyBlock.{AnyBlock};
 ghost use Rattle.client_calls.specs.Seats.{SignerSeen, signer_seen};
 ghost use Rattle.call_plans.specs.Paths.{Carries};
 ghost use Rattle.duty_plans.specs.Ends.{left_by, over};
@@ -15,6 +15,7 @@ ghost use Rattle.duty_plans.specs.Steps.{Fits};
 ghost use Rattle.duty_sends.specs.Hands.{HasMessage, MayEnd, given_hand};
 ghost use Rattle.duty_workers.specs.Posts.{HasBlock};
 
+use altair_blocks::AnyBlock;
 use desk_machine::{DeskCall, DeskCalls, Grant, Outcome};
 use duty_plans::{
     DutyResult, Ended, Got, SlotWork, Unsent, block_in, grant_in, left_by, signature_in,
@@ -23,8 +24,7 @@ use duty_sends::{send, settle};
 use edge_kit::Sig;
 use node_calls::{Ask, Node, Post, ProposerRow};
 use node_fallback::Nodes;
-use phase0_blocks::{BeaconBlock, Signed};
-use phase0_types::Shaped;
+use phase0_blocks::Signed;
 use sign_roots::{DomainKind, Domains, signing_root};
 use signer_link::{PlainObject, PlainRequest, SignObject, SignRequest, Signer};
 use slash_defs::Message;
@@ -123,7 +123,14 @@ fn ask<K: DeskCalls, S: Signer, N: Node + Drop>(
                 randao_reveal: reveal,
             });
             settle(desk, grant, Outcome::Sent);
-            publish(work, row, block_in(row, answer), desk, signer, nodes)
+            publish(
+                work,
+                row,
+                block_in(work.altair, row, answer),
+                desk,
+                signer,
+                nodes,
+            )
         }
         Got::Failed(result) => {
             settle(desk, grant, Outcome::Dropped);
@@ -140,7 +147,7 @@ fn ask<K: DeskCalls, S: Signer, N: Node + Drop>(
 fn publish<K: DeskCalls, S: Signer, N: Node + Drop>(
     work: &SlotWork,
     row: &ProposerRow,
-    block: Got<BeaconBlock>,
+    block: Got<AnyBlock>,
     desk: &mut K,
     signer: &mut S,
     nodes: &mut Nodes<N>,
@@ -166,7 +173,7 @@ fn publish<K: DeskCalls, S: Signer, N: Node + Drop>(
 pub(crate) fn propose<K: DeskCalls, S: Signer, N: Node + Drop>(
     work: &SlotWork,
     row: &ProposerRow,
-    block: BeaconBlock,
+    block: AnyBlock,
     desk: &mut K,
     signer: &mut S,
     nodes: &mut Nodes<N>,
@@ -187,18 +194,18 @@ pub(crate) fn propose<K: DeskCalls, S: Signer, N: Node + Drop>(
 }
 
 /// What is signed of a block.
-fn message_of(domains: &Domains, block: &BeaconBlock) -> Message
+fn message_of(domains: &Domains, block: &AnyBlock) -> Message
     ensures { result ≡ block_message domains.now block.now }
 {
-    let domain = domains.domain(DomainKind::BeaconProposer, block.slot / SLOTS_PER_EPOCH);
+    let domain = domains.domain(DomainKind::BeaconProposer, block.slot() / SLOTS_PER_EPOCH);
     Message::Block {
-        slot: block.slot,
+        slot: block.slot(),
         root: signing_root(block.root(), domain),
     }
 }
 
 /// What goes to the signing service for a block.
-fn request_of(work: &SlotWork, block: BeaconBlock) -> SignRequest
+fn request_of(work: &SlotWork, block: AnyBlock) -> SignRequest
     ensures { result ≡ block_request work.now block }
 {
     SignRequest {
@@ -209,8 +216,8 @@ fn request_of(work: &SlotWork, block: BeaconBlock) -> SignRequest
 }
 
 /// The block that goes with a request, which has one.
-fn block_back(request: SignRequest) -> BeaconBlock
-    requires { (b : BeaconBlock) × (request.object ≡ Some (SignObject.Block b)) }
+fn block_back(request: SignRequest) -> AnyBlock
+    requires { (b : AnyBlock) × (request.object ≡ Some (SignObject.Block b)) }
     ensures { request.object ≡ Some (SignObject.Block result) }
 {
     match request.object {
@@ -222,7 +229,7 @@ fn block_back(request: SignRequest) -> BeaconBlock
 /// Has the block signed and posted, where there is leave.
 fn sign<K: DeskCalls, S: Signer, N: Node + Drop>(
     work: &SlotWork,
-    block: BeaconBlock,
+    block: AnyBlock,
     leave: Got<Grant>,
     desk: &mut K,
     signer: &mut S,
@@ -251,8 +258,8 @@ fn sign<K: DeskCalls, S: Signer, N: Node + Drop>(
 }
 
 /// The block of a post, which has one.
-fn block_posted(post: Post) -> BeaconBlock
-    requires { (block : BeaconBlock) × HasBlock post block }
+fn block_posted(post: Post) -> AnyBlock
+    requires { (block : AnyBlock) × HasBlock post block }
     ensures { HasBlock post result }
 {
     match post {
@@ -262,7 +269,7 @@ fn block_posted(post: Post) -> BeaconBlock
 }
 
 /// The end of a block that was granted.
-fn left_of(block: BeaconBlock, posted: Result<DutyResult, AllocError>) -> Result<Ended, AllocError>
+fn left_of(block: AnyBlock, posted: Result<DutyResult, AllocError>) -> Result<Ended, AllocError>
     ensures { result_ok result ≡ option_map (λ by. left_by (Unsent.Block block) by) (result_ok posted) }
 {
     match posted {
@@ -273,7 +280,7 @@ fn left_of(block: BeaconBlock, posted: Result<DutyResult, AllocError>) -> Result
 
 /// Posts the block, where there is a signature, and settles its grant.
 fn post<K: DeskCalls, N: Node + Drop>(
-    block: BeaconBlock,
+    block: AnyBlock,
     signature: Got<Sig>,
     grant: Grant,
     desk: &mut K,

@@ -43,7 +43,7 @@ pub fn run_lanes<T: Threads + Sync, K: DeskCalls + Send, S: Signer + Send, N: No
     requires moment { now ≤ moment_limit }
     requires places { are_placed_tasks tasks.now ≡ true }
     ensures ready { All (IsReady K.ready) lanes.new }
-    ensures works { WorksDone K.leads (slot_work setup.now.genesis domains.now slot now) place tasks.now
+    ensures works { WorksDone K.leads (slot_work setup.now domains.now slot now) place tasks.now
         (lanes_seen S.told S.faults S.denials N.told N.faults lanes.old) (lanes_seen S.told S.faults S.denials N.told N.faults lanes.new)
         (option_map (λ ends. ends.items) (result_ok result)) }
 {
@@ -51,7 +51,7 @@ pub fn run_lanes<T: Threads + Sync, K: DeskCalls + Send, S: Signer + Send, N: No
     let work = |i: usize, lane: &mut Lane<K, S, N>|
         requires { (0 < count) × (now ≤ moment_limit) × (are_placed_tasks tasks.now ≡ true) × IsReady K.ready lane.old }
         ensures { IsReady K.ready lane.new × DidLane K.leads S.told S.faults S.denials N.told N.faults
-            (slot_work setup.entry.now.genesis domains.entry.now slot now) place tasks.entry.now count i lane.old lane.new }
+            (slot_work setup.entry.now domains.entry.now slot now) place tasks.entry.now count i lane.old lane.new }
     {
         do_lane(
             alloc, setup, domains, slot, now, place, tasks, count, i, lane,
@@ -80,7 +80,7 @@ fn do_lane<K: DeskCalls, S: Signer, N: Node + Drop>(
     requires ready { IsReady K.ready lane.old }
     ensures ready { IsReady K.ready lane.new }
     ensures did { DidLane K.leads S.told S.faults S.denials N.told N.faults
-        (slot_work setup.now.genesis domains.now slot now) place tasks.now count i lane.old lane.new }
+        (slot_work setup.now domains.now slot now) place tasks.now count i lane.old lane.new }
 {
     let Ok(mine) = dealt(alloc, tasks, place, i, count) else {
         lane.ends = None;

@@ -12,13 +12,13 @@ ghost use Rattle.client_calls.specs.Seats.{signer_seen};
 
 use crate::block::{propose, propose_block};
 use crate::vote::{cast_vote, vote_for};
+use altair_blocks::AnyBlock;
 use block_copies::block_copy;
 use desk_machine::DeskCalls;
 use duty_plans::{DutySetup, Ended, SlotWork, Task, Unsent};
 use duty_schedule::Duty;
 use node_calls::{Node, ProposerRow};
 use node_fallback::Nodes;
-use phase0_blocks::BeaconBlock;
 use sign_roots::Domains;
 use signer_link::Signer;
 use std::alloc::{AllocError, Global};
@@ -47,7 +47,7 @@ pub fn run_slot<K: DeskCalls, S: Signer, N: Node + Drop>(
     requires moment { now ≤ moment_limit }
     requires places { are_placed_tasks tasks.now ≡ true }
     ensures ready { K.ready desk.new }
-    ensures runs { Carries Fits (Does K.leads) (slot_plan (slot_work setup.now.genesis domains.now slot now) tasks.now)
+    ensures runs { Carries Fits (Does K.leads) (slot_plan (slot_work setup.now domains.now slot now) tasks.now)
         (at_seat desk.old Free (signer_seen S.told S.faults S.denials signer.old) (nodes_seen N.told N.faults nodes.old))
         (at_seat desk.new Free (signer_seen S.told S.faults S.denials signer.new) (nodes_seen N.told N.faults nodes.new))
         (option_map (λ ends. ends.items) (result_ok result)) }
@@ -55,6 +55,7 @@ pub fn run_slot<K: DeskCalls, S: Signer, N: Node + Drop>(
     let work = SlotWork {
         genesis: setup.genesis,
         domains: *domains,
+        altair: setup.altair,
         slot,
         moment: now,
     };
@@ -154,7 +155,7 @@ fn propose_again<K: DeskCalls, S: Signer, N: Node + Drop>(
     alloc: Global,
     work: &SlotWork,
     row: &ProposerRow,
-    block: &BeaconBlock,
+    block: &AnyBlock,
     desk: &mut K,
     signer: &mut S,
     nodes: &mut Nodes<N>,

@@ -20,7 +20,7 @@ use Rattle.journal_commands.specs.Openings.{EachImage, HadDeskAt, OpenedLeaves, 
 
 -- the chain of a plan, if it has one
 abbrev pub root_of : Root → Plan → Root
-root_of none (plan.Session genesis journal fork signer watch) = genesis
+root_of none (plan.Session genesis journal fork altair signer watch) = genesis
 root_of none (plan.Serve options) = options.genesis
 root_of none (plan.Proxy options) = options.genesis
 root_of none (plan.Merge genesis journal) = genesis

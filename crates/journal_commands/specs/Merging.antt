@@ -33,7 +33,7 @@ use Rattle.journal_commands.specs.declared.whole.WholeFault.TheVariants as whole
 -- the plan is a merge's
 abbrev pub IsMerge : Plan → Type 0
 IsMerge (plan.Merge genesis journal) = Unit {0}
-IsMerge (plan.Session genesis journal fork signer watch) = ⊥
+IsMerge (plan.Session genesis journal fork altair signer watch) = ⊥
 IsMerge (plan.Serve options) = ⊥
 IsMerge (plan.Proxy options) = ⊥
 IsMerge (plan.Show genesis journal) = ⊥

@@ -31,7 +31,7 @@ use Rattle.journal_commands.specs.Openings.{EachImage, HadDesk, NotOpened, Write
 -- the plan is a showing's
 abbrev pub IsShow : Plan → Type 0
 IsShow (plan.Show genesis journal) = Unit {0}
-IsShow (plan.Session genesis journal fork signer watch) = ⊥
+IsShow (plan.Session genesis journal fork altair signer watch) = ⊥
 IsShow (plan.Serve options) = ⊥
 IsShow (plan.Proxy options) = ⊥
 IsShow (plan.Merge genesis journal) = ⊥

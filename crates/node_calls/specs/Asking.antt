@@ -23,7 +23,7 @@ told_ask ask (Err (fault.Status status)) = told.Asked ask (Err (fault.Status sta
 told_ask ask (Err (fault.Unreadable body)) = told.Asked ask (Err (fault.Unreadable body)) ∷ []
 told_ask ask (Ok answer) = told.Asked ask (Ok answer) ∷ []
 
--- a post likewise
+-- similarly for a post
 abbrev pub told_post : PostCall → Result (Unit {0}) NodeFault → List NodeCall
 told_post call (Err fault.OutOfMemory) = []
 told_post call (Err fault.Fault) = told.Posted call (Err fault.Fault) ∷ []

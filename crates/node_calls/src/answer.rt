@@ -1,6 +1,6 @@
 //! What a beacon node answers.
+use altair_blocks::AnyBlock;
 use edge_kit::{Items, PubKey, Root};
-use phase0_blocks::BeaconBlock;
 use phase0_types::{AttestationData, Fork};
 
 /// A validator's index and key.
@@ -62,7 +62,7 @@ pub enum Answer {
         rows: Items<AttesterRow>,
     },
     Data(AttestationData),
-    Block(BeaconBlock),
+    Block(AnyBlock),
     Liveness(Items<LivenessRow>),
 }
 

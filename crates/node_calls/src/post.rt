@@ -2,7 +2,8 @@
 ghost use Rattle.std.specs.Prelude.{◌≡◌, ◌<◌, ◌≤◌, IfOk};
 ghost use Rattle.node_calls.specs.Aggregation.{aggregation_bits};
 
-use phase0_blocks::{Attestation, SignedBeaconBlock};
+use altair_blocks::AnyBlock;
+use phase0_blocks::{Attestation, Signed};
 use phase0_types::BoundedList;
 use std::alloc::{AllocError, Global};
 
@@ -11,8 +12,8 @@ use std::alloc::{AllocError, Global};
 pub enum Post {
     /// A vote (`submitPoolAttestations`).
     Vote(Attestation),
-    /// A block (`publishBlock`).
-    Block(SignedBeaconBlock),
+    /// A block of any version (`publishBlock`).
+    Block(Signed<AnyBlock>),
 }
 
 /// The aggregation bits of a vote by one member of a committee: one bit a member, set at this place alone

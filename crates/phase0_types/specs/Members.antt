@@ -55,6 +55,9 @@ member_name member.CommitteeBits = codes "committee_bits"
 member_name member.FeeRecipient = codes "fee_recipient"
 member_name member.GasLimit = codes "gas_limit"
 member_name member.Timestamp = codes "timestamp"
+member_name member.SyncAggregate = codes "sync_aggregate"
+member_name member.SyncCommitteeBits = codes "sync_committee_bits"
+member_name member.SyncCommitteeSignature = codes "sync_committee_signature"
 
 -- no fork, signing data, header or attestation data has it
 abbrev pub is_in_bodies : Member → Bool

@@ -57,6 +57,9 @@ pub enum Member {
     FeeRecipient,
     GasLimit,
     Timestamp,
+    SyncAggregate,
+    SyncCommitteeBits,
+    SyncCommitteeSignature,
 }
 
 impl Member {
@@ -125,6 +128,9 @@ impl Member {
             Member::FeeRecipient => "fee_recipient",
             Member::GasLimit => "gas_limit",
             Member::Timestamp => "timestamp",
+            Member::SyncAggregate => "sync_aggregate",
+            Member::SyncCommitteeBits => "sync_committee_bits",
+            Member::SyncCommitteeSignature => "sync_committee_signature",
             _ => "",
         }
     }

@@ -8,8 +8,8 @@ files_at path = (path ++ codes ".a", path ++ codes ".b")
 
 -- the files of the journal that is asked for, if one is
 abbrev pub files_of : Asked → Option (List ℕ × List ℕ)
-files_of (session genesis None fork signer watch) = None
-files_of (session genesis (Some path) fork signer watch) = Some (files_at path)
+files_of (session genesis None fork altair signer watch) = None
+files_of (session genesis (Some path) fork altair signer watch) = Some (files_at path)
 files_of (serve options) = Some (files_at options.journal)
 files_of (proxy options) = Some (files_at options.journal)
 files_of (merge genesis path) = Some (files_at path)

@@ -7,7 +7,7 @@ use Rattle.command_line.specs.declared.listen_address.ListenAddress.{ListenAddre
 
 -- the signing service that is asked for, if one is
 abbrev pub signer_of : Asked → Option Service
-signer_of (session genesis journal fork signer watch) = signer
+signer_of (session genesis journal fork altair signer watch) = signer
 signer_of (serve options) = Some options.signer
 signer_of (proxy options) = Some options.signer
 signer_of asked = None

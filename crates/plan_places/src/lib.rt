@@ -163,6 +163,7 @@ fn services_of(options: ServeOptions) -> Services
         signer,
         listen,
         token,
+        altair: _altair,
         watch,
         slots: _slots,
         connections,

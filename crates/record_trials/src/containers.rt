@@ -4,8 +4,10 @@
 //! |---|---|
 //! | `root KIND JSON` | the root of a container and the JSON that is written of it, or the fault of the JSON |
 //! | `header JSON` | as above, of a block's header |
+//! | `altair_header JSON` | as above, of the header of a block of Altair |
 //! | `bits JSON` | the bits of an attestation, or the fault of the JSON |
 use crate::{chains, merkle};
+use altair_blocks::{AltairBlock, AltairBlockBody, AnyBlock, ConsensusVersion, SyncAggregate};
 use altair_types::{ContributionAndProof, SyncAggregatorSelectionData, SyncCommitteeContribution};
 use edge_kit::hex_text;
 use phase0_blocks::{Attestation, BeaconBlock, BeaconBlockBody, SignedBeaconBlock};
@@ -41,13 +43,23 @@ fn read_of_block(alloc: Global, kind: &str, json: &Value) -> Option<String> {
     }
 }
 
+/// As above, of a block of Altair, its body, or what a sync committee said in it.
+fn read_of_altair_block(alloc: Global, kind: &str, json: &Value) -> Option<String> {
+    match kind {
+        "altair_block" => read::<AltairBlock>(alloc, json),
+        "altair_body" => read::<AltairBlockBody>(alloc, json),
+        "sync_aggregate" => read::<SyncAggregate>(alloc, json),
+        _ => read_of_block(alloc, kind, json),
+    }
+}
+
 /// As above, of what members of a sync committee sign.
 fn read_of_sync(alloc: Global, kind: &str, json: &Value) -> Option<String> {
     match kind {
         "sync_aggregator_selection_data" => read::<SyncAggregatorSelectionData>(alloc, json),
         "sync_committee_contribution" => read::<SyncCommitteeContribution>(alloc, json),
         "contribution_and_proof" => read::<ContributionAndProof>(alloc, json),
-        _ => read_of_block(alloc, kind, json),
+        _ => read_of_altair_block(alloc, kind, json),
     }
 }
 
@@ -62,11 +74,16 @@ fn root(alloc: Global, kind: &str, json: &Value) -> Option<String> {
     }
 }
 
-fn header(alloc: Global, json: &Value) -> Option<String> {
-    match BeaconBlock::read_value(alloc, json).ok()? {
+/// As above, of the header of a block of this version.
+fn header(alloc: Global, version: ConsensusVersion, json: &Value) -> Option<String> {
+    match AnyBlock::read_value(alloc, version, json).ok()? {
         Ok(block) => root_and_json(alloc, &block.header()),
         Err(fault) => fault.to_string(alloc).ok(),
     }
+}
+
+fn header_of(alloc: Global, version: ConsensusVersion, text: &str) -> Option<String> {
+    header(alloc, version, &Value::from_str(alloc, text).ok()?)
 }
 
 /// How many bits there are, and each.
@@ -92,7 +109,8 @@ pub fn outcome(alloc: Global, subject: &str, text: &str) -> Option<String> {
             let (kind, json) = text.split_once(' ')?;
             root(alloc, kind, &Value::from_str(alloc, json).ok()?)
         }
-        "header" => header(alloc, &Value::from_str(alloc, text).ok()?),
+        "header" => header_of(alloc, ConsensusVersion::Phase0, text),
+        "altair_header" => header_of(alloc, ConsensusVersion::Altair, text),
         "bits" => bits(alloc, &Value::from_str(alloc, text).ok()?),
         "chain" => chains::outcome(alloc, text),
         _ => merkle::outcome(alloc, subject, text),

@@ -70,6 +70,7 @@ fn work_of<'a, C>(
             genesis: options.genesis,
             genesis_time: start.genesis_time,
             fork: start.fork,
+            altair: options.altair,
             watch: options.watch,
             slots: options.slots,
             keep_epochs: options.keep_epochs.last(),

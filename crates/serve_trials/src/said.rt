@@ -1,5 +1,6 @@
 //! What a beacon node of a play says of its chain, which began at second 0.
 use crate::scenes::{bad, number_of};
+use altair_blocks::AnyBlock;
 use edge_kit::{Items, PubKey, Root, Sig};
 use node_calls::{Answer, Ask, AttesterRow, ProposerRow, ValidatorRow};
 use phase0_blocks::{BeaconBlock, BeaconBlockBody};
@@ -215,13 +216,13 @@ fn data(slot: u64) -> Answer {
 
 /// A block of a slot.
 fn block(alloc: Global, slot: u64) -> Answer {
-    Answer::Block(BeaconBlock {
+    Answer::Block(AnyBlock::Phase0(BeaconBlock {
         slot,
         proposer_index: 7,
         parent_root: ZERO,
         state_root: ZERO,
         body: empty_body(alloc),
-    })
+    }))
 }
 
 fn empty_body(alloc: Global) -> BeaconBlockBody {

@@ -83,10 +83,10 @@ module _ {D : Type 0} (shows : D → List ℕ → Type 0) (moment : D → ℕ) (
     is_idle : Kept → IsUntouched before now → noted ≡ [] → Idles
     is_idle kept same none = (record { stays = kept.stays; untouched = same; none = none }, kept.visible)
 
-    session_idles : (journal : Option (List ℕ)) (fork : Fork) (signer : Option Service) (watch : Bool) → RunEnds shows moment leaves faults (session root journal fork signer watch) disks_before disks_now before now noted ended → Idles
-    session_idles journal fork signer watch (inr none) = is_idle (untouched none.1.same) none.1.untouched none.1.none
-    session_idles journal fork signer watch (inl (inl not)) = is_idle (refused not.0.fault not.0.refused.writes) not.1 not.0.unnoted
-    session_idles journal fork signer watch (inl (inr had)) = unopened watch 0 had.opened had.opening
+    session_idles : (journal : Option (List ℕ)) (fork : Fork) (altair : Option ℕ) (signer : Option Service) (watch : Bool) → RunEnds shows moment leaves faults (session root journal fork altair signer watch) disks_before disks_now before now noted ended → Idles
+    session_idles journal fork altair signer watch (inr none) = is_idle (untouched none.1.same) none.1.untouched none.1.none
+    session_idles journal fork altair signer watch (inl (inl not)) = is_idle (refused not.0.fault not.0.refused.writes) not.1 not.0.unnoted
+    session_idles journal fork altair signer watch (inl (inr had)) = unopened watch 0 had.opened had.opening
 
     merge_idles : (journal : List ℕ) → RunEnds shows moment leaves faults (merge root journal) disks_before disks_now before now noted ended → Idles
     merge_idles journal (inr none) = is_idle (untouched none.1.same) none.1.untouched none.1.none
@@ -100,8 +100,8 @@ module _ {D : Type 0} (shows : D → List ℕ → Type 0) (moment : D → ℕ) (
 
 module _ {D : Type 0} (shows : D → List ℕ → Type 0) (moment : D → ℕ) (leaves : D → ℕ → List ℕ → Type 0) (faults : D → ℕ) where
   pub other_idles : OtherIdles shows moment leaves faults
-  other_idles (session root journal fork signer watch) disks_before disks_now before now noted ended ends genesis client past files other visible stop left =
-      session_idles shows moment leaves faults root genesis disks_before disks_now client past files other visible left before now noted ended journal fork signer watch ends
+  other_idles (session root journal fork altair signer watch) disks_before disks_now before now noted ended ends genesis client past files other visible stop left =
+      session_idles shows moment leaves faults root genesis disks_before disks_now client past files other visible left before now noted ended journal fork altair signer watch ends
   other_idles (merge root journal) disks_before disks_now before now noted ended ends genesis client past files other visible stop left =
       merge_idles shows moment leaves faults root genesis disks_before disks_now client past files other visible left before now noted ended journal ends
   other_idles (show root journal) disks_before disks_now before now noted ended ends genesis client past files other visible stop left =

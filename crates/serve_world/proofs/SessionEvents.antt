@@ -6,7 +6,7 @@ use Rattle.std.proofs.lemmas.Grind.{flat_map-append}
 use Rattle.std.proofs.lemmas.List.Elements.{Contains-push}
 use Rattle.edge_kit.specs.declared.bytes.PubKey.{PubKey}
 use Rattle.slash_defs.specs.declared.message.Message.{Message}
-use Rattle.sign_roots.specs.declared.domains.Domains.{Domains}
+use Rattle.session_format.specs.declared.chain.SessionChain.{SessionChain}
 use Rattle.signer_link.specs.declared.request.SignRequest.{SignRequest}
 use Rattle.signer_link.specs.declared.reply.SignReply.{SignReply}
 use Rattle.signer_link.specs.declared.reply.SignReply.TheVariants as signing
@@ -116,14 +116,14 @@ turn_piece client state t (inr p) can = by_view p.view where
 events_more : (client : ℕ) (t : Turn) (ts : List Turn) → turn_events client (t ∷ ts) ≡ steps_events client t.steps ++ turn_events client ts
 events_more client t ts = flat_map-append (step_events client) t.steps (steps_of ts)
 
-pub turns_piece : (client : ℕ) (domains : Domains) (latest : ℕ) (state : State) (ts : List Turn) → CanMake state (made ts) → AllPlanned domains latest state ts → Piece client state (turn_events client ts) (sent ts) (state_after state (made ts))
-turns_piece client domains latest state [] can planned = nothing client state
-turns_piece client domains latest state (t ∷ ts) can planned =
+pub turns_piece : (client : ℕ) (chain : SessionChain) (latest : ℕ) (state : State) (ts : List Turn) → CanMake state (made ts) → AllPlanned chain latest state ts → Piece client state (turn_events client ts) (sent ts) (state_after state (made ts))
+turns_piece client chain latest state [] can planned = nothing client state
+turns_piece client chain latest state (t ∷ ts) can planned =
     let C : List (DeskCall × DeskReply) → Type 0 = λ l. CanMake state l in
     let parts = can_split state (desk_calls t.steps) (made ts) (subst C (made_more t ts) can) in
     let next = state_after state (desk_calls t.steps) in
-    let one = turn_piece client state t (view_of domains (keys_of state.keys) t latest planned.0) parts.0 in
-    let rest = turns_piece client domains (moment_by latest t.request) next ts parts.1 planned.1 in
+    let one = turn_piece client state t (view_of chain (keys_of state.keys) t latest planned.0) parts.0 in
+    let rest = turns_piece client chain (moment_by latest t.request) next ts parts.1 planned.1 in
     let all = both client state next (state_after next (made ts)) (steps_events client t.steps) (turn_events client ts) (sent_in t.steps) (sent ts) one rest in
     let E : List Event → Type 0 = λ l. Piece client state l (sent_in t.steps ++ sent ts) (state_after next (made ts)) in
     let M : List (PubKey × Message) → Type 0 = λ l. Piece client state (turn_events client (t ∷ ts)) l (state_after next (made ts)) in
@@ -143,10 +143,10 @@ pub calls_run : {D : Type 0} (moment : D → ℕ) (leaves : D → ℕ → List �
 calls_run moment leaves faults first last made path client state stands = calls_are moment leaves faults client first last made path state stands
 
 pub session_runs : {D : Type 0} (moment : D → ℕ) (leaves : D → ℕ → List ℕ → Type 0) (faults : D → ℕ) → SessionRuns moment leaves faults
-session_runs moment leaves faults domains first last before now result ends client state stands =
+session_runs moment leaves faults chain first last before now result ends client state stands =
     let by = ends.ran.machine state stands in
     let end = state_after state (made ends.turns) in
     let tail = desk_calls ends.unanswered.steps in
     then_of client state end (turn_events client ends.turns) (calls_of client tail) (sent ends.turns) last.desk.contents
-    (turns_piece client domains 0 state ends.turns by.0 (ends.ran.planned state stands))
+    (turns_piece client chain 0 state ends.turns by.0 (ends.ran.planned state stands))
     (calls_are moment leaves faults client ends.mid.desk last.desk tail ends.unanswered.makes.desk end by.1)

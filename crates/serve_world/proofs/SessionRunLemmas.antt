@@ -1,5 +1,5 @@
 -- That a run of the program goes on from where a stop left its client.
-use Rattle.std.proofs.Common.{◌≡◌, ◌⊎◌, inl, inr, ⊎_elim, ℕ, Bool, false, List, [], ◌∷◌, ◌++◌, refl, sym, ◌∙◌, ap, subst, append_assoc, arith}
+use Rattle.std.proofs.Common.{◌≡◌, ◌⊎◌, inl, inr, ⊎_elim, ℕ, Bool, false, List, [], ◌∷◌, ◌++◌, Option, refl, sym, ◌∙◌, ap, subst, append_assoc, arith}
 use Rattle.edge_kit.specs.declared.bytes.Root.{Root}
 use Rattle.edge_kit.specs.declared.disk.Disks.{Disks}
 use Rattle.phase0_types.specs.declared.fork.Fork.{Fork}
@@ -15,14 +15,14 @@ use Rattle.check_sign.specs.Paths.{Path}
 use Rattle.check_sign.specs.Standing.{DeskStands}
 use Rattle.world_law.specs.Worlds.{Event}
 use Rattle.world_law.specs.Clients.{RunsFrom, state_over}
-use Rattle.sign_roots.specs.declared.domains.Domains.{Domains}
 use Rattle.program_end.specs.declared.status.Status.{Status}
 use Rattle.journal_commands.specs.Views.{View}
 use Rattle.journal_commands.specs.Openings.{DeskEnded, HadDesk}
 use Rattle.journal_commands.specs.Merging.{DeskMergeEnds}
 use Rattle.command_line.specs.Plans.{session, serve, proxy, merge, show, rehearse, shown, nothing}
+use Rattle.session_format.specs.declared.chain.SessionChain.{SessionChain}
 use Rattle.session_run.specs.Ends.{Ends}
-use Rattle.validator_cli.specs.Endings.{Outside, RunEnds, bench_at, wires_of}
+use Rattle.validator_cli.specs.Endings.{Outside, RunEnds, bench_at, session_chain, wires_of}
 use Rattle.serve_world.specs.Events.{calls_of, session_events, turn_events}
 use Rattle.serve_world.specs.Starting.{Show}
 use Rattle.serve_world.specs.Stopping.{StopsIn, StopsBehind}
@@ -55,22 +55,22 @@ idle {D} moment leaves genesis disks_before disks_now client past same left =
     left c (subst A at l.0, subst B at_too l.1) in
     subst S (sym same) here
 
-module _ {D : Type 0} (shows : D → List ℕ → Type 0) (moment : D → ℕ) (leaves : D → ℕ → List ℕ → Type 0) (faults : D → ℕ) (genesis : Root) (fork : Fork) (watch : Bool) (disks_before disks_now : Disks D) (before now : Outside)
+module _ {D : Type 0} (shows : D → List ℕ → Type 0) (moment : D → ℕ) (leaves : D → ℕ → List ℕ → Type 0) (faults : D → ℕ) (genesis : Root) (fork : Fork) (altair : Option ℕ) (watch : Bool) (disks_before disks_now : Disks D) (before now : Outside)
     (client : ℕ) (past : List Event) (files : Files) where
   served : (noted : List DeskEvent) (ended : Status)
-      → HadDesk shows moment leaves faults genesis watch disks_before disks_now noted (λ desk_before desk_now. Ends moment leaves faults (record { fork = fork; genesis = genesis }) (bench_at desk_before before) (bench_at desk_now now) (wires_of before.view) (wires_of now.view) ended)
+      → HadDesk shows moment leaves faults genesis watch disks_before disks_now noted (λ desk_before desk_now. Ends moment leaves faults (session_chain genesis fork altair) (bench_at desk_before before) (bench_at desk_now now) (wires_of before.view) (wires_of now.view) ended)
       → Show shows disks_before files → (stop : StopsIn genesis client (no_state genesis) past files) → LeftBy leaves genesis client past disks_before (now_of moment disks_before)
-      → Served moment leaves faults genesis fork watch before now noted ended client past files stop disks_before disks_now
+      → Served moment leaves faults genesis fork altair watch before now noted ended client past files stop disks_before disks_now
   served noted ended had visible stop left =
-      let domains : Domains = record { fork = fork; genesis = genesis } in
+      let chain : SessionChain = session_chain genesis fork altair in
       let first = bench_at had.opened before in
       let last = bench_at had.ended now in
       let front = started genesis client past files stop watch in
       let state = state_over (no_state genesis) front in
       let stands : DeskStands had.opened.contents state =
       starts_again shows moment leaves faults disks_before genesis watch 0 had.opened had.opening client (no_state genesis) past files refl visible stop in
-      let events = session_events moment leaves faults domains first last (wires_of before.view) (wires_of now.view) ended had.ends client in
-      let are = session_runs moment leaves faults domains first last (wires_of before.view) (wires_of now.view) ended had.ends client state stands in
+      let events = session_events moment leaves faults chain first last (wires_of before.view) (wires_of now.view) ended had.ends client in
+      let are = session_runs moment leaves faults chain first last (wires_of before.view) (wires_of now.view) ended had.ends client state stands in
       let runs : RunsFrom (no_state genesis) front = stop.runs 0 watch in
       let images = had.ends.images had.opening.left in
       let E : State → Type 0 = λ s. DeskStands had.ended.contents s in
@@ -97,7 +97,7 @@ module _ {D : Type 0} (shows : D → List ℕ → Type 0) (moment : D → ℕ) (
             (stays.first_stays k.0 c.0 high.0 end.0, stays.second_stays k.1 c.1 high.1 end.1);
         stops = λ over rest here both run_over run_rest path k c during l.
             let end = subst (L k c) had.desk.disks l in
-            let s = session_stops moment leaves faults domains first last (wires_of before.view) (wires_of now.view) ended had.ends over rest here both run_over run_rest client state stands had.opening.left path k c during end in
+            let s = session_stops moment leaves faults chain first last (wires_of before.view) (wires_of now.view) ended had.ends over rest here both run_over run_rest client state stands had.opening.left path k c during end in
             let G : Root → Type 0 = λ g. StopsBehind g client state (turn_events client over) events c in
             further genesis client (no_state genesis) front (turn_events client over) events c runs (subst G had.opening.opened.genesis_is s);
       }
@@ -171,7 +171,7 @@ command_goes_on shows moment leaves faults genesis (merge root journal) is = λ 
 command_goes_on shows moment leaves faults genesis (show root journal) is = λ disks_before disks_now before now noted ended ending client past files visible stop left.
     let R : Root → Type 0 = λ g. RunEnds shows moment leaves faults (show g journal) disks_before disks_now before now noted ended in
     showed shows moment leaves faults genesis journal disks_before disks_now before now noted ended client past files visible stop left (subst R is ending)
-command_goes_on shows moment leaves faults genesis (session root journal fork signer_at watch) is = absurd is
+command_goes_on shows moment leaves faults genesis (session root journal fork altair signer_at watch) is = absurd is
 command_goes_on shows moment leaves faults genesis (serve options) is = absurd is
 command_goes_on shows moment leaves faults genesis (proxy options) is = absurd is
 command_goes_on shows moment leaves faults genesis (rehearse number clients steps) is = absurd is
@@ -179,11 +179,11 @@ command_goes_on shows moment leaves faults genesis shown is = absurd is
 command_goes_on shows moment leaves faults genesis nothing is = absurd is
 
 pub run_goes_on : {D : Type 0} (shows : D → List ℕ → Type 0) (moment : D → ℕ) (leaves : D → ℕ → List ℕ → Type 0) (faults : D → ℕ) → RunGoesOn shows moment leaves faults
-run_goes_on shows moment leaves faults genesis journal fork signer_at watch disks_before disks_now before now noted ended ending client past files visible stop left =
+run_goes_on shows moment leaves faults genesis journal fork altair signer_at watch disks_before disks_now before now noted ended ending client past files visible stop left =
     ⊎_elim
     (λ served_or_not. ⊎_elim
     (λ refused. inl (record { stays = λ k low high c l. starts_keep shows moment leaves disks_before disks_now genesis refused.0.refused.moments client (no_state genesis) past left files visible stop k c low high l; untouched = refused.1; none = refused.0.unnoted }))
-    (λ had. inr (served shows moment leaves faults genesis fork watch disks_before disks_now before now client past files noted ended had visible stop left))
+    (λ had. inr (served shows moment leaves faults genesis fork altair watch disks_before disks_now before now client past files noted ended had visible stop left))
     served_or_not)
     (λ none. inl (record { stays = idle moment leaves genesis disks_before disks_now client past none.1.same left; untouched = none.1.untouched; none = none.1.none }))
     ending

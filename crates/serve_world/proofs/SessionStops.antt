@@ -222,20 +222,20 @@ turns_both client ts us = ap (steps_events client) (flat_map-append steps_in ts 
 
 pub session_stops : {D : Type 0} (moment : D → ℕ) (leaves : D → ℕ → List ℕ → Type 0) (faults : D → ℕ) → SessionStops moment leaves faults
 unfolding later
-session_stops {D} moment leaves faults domains first last before now result ends over rest here turns_are_both run_over run_rest client state stands left path k files during is_left =
+session_stops {D} moment leaves faults chain first last before now result ends over rest here turns_are_both run_over run_rest client state stands left path k files during is_left =
     let genesis = first.desk.contents.genesis in
     let mid = ends.mid in
     let latest = moment_after 0 over in
     let tail = desk_calls ends.unanswered.steps in
-    let over_path = (run_makes moment leaves faults domains 0 over first here run_over).desk in
-    let rest_path = (run_makes moment leaves faults domains latest rest here mid run_rest).desk in
+    let over_path = (run_makes moment leaves faults chain 0 over first here run_over).desk in
+    let rest_path = (run_makes moment leaves faults chain latest rest here mid run_rest).desk in
     let over_by = path_machine moment leaves faults first.desk here.desk (made over) over_path state stands in
     let at = state_after state (made over) in
     let far = led moment leaves faults client first.desk here.desk (made over) over_path left in
     let rest_by = path_machine moment leaves faults here.desk mid.desk (made rest) rest_path at over_by.1 in
     let end = state_after at (made rest) in
-    let first_piece = turns_piece client domains 0 state over over_by.0 (planned_all moment leaves faults domains 0 over first here state run_over stands) in
-    let piece = turns_piece client domains latest at rest rest_by.0 (planned_all moment leaves faults domains latest rest here mid at run_rest over_by.1) in
+    let first_piece = turns_piece client chain 0 state over over_by.0 (planned_all moment leaves faults chain 0 over first here state run_over stands) in
+    let piece = turns_piece client chain latest at rest rest_by.0 (planned_all moment leaves faults chain latest rest here mid at run_rest over_by.1) in
     let tail_are = calls_are moment leaves faults client mid.desk last.desk tail ends.unanswered.makes.desk end rest_by.1 in
     let events = turn_events client over in
     let more = turn_events client rest ++ calls_of client tail in

@@ -2,7 +2,7 @@
 use Rattle.std.specs.Prelude.{◌≡◌, ℕ, List, [], ◌∷◌, ◌++◌, flat_map, Option, Some, None}
 use Rattle.edge_kit.specs.declared.bytes.PubKey.{PubKey}
 use Rattle.slash_defs.specs.declared.message.Message.{Message}
-use Rattle.sign_roots.specs.declared.domains.Domains.{Domains}
+use Rattle.session_format.specs.declared.chain.SessionChain.{SessionChain}
 use Rattle.signer_link.specs.declared.reply.SignReply.TheVariants as signing
 use Rattle.desk_machine.specs.States.{State}
 use Rattle.desk_machine.specs.declared.open_grant.OpenGrant.{OpenGrant}
@@ -45,9 +45,9 @@ abbrev pub turn_events : ℕ → List Turn → List Event
 turn_events client turns = steps_events client (steps_of turns)
 
 -- a session: after its lines, the calls of the line that was not answered, under which nothing is sent
-abbrev pub session_events : {D : Type 0} (moment : D → ℕ) (leaves : D → ℕ → List ℕ → Type 0) (faults : D → ℕ) (domains : Domains) (first last : AtBench D) (before now : Wires) (result : Status)
-    → Ends moment leaves faults domains first last before now result → ℕ → List Event
-session_events moment leaves faults domains first last before now result ends client = turn_events client ends.turns ++ calls_of client (desk_calls ends.unanswered.steps)
+abbrev pub session_events : {D : Type 0} (moment : D → ℕ) (leaves : D → ℕ → List ℕ → Type 0) (faults : D → ℕ) (chain : SessionChain) (first last : AtBench D) (before now : Wires) (result : Status)
+    → Ends moment leaves faults chain first last before now result → ℕ → List Event
+session_events moment leaves faults chain first last before now result ends client = turn_events client ends.turns ++ calls_of client (desk_calls ends.unanswered.steps)
 
 -- these are events of the client; they may happen from the state; so much is sent; and the desk stands for the state after them
 pub record AreOf (client : ℕ) (state : State) (events : List Event) (messages : List (PubKey × Message)) (desk : Contents) : Type 0 where
@@ -58,9 +58,9 @@ pub record AreOf (client : ℕ) (state : State) (events : List Event) (messages 
 
 -- however a session ends, it is such a list, whichever state the desk stood for
 abbrev pub SessionRuns : {D : Type 0} → (D → ℕ) → (D → ℕ → List ℕ → Type 0) → (D → ℕ) → Type 0
-SessionRuns {D} moment leaves faults = (domains : Domains) (first last : AtBench D) (before now : Wires) (result : Status) (ends : Ends moment leaves faults domains first last before now result)
+SessionRuns {D} moment leaves faults = (chain : SessionChain) (first last : AtBench D) (before now : Wires) (result : Status) (ends : Ends moment leaves faults chain first last before now result)
     (client : ℕ) (state : State) → DeskStands first.desk.contents state
-    → AreOf client state (session_events moment leaves faults domains first last before now result ends client) (sent ends.turns) last.desk.contents
+    → AreOf client state (session_events moment leaves faults chain first last before now result ends client) (sent ends.turns) last.desk.contents
 
 -- and calls of the desk are, where nothing is sent
 abbrev pub CallsRun : {D : Type 0} → (D → ℕ) → (D → ℕ → List ℕ → Type 0) → (D → ℕ) → Type 0

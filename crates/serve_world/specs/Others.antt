@@ -21,7 +21,7 @@ AreOfAnother root files = (file : Place) × (kept : List ℕ) × (pair_reading r
 
 -- what is asked for opens the journal, and for its root the files are one of another chain
 abbrev pub IsForAnother : Asked → Files → Type 0
-IsForAnother (session root journal fork signer watch) files = AreOfAnother root files
+IsForAnother (session root journal fork altair signer watch) files = AreOfAnother root files
 IsForAnother (merge root journal) files = AreOfAnother root files
 IsForAnother (show root journal) files = AreOfAnother root files
 IsForAnother asked files = ⊥

@@ -23,7 +23,7 @@ use Rattle.session_run.specs.Ends.{Ends}
 use Rattle.session_run.specs.Runs.{Run}
 use Rattle.client_calls.specs.Steps.{desk_calls}
 use Rattle.session_run.specs.Turns.{Turn, made, moment_after, sent}
-use Rattle.validator_cli.specs.Endings.{IsUntouched, Outside, RunEnds, bench_at, wires_of}
+use Rattle.validator_cli.specs.Endings.{IsUntouched, Outside, RunEnds, bench_at, session_chain, wires_of}
 use Rattle.serve_world.specs.Events.{calls_of, session_events, turn_events}
 use Rattle.serve_world.specs.Starting.{Show}
 use Rattle.serve_world.specs.Stopping.{StopsIn, StopsBehind}
@@ -50,36 +50,36 @@ pub record Idle {D : Type 0} (moment : D → ℕ) (leaves : D → ℕ → List �
 -- that the start left, in which no key without a past has a state; so much is sent; and in the end the desk stands for the state after them. A crash up to the opening's end
 -- leaves what a stop before the start leaves; and one later, what a stop leaves after the start and all events of the lines that were
 -- over by then, as the disks stood after them, at moments within one of the calls that followed or after the last.
-pub record Served {D : Type 0} (moment : D → ℕ) (leaves : D → ℕ → List ℕ → Type 0) (faults : D → ℕ) (genesis : Root) (fork : Fork) (watch : Bool) (before now : Outside) (noted : List DeskEvent) (ended : Status) (client : ℕ) (past : List Event) (files : Files)
+pub record Served {D : Type 0} (moment : D → ℕ) (leaves : D → ℕ → List ℕ → Type 0) (faults : D → ℕ) (genesis : Root) (fork : Fork) (altair : Option ℕ) (watch : Bool) (before now : Outside) (noted : List DeskEvent) (ended : Status) (client : ℕ) (past : List Event) (files : Files)
     (stop : StopsIn genesis client (no_state genesis) past files) (first last : Disks D) : Type 0 where
   pub opened : Seen D
   pub closed : Seen D
   pub noted_is : noted ≡ closed.contents.events
   pub last_is : last ≡ disks_in closed
-  pub ends : Ends moment leaves faults (record { fork = fork; genesis = genesis }) (bench_at opened before) (bench_at closed now) (wires_of before.view) (wires_of now.view) ended
+  pub ends : Ends moment leaves faults (session_chain genesis fork altair) (bench_at opened before) (bench_at closed now) (wires_of before.view) (wires_of now.view) ended
   pub state : State
   pub state_is : state ≡ state_over (no_state genesis) (started genesis client past files stop watch)
   pub whole : IsWhole state
   pub events : List Event
-  pub events_are : events ≡ session_events moment leaves faults (record { fork = fork; genesis = genesis }) (bench_at opened before) (bench_at closed now) (wires_of before.view) (wires_of now.view) ended ends client
+  pub events_are : events ≡ session_events moment leaves faults (session_chain genesis fork altair) (bench_at opened before) (bench_at closed now) (wires_of before.view) (wires_of now.view) ended ends client
   pub at_client : own client events ≡ events
   pub runs : RunsFrom (no_state genesis) (started genesis client past files stop watch ++ events)
   pub sends : messages_in events ≡ sent ends.turns
   pub stands : DeskStands closed.contents (state_over (no_state genesis) (started genesis client past files stop watch ++ events))
   pub opening : (k : Moments) → NotAfter (now_of moment first) k → NotAfter k (now_of moment (disks_in opened)) → LeftBy leaves genesis client past last k
-  pub stops : (over rest : List Turn) (here : AtBench D) → ends.turns ≡ over ++ rest → Run moment leaves faults (record { fork = fork; genesis = genesis }) 0 over (bench_at opened before) here
-      → Run moment leaves faults (record { fork = fork; genesis = genesis }) (moment_after 0 over) rest here ends.mid
+  pub stops : (over rest : List Turn) (here : AtBench D) → ends.turns ≡ over ++ rest → Run moment leaves faults (session_chain genesis fork altair) 0 over (bench_at opened before) here
+      → Run moment leaves faults (session_chain genesis fork altair) (moment_after 0 over) rest here ends.mid
       → (path : Path moment leaves faults here.desk (made rest ++ desk_calls ends.unanswered.steps) closed) (k : Moments) (c : Files) → IsDuring moment leaves faults here.desk (made rest ++ desk_calls ends.unanswered.steps) closed path k → LeftAt leaves last k c
       → StopsBehind genesis client (no_state genesis) (started genesis client past files stop watch ++ turn_events client over) (started genesis client past files stop watch ++ events) c
 
 -- However a run of the program that is asked for a session ends, over disks that show what a stop of the client left, and of which a
 -- crash leaves such files: no desk was opened, or lines were served.
 abbrev pub RunGoesOn : {D : Type 0} → (D → List ℕ → Type 0) → (D → ℕ) → (D → ℕ → List ℕ → Type 0) → (D → ℕ) → Type 0
-RunGoesOn {D} shows moment leaves faults = (genesis : Root) (journal : Option (List ℕ)) (fork : Fork) (signer_at : Option Service) (watch : Bool) (disks_before disks_now : Disks D) (before now : Outside) (noted : List DeskEvent) (ended : Status)
-    → RunEnds shows moment leaves faults (session genesis journal fork signer_at watch) disks_before disks_now before now noted ended
+RunGoesOn {D} shows moment leaves faults = (genesis : Root) (journal : Option (List ℕ)) (fork : Fork) (altair : Option ℕ) (signer_at : Option Service) (watch : Bool) (disks_before disks_now : Disks D) (before now : Outside) (noted : List DeskEvent) (ended : Status)
+    → RunEnds shows moment leaves faults (session genesis journal fork altair signer_at watch) disks_before disks_now before now noted ended
     → (client : ℕ) (past : List Event) (files : Files) → Show shows disks_before files → (stop : StopsIn genesis client (no_state genesis) past files) → LeftBy leaves genesis client past disks_before (now_of moment disks_before)
     → Idle moment leaves genesis client past before now noted disks_before disks_now
-    ⊎ Served moment leaves faults genesis fork watch before now noted ended client past files stop disks_before disks_now
+    ⊎ Served moment leaves faults genesis fork altair watch before now noted ended client past files stop disks_before disks_now
 
 -- A desk was opened, its keys not watched, and these calls were made of it, under which nothing is sent: they are events of the client
 -- in the same way.

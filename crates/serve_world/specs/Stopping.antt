@@ -1,7 +1,7 @@
 -- A session that is stopped, at any moment.
 use Rattle.std.specs.Prelude.{◌≡◌, ℕ, Bool, List, [], ◌∷◌, ◌++◌, Option, Some, None}
 use Rattle.edge_kit.specs.declared.bytes.Root.{Root}
-use Rattle.sign_roots.specs.declared.domains.Domains.{Domains}
+use Rattle.session_format.specs.declared.chain.SessionChain.{SessionChain}
 use Rattle.desk_machine.specs.States.{State}
 use Rattle.desk_machine.specs.declared.call.DeskCall.{DeskCall}
 use Rattle.desk_machine.specs.declared.call.DeskReply.{DeskReply}
@@ -50,11 +50,11 @@ pub record StopsBehind (genesis : Root) (client : ℕ) (state : State) (first ev
 -- them is among what came before the stop. `here` is the bench between the turns that were over and the rest, and the moments of both
 -- disks lie within one of the calls that followed, or after the last.
 abbrev pub SessionStops : {D : Type 0} → (D → ℕ) → (D → ℕ → List ℕ → Type 0) → (D → ℕ) → Type 0
-SessionStops {D} moment leaves faults = (domains : Domains) (first last : AtBench D) (before now : Wires) (result : Status) (ends : Ends moment leaves faults domains first last before now result)
-    (over rest : List Turn) (here : AtBench D) → ends.turns ≡ over ++ rest → Run moment leaves faults domains 0 over first here → Run moment leaves faults domains (moment_after 0 over) rest here ends.mid
+SessionStops {D} moment leaves faults = (chain : SessionChain) (first last : AtBench D) (before now : Wires) (result : Status) (ends : Ends moment leaves faults chain first last before now result)
+    (over rest : List Turn) (here : AtBench D) → ends.turns ≡ over ++ rest → Run moment leaves faults chain 0 over first here → Run moment leaves faults chain (moment_after 0 over) rest here ends.mid
     → (client : ℕ) (state : State) → DeskStands first.desk.contents state → LeavesDesk moment leaves (disks_in first.desk) first.desk.contents
     → (path : Path moment leaves faults here.desk (made rest ++ desk_calls ends.unanswered.steps) last.desk) (k : Moments) (files : Files) → IsDuring moment leaves faults here.desk (made rest ++ desk_calls ends.unanswered.steps) last.desk path k → LeftAt leaves (disks_in last.desk) k files
-    → StopsBehind first.desk.contents.genesis client state (turn_events client over) (session_events moment leaves faults domains first last before now result ends client) files
+    → StopsBehind first.desk.contents.genesis client state (turn_events client over) (session_events moment leaves faults chain first last before now result ends client) files
 
 -- and so does a crash at any moment of calls of the desk
 abbrev pub CallsStop : {D : Type 0} → (D → ℕ) → (D → ℕ → List ℕ → Type 0) → (D → ℕ) → Type 0

@@ -1,3 +1,4 @@
 pub mod LineLemmas
 pub mod ObjectLemmas
+pub mod BlockLemmas
 pub mod AnswerLemmas

@@ -1,4 +1,4 @@
--- The request that a line is, under the session's domains.
+-- The request that a line is, for the session's chain.
 use Rattle.std.specs.Prelude.{ℕ, Bool, List, nat_le, if◌then◌else◌, Option, Some, None, option_map, option_and_then, is_some, ok_or, Result, Ok, Err, codes}
 use Rattle.std.specs.Str.{is_utf8, bytes_eq}
 use Rattle.edge_kit.specs.Texts.{quoted_number, hex_bytes}
@@ -15,6 +15,9 @@ use Rattle.phase0_types.specs.Values.{ValueOf}
 use Rattle.phase0_types.specs.Reading.{read_at}
 use Rattle.phase0_types.specs.Containers.{attestation_data, beacon_block_header}
 use Rattle.phase0_types.specs.declared.fault.ReadFault.{ReadFault as ShapeFault}
+use Rattle.altair_blocks.specs.AnyBlocks.{read_block}
+use Rattle.altair_blocks.specs.Versions.{version_named}
+use Rattle.altair_blocks.specs.declared.version.ConsensusVersion.{ConsensusVersion}
 use Rattle.sign_roots.specs.declared.domains.Domains.{Domains}
 use Rattle.signer_link.specs.declared.request.SignObject.TheVariants as object
 use Rattle.signer_link.specs.declared.version.BlockVersion.TheVariants as version
@@ -26,7 +29,9 @@ use Rattle.custody_format.specs.declared.import.ImportFault.{ImportFault}
 use Rattle.custody_format.specs.declared.import.ImportFault.TheVariants as fault
 use Rattle.session_format.specs.Members.{inside}
 use Rattle.session_format.specs.Steps.{◌>>=◌}
+use Rattle.session_format.specs.WholeBlocks.{read_whole}
 use Rattle.signer_link.specs.Objects.{root, header_from, details_from, block_message, vote_message}
+use Rattle.session_format.specs.declared.chain.SessionChain.{SessionChain}
 use Rattle.session_format.specs.declared.member.Member.{Member}
 use Rattle.session_format.specs.declared.member.Member.TheVariants as member
 use Rattle.session_format.specs.declared.request.Op.{Op}
@@ -102,15 +107,34 @@ abbrev pub header_block : Domains → PubKey → Result (ValueOf beacon_block_he
 header_block domains key (Ok value) = Ok (op.Propose key (block_message domains (header_from value)) (Some (object.Header version.Phase0 (header_from value))))
 header_block domains key (Err fault) = Err (inside member.Header fault)
 
--- where the header is there, the plain members are ignored
-abbrev pub block_by : Domains → PubKey → Data → Option Data → Result Op Member
-block_by domains key d None = plain_block key d
-block_by domains key d (Some header) = header_block domains key (read_at beacon_block_header None header)
+-- the version that a whole block is said to be of
+abbrev pub version_in : Data → Result ConsensusVersion Member
+version_in d = ok_or (option_and_then version_named (text_at (codes "version") d)) member.Version
 
-abbrev pub block_at : Domains → Data → Result Op Member
-block_at domains d = do
+-- a whole block of the version that goes with it
+abbrev pub versioned_block : SessionChain → PubKey → Data → Result Op Member
+versioned_block chain key d = do
+  version ← version_in d
+  block ← ok_or (get (codes "block") d) member.Block
+  read_whole chain key (read_block version block)
+
+abbrev pub whole_block : SessionChain → PubKey → Data → Result Op Member
+whole_block chain key d = if is_some (as_object d) then versioned_block chain key d else Err member.BeaconBlock
+
+-- where the whole block is there, the plain members are ignored
+abbrev pub headless_block : SessionChain → PubKey → Data → Option Data → Result Op Member
+headless_block chain key d None = plain_block key d
+headless_block chain key d (Some block) = whole_block chain key block
+
+-- where the header is there, the whole block and the plain members are ignored
+abbrev pub block_by : SessionChain → PubKey → Data → Option Data → Result Op Member
+block_by chain key d None = headless_block chain key d (get (codes "beacon_block") d)
+block_by chain key d (Some header) = header_block chain.domains key (read_at beacon_block_header None header)
+
+abbrev pub block_at : SessionChain → Data → Result Op Member
+block_at chain d = do
   key ← key_at d
-  block_by domains key d (get (codes "header") d)
+  block_by chain key d (get (codes "header") d)
 
 -- a vote of its epochs and signing root
 abbrev pub plain_vote : PubKey → Data → Result Op Member
@@ -126,14 +150,14 @@ details_vote domains key (Ok value) = Ok (op.Propose key (vote_message domains (
 details_vote domains key (Err fault) = Err (inside member.Attestation fault)
 
 -- where the attestation data is there, the plain members are ignored
-abbrev pub vote_by : Domains → PubKey → Data → Option Data → Result Op Member
-vote_by domains key d None = plain_vote key d
-vote_by domains key d (Some details) = details_vote domains key (read_at attestation_data None details)
+abbrev pub vote_by : SessionChain → PubKey → Data → Option Data → Result Op Member
+vote_by chain key d None = plain_vote key d
+vote_by chain key d (Some details) = details_vote chain.domains key (read_at attestation_data None details)
 
-abbrev pub vote_at : Domains → Data → Result Op Member
-vote_at domains d = do
+abbrev pub vote_at : SessionChain → Data → Result Op Member
+vote_at chain d = do
   key ← key_at d
-  vote_by domains key d (get (codes "attestation") d)
+  vote_by chain key d (get (codes "attestation") d)
 
 -- the keys of a list
 abbrev pub keys_in : Option Data → Result (List PubKey) Member
@@ -181,38 +205,38 @@ delete_at d = do
   Ok (op.Delete keys)
 
 -- by the text of the member `op`
-abbrev pub by_op : Domains → Option (List ℕ) → Data → Result Op Member
-by_op domains None d = Err member.Op
-by_op domains (Some name) d = if bytes_eq name (codes "merge") then merge_at d
+abbrev pub by_op : SessionChain → Option (List ℕ) → Data → Result Op Member
+by_op chain None d = Err member.Op
+by_op chain (Some name) d = if bytes_eq name (codes "merge") then merge_at d
     else if bytes_eq name (codes "activate") then activate_at d
     else if bytes_eq name (codes "import") then import_at d
     else if bytes_eq name (codes "delete") then delete_at d
     else if bytes_eq name (codes "list") then Ok op.List
-    else if bytes_eq name (codes "block") then block_at domains d
-    else if bytes_eq name (codes "vote") then vote_at domains d
+    else if bytes_eq name (codes "block") then block_at chain d
+    else if bytes_eq name (codes "vote") then vote_at chain d
     else if bytes_eq name (codes "export") then export_at d
     else if bytes_eq name (codes "prune") then prune_at d
     else if bytes_eq name (codes "live") then live_at d
     else if bytes_eq name (codes "compact") then Ok op.Compact
     else Err member.Op
 
-abbrev pub op_in : Domains → Data → Result Op Member
-op_in domains d = by_op domains (text_at (codes "op") d) d
+abbrev pub op_in : SessionChain → Data → Result Op Member
+op_in chain d = by_op chain (text_at (codes "op") d) d
 
 -- what is asked for, and then the moment
-abbrev pub members_of : Domains → Data → Result Request Member
-members_of domains d = do
-  asked ← op_in domains d
+abbrev pub members_of : SessionChain → Data → Result Request Member
+members_of chain d = do
+  asked ← op_in chain d
   epoch ← epoch_at d
   Ok (record { op = asked; epoch = epoch })
 
-abbrev pub request_in : Domains → Data → Result Request Member
-request_in domains d = if is_some (as_object d) then members_of domains d else Err member.Line
+abbrev pub request_in : SessionChain → Data → Result Request Member
+request_in chain d = if is_some (as_object d) then members_of chain d else Err member.Line
 
-abbrev pub of_data : Domains → Option Data → Result Request Member
-of_data domains None = Err member.Line
-of_data domains (Some d) = request_in domains d
+abbrev pub of_data : SessionChain → Option Data → Result Request Member
+of_data chain None = Err member.Line
+of_data chain (Some d) = request_in chain d
 
 -- the request, or the first member that is absent or has no reading
-unfoldable pub request_of : Domains → List ℕ → Result Request Member
-request_of domains line = of_data domains (data_of line)
+unfoldable pub request_of : SessionChain → List ℕ → Result Request Member
+request_of chain line = of_data chain (data_of line)

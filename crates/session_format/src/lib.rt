@@ -3,6 +3,7 @@
 
 mod answer;
 mod cause;
+mod chain;
 mod member;
 mod objects;
 mod ops;
@@ -11,9 +12,11 @@ mod refusal;
 mod request;
 mod texts;
 mod values;
+mod whole_block;
 
 pub use answer::Answer;
 pub use cause::Cause;
+pub use chain::SessionChain;
 pub use member::Member;
 pub use reading::read_request;
 pub use request::{Keys, Op, Request};

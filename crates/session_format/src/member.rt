@@ -26,13 +26,19 @@ pub enum Member {
     SigningRoot,
     /// The member `header` is no object.
     Header,
+    /// The member `beacon_block` is no object.
+    BeaconBlock,
+    /// The version of a whole block is none that is read, or another than the one of the block's slot.
+    Version,
+    /// The member `block` is absent or no object.
+    Block,
     /// The member `attestation` is no object.
     Attestation,
     /// The epoch that is told of.
     Of,
     /// The member `is_live` is neither true nor false.
     IsLive,
-    /// A member inside `header` or `attestation`.
+    /// A member inside `header`, `block` or `attestation`.
     Inside(phase0_types::Member),
     /// The moment is no number in quotes, or above 576,460,752,303,423,487.
     Epoch,
@@ -57,6 +63,9 @@ impl Member {
             Member::TargetEpoch => "target_epoch",
             Member::SigningRoot => "signing_root",
             Member::Header => "header",
+            Member::BeaconBlock => "beacon_block",
+            Member::Version => "version",
+            Member::Block => "block",
             Member::Attestation => "attestation",
             Member::Of => "of",
             Member::IsLive => "is_live",

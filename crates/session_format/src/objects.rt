@@ -1,16 +1,19 @@
 //! Blocks and votes, of their objects or of plain members.
-ghost use Rattle.std.specs.Prelude.{◌≡◌, None};
+ghost use Rattle.std.specs.Prelude.{◌≡◌, None, codes};
 ghost use Rattle.serde_json.specs.View.{view};
 ghost use Rattle.phase0_types.specs.Containers.{attestation_data, beacon_block_header};
 ghost use Rattle.phase0_types.specs.Reading.{read_at};
 ghost use Rattle.signer_link.specs.Objects.{block_message, vote_message};
-ghost use Rattle.session_format.specs.Requests.{block_at, details_vote, header_block, plain_block, plain_vote, vote_at};
+ghost use Rattle.serde_json.specs.Find.{get};
+ghost use Rattle.session_format.specs.Requests.{block_at, details_vote, header_block, headless_block, plain_block, plain_vote, vote_at};
 ghost use Rattle.session_format.specs.Steps.{Gives};
 
+use crate::chain::SessionChain;
 use crate::member::{Member, member_of};
 use crate::reading::Unread;
 use crate::request::Op;
 use crate::texts::{key_of, number_of, root_of};
+use crate::whole_block::whole_block_of;
 use edge_kit::PubKey;
 use phase0_types::{AttestationData, BeaconBlockHeader, Shaped};
 use serde_json::Value;
@@ -19,13 +22,30 @@ use signer_link::{BlockVersion, SignObject};
 use slash_defs::Message;
 use std::alloc::Global;
 
-/// To sign a block: of its header, where the member is there, else of its slot and signing root.
-pub(crate) fn block_of(alloc: Global, domains: &Domains, value: &Value) -> Result<Op, Unread>
-    ensures { Gives result (block_at domains.now (view value.now)) }
+/// To sign a block: of its header, where the member is there, else of the whole block, where that is there, else of its
+/// slot and signing root.
+pub(crate) fn block_of(alloc: Global, chain: &SessionChain, value: &Value) -> Result<Op, Unread>
+    ensures { Gives result (block_at chain.now (view value.now)) }
 {
     let key = key_of(value)?;
     match value.get("header") {
-        Some(header) => block_of_header(alloc, domains, key, header),
+        Some(header) => block_of_header(alloc, &chain.domains, key, header),
+        None => headless_block_of(alloc, chain, key, value),
+    }
+}
+
+/// A block without a header.
+fn headless_block_of(
+    alloc: Global,
+    chain: &SessionChain,
+    key: PubKey,
+    value: &Value,
+) -> Result<Op, Unread>
+    ensures { Gives result (headless_block chain.now key
+        (view value.now) (get (codes "beacon_block") (view value.now))) }
+{
+    match value.get("beacon_block") {
+        Some(block) => whole_block_of(alloc, chain, key, block),
         None => plain_block_of(key, value),
     }
 }
@@ -65,7 +85,7 @@ fn block_of_header(
 }
 
 /// The block of a header.
-fn block_message_of(domains: &Domains, header: &BeaconBlockHeader) -> Message
+pub(crate) fn block_message_of(domains: &Domains, header: &BeaconBlockHeader) -> Message
     ensures { result ≡ block_message domains.now header.now }
 {
     Message::Block {
@@ -75,12 +95,12 @@ fn block_message_of(domains: &Domains, header: &BeaconBlockHeader) -> Message
 }
 
 /// To sign a vote: of its attestation data, where the member is there, else of its epochs and signing root.
-pub(crate) fn vote_of(alloc: Global, domains: &Domains, value: &Value) -> Result<Op, Unread>
-    ensures { Gives result (vote_at domains.now (view value.now)) }
+pub(crate) fn vote_of(alloc: Global, chain: &SessionChain, value: &Value) -> Result<Op, Unread>
+    ensures { Gives result (vote_at chain.now (view value.now)) }
 {
     let key = key_of(value)?;
     match value.get("attestation") {
-        Some(details) => vote_of_details(alloc, domains, key, details),
+        Some(details) => vote_of_details(alloc, &chain.domains, key, details),
         None => plain_vote_of(key, value),
     }
 }

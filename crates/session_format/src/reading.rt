@@ -4,6 +4,7 @@ ghost use Rattle.serde_json.specs.View.{view};
 ghost use Rattle.session_format.specs.Requests.{epoch_at, op_in, request_in, request_of};
 ghost use Rattle.session_format.specs.Steps.{Gives};
 
+use crate::chain::SessionChain;
 use crate::member::Member;
 use crate::objects::{block_of, vote_of};
 use crate::ops::{activate_of, delete_of, export_of, import_of, live_of, merge_of, prune_of};
@@ -12,7 +13,6 @@ use crate::texts::text_of;
 use desk_machine::MOMENT_LIMIT;
 use edge_kit::read_quoted;
 use serde_json::Value;
-use sign_roots::Domains;
 use std::alloc::{AllocError, AllocFailed, Global};
 
 /// Why a line has no request.
@@ -57,29 +57,29 @@ impl From<Member> for Unread {
     }
 }
 
-/// The request of a line under the session's domains, or the first member, in the order `op`, then the op's
-/// own, then `epoch`, that is absent or has no reading. Where an object (`header`, `attestation`) is there,
-/// the plain members are ignored, and so are members that the op does not name. The error outside is want
-/// of memory.
+/// The request of a line for the session's chain, or the first member, in the order `op`, then the op's own, then `epoch`,
+/// that is absent or cannot be read. Where an object (`header`, `beacon_block`, `attestation`) is there, the plain members
+/// are ignored; with a `header`, so is `beacon_block`. The last of a whole block's faults is `version`, where it is not the one of its
+/// slot. Members that the op does not name are ignored. The error outside is want of memory.
 pub fn read_request(
     alloc: Global,
-    domains: &Domains,
+    chain: &SessionChain,
     line: &[u8],
 ) -> Result<Result<Request, Member>, AllocError>
-    ensures { IfOk result (λ read. read ≡ request_of domains.now line.now) }
+    ensures { IfOk result (λ read. read ≡ request_of chain.now line.now) }
 {
-    match read_line(alloc, domains, line) {
+    match read_line(alloc, chain, line) {
         Ok(request) => Ok(Ok(request)),
         Err(Unread::Member(member)) => Ok(Err(member)),
         Err(Unread::Memory) => Err(AllocError),
     }
 }
 
-fn read_line(alloc: Global, domains: &Domains, line: &[u8]) -> Result<Request, Unread>
-    ensures { Gives result (request_of domains.now line.now) }
+fn read_line(alloc: Global, chain: &SessionChain, line: &[u8]) -> Result<Request, Unread>
+    ensures { Gives result (request_of chain.now line.now) }
 {
     match Value::from_slice(alloc, line) {
-        Ok(value) => read_members(alloc, domains, &value),
+        Ok(value) => read_members(alloc, chain, &value),
         Err(error) => {
             if error.is_memory() {
                 Err(Unread::Memory)
@@ -90,19 +90,19 @@ fn read_line(alloc: Global, domains: &Domains, line: &[u8]) -> Result<Request, U
     }
 }
 
-fn read_members(alloc: Global, domains: &Domains, value: &Value) -> Result<Request, Unread>
-    ensures { Gives result (request_in domains.now (view value.now)) }
+fn read_members(alloc: Global, chain: &SessionChain, value: &Value) -> Result<Request, Unread>
+    ensures { Gives result (request_in chain.now (view value.now)) }
 {
     if !value.is_object() {
         return Err(Unread::Member(Member::Line));
     }
-    let op = op_of(alloc, domains, value)?;
+    let op = op_of(alloc, chain, value)?;
     let epoch = epoch_of(value)?;
     Ok(Request { op, epoch })
 }
 
-fn op_of(alloc: Global, domains: &Domains, value: &Value) -> Result<Op, Unread>
-    ensures { Gives result (op_in domains.now (view value.now)) }
+fn op_of(alloc: Global, chain: &SessionChain, value: &Value) -> Result<Op, Unread>
+    ensures { Gives result (op_in chain.now (view value.now)) }
 {
     let Some(op) = text_of(value, "op") else {
         return Err(Unread::Member(Member::Op));
@@ -113,8 +113,8 @@ fn op_of(alloc: Global, domains: &Domains, value: &Value) -> Result<Op, Unread>
         "import" => import_of(alloc, value),
         "delete" => delete_of(alloc, value),
         "list" => Ok(Op::List),
-        "block" => block_of(alloc, domains, value),
-        "vote" => vote_of(alloc, domains, value),
+        "block" => block_of(alloc, chain, value),
+        "vote" => vote_of(alloc, chain, value),
         "export" => export_of(alloc, value),
         "prune" => prune_of(value),
         "live" => live_of(value),

@@ -6,7 +6,7 @@ use Rattle.edge_kit.specs.declared.bytes.PubKey.{PubKey}
 use Rattle.slash_defs.specs.declared.message.Message.{Message}
 use Rattle.protect_record.specs.Pasts.{Past}
 use Rattle.protect_record.specs.Passing.{Passes}
-use Rattle.sign_roots.specs.declared.domains.Domains.{Domains}
+use Rattle.session_format.specs.declared.chain.SessionChain.{SessionChain}
 use Rattle.signer_link.specs.declared.request.SignRequest.{SignRequest}
 use Rattle.record_join.specs.Keys.{kept_of}
 use Rattle.record_join.specs.BooksPasts.{IsRefusal}
@@ -85,28 +85,28 @@ complete_proposal state request key m now steps a (inl plain) can past is passes
     proposes state key m now plain.reply a past (subst C plain.steps_are can).0 plain.ends is passes allowed
 complete_proposal state request key m now steps a (inr g) can past is passes allowed = g.carried
 
-complete_op : (state : State) (domains : Domains) (kept : List PubKey) (now : ℕ) (o : Op) (steps : List ClientStep) (a : Answer) → Follows Fits (op_plan domains kept now o) steps (Some a) → CanMake state (desk_calls steps) → CompleteOp state o a
-complete_op state domains kept now (op.Propose key m object) steps a f can = complete_proposal state (sign_request domains object) key m now steps a (proposal_of (sign_request domains object) key m now a steps f) can
-complete_op state domains kept now (op.Merge file) steps a f can = tt
-complete_op state domains kept now (op.BadFile fault) steps a f can = tt
-complete_op state domains kept now (op.Activate key) steps a f can = tt
-complete_op state domains kept now (op.Export keys) steps a f can = tt
-complete_op state domains kept now (op.Prune key) steps a f can = tt
-complete_op state domains kept now (op.Live key epoch live) steps a f can = tt
-complete_op state domains kept now (op.Import file keystores) steps a f can = tt
-complete_op state domains kept now (op.Delete keys) steps a f can = tt
-complete_op state domains kept now op.List steps a f can = tt
-complete_op state domains kept now op.Compact steps a f can = tt
+complete_op : (state : State) (chain : SessionChain) (kept : List PubKey) (now : ℕ) (o : Op) (steps : List ClientStep) (a : Answer) → Follows Fits (op_plan chain kept now o) steps (Some a) → CanMake state (desk_calls steps) → CompleteOp state o a
+complete_op state chain kept now (op.Propose key m object) steps a f can = complete_proposal state (sign_request chain object) key m now steps a (proposal_of (sign_request chain object) key m now a steps f) can
+complete_op state chain kept now (op.Merge file) steps a f can = tt
+complete_op state chain kept now (op.BadFile fault) steps a f can = tt
+complete_op state chain kept now (op.Activate key) steps a f can = tt
+complete_op state chain kept now (op.Export keys) steps a f can = tt
+complete_op state chain kept now (op.Prune key) steps a f can = tt
+complete_op state chain kept now (op.Live key epoch live) steps a f can = tt
+complete_op state chain kept now (op.Import file keystores) steps a f can = tt
+complete_op state chain kept now (op.Delete keys) steps a f can = tt
+complete_op state chain kept now op.List steps a f can = tt
+complete_op state chain kept now op.Compact steps a f can = tt
 
-complete_turn : (state : State) (domains : Domains) (kept : List PubKey) (latest : ℕ) (q : Result Request Member) (steps : List ClientStep) (a : Answer) → Follows Fits (line_plan domains kept latest q) steps (Some a) → CanMake state (desk_calls steps) → IsComplete state q a
-complete_turn state domains kept latest (Err m) steps a f can = tt
-complete_turn state domains kept latest (Ok q) steps a f can = complete_op state domains kept (moment_at latest q) q.op steps a f can
+complete_turn : (state : State) (chain : SessionChain) (kept : List PubKey) (latest : ℕ) (q : Result Request Member) (steps : List ClientStep) (a : Answer) → Follows Fits (line_plan chain kept latest q) steps (Some a) → CanMake state (desk_calls steps) → IsComplete state q a
+complete_turn state chain kept latest (Err m) steps a f can = tt
+complete_turn state chain kept latest (Ok q) steps a f can = complete_op state chain kept (moment_at latest q) q.op steps a f can
 
-pub complete_run : (domains : Domains) (latest : ℕ) (state : State) (ts : List Turn) → CanMake state (made ts) → AllPlanned domains latest state ts → AllComplete state ts
-complete_run domains latest state [] can planned = tt
-complete_run domains latest state (t ∷ ts) can planned =
+pub complete_run : (chain : SessionChain) (latest : ℕ) (state : State) (ts : List Turn) → CanMake state (made ts) → AllPlanned chain latest state ts → AllComplete state ts
+complete_run chain latest state [] can planned = tt
+complete_run chain latest state (t ∷ ts) can planned =
     let C : List (DeskCall × DeskReply) → Type 0 = λ l. CanMake state l in
     let parts = can_split state (calls_of t) (made ts) (subst C (made_more t ts) can) in (
-      complete_turn state domains (keys_of state.keys) latest t.request t.steps t.answer planned.0 parts.0,
-      complete_run domains (moment_by latest t.request) (state_after state (calls_of t)) ts parts.1 planned.1,
+      complete_turn state chain (keys_of state.keys) latest t.request t.steps t.answer planned.0 parts.0,
+      complete_run chain (moment_by latest t.request) (state_after state (calls_of t)) ts parts.1 planned.1,
     )

@@ -2,7 +2,7 @@
 use Rattle.std.proofs.Common.{◌≡◌, ℕ, List, [], ◌∷◌, Some, Result, refl, sym, ◌∙◌, ap, subst}
 use Rattle.edge_kit.specs.declared.bytes.PubKey.{PubKey}
 use Rattle.slash_defs.specs.declared.book.File.{File}
-use Rattle.sign_roots.specs.declared.domains.Domains.{Domains}
+use Rattle.session_format.specs.declared.chain.SessionChain.{SessionChain}
 use Rattle.desk_machine.specs.States.{State}
 use Rattle.desk_machine.specs.Machine.{after}
 use Rattle.desk_machine.specs.declared.call.DeskCall.{DeskCall}
@@ -45,10 +45,10 @@ machine_run a [] can = refl
 machine_run a (x ∷ xs) can = (after a x.0 x.1, (can.0, refl), machine_run (after a x.0 x.1) xs can.1)
 
 -- the steps of a line are those of the plan of what it asks for
-asked_steps : (domains : Domains) (kept : List PubKey) (latest : ℕ) (t : Turn) (asked : Op) → (asks : AsksFor t asked) → IsPlanned domains kept latest t → Follows Fits (op_plan domains kept (moment_at latest asks.0) asked) t.steps (Some t.answer)
-asked_steps domains kept latest t asked asks planned =
-    let L : Result Request Member → Type 0 = λ q. Follows Fits (line_plan domains kept latest q) t.steps (Some t.answer) in
-    let O : Op → Type 0 = λ o. Follows Fits (op_plan domains kept (moment_at latest asks.0) o) t.steps (Some t.answer) in
+asked_steps : (chain : SessionChain) (kept : List PubKey) (latest : ℕ) (t : Turn) (asked : Op) → (asks : AsksFor t asked) → IsPlanned chain kept latest t → Follows Fits (op_plan chain kept (moment_at latest asks.0) asked) t.steps (Some t.answer)
+asked_steps chain kept latest t asked asks planned =
+    let L : Result Request Member → Type 0 = λ q. Follows Fits (line_plan chain kept latest q) t.steps (Some t.answer) in
+    let O : Op → Type 0 = λ o. Follows Fits (op_plan chain kept (moment_at latest asks.0) o) t.steps (Some t.answer) in
     subst O asks.2 (subst L asks.1 planned)
 
 -- ---- deletions
@@ -62,8 +62,8 @@ file_in (answer.Deleted statuses file) none = file
 file_in a none = none
 
 pub deletes_once : DeletesOnce
-deletes_once domains later kept kept_then latest latest_then keys first second a c between statuses file asks planned answered fine whole up can way never asks_then planned_then can_then =
-    let one = given_of Fits (deletion_plan keys) (λ d. answer.Deleted d.statuses d.file) first.steps first.answer (asked_steps domains kept latest first (op.Delete keys) asks planned) in
+deletes_once chain later kept kept_then latest latest_then keys first second a c between statuses file asks planned answered fine whole up can way never asks_then planned_then can_then =
+    let one = given_of Fits (deletion_plan keys) (λ d. answer.Deleted d.statuses d.file) first.steps first.answer (asked_steps chain kept latest first (op.Delete keys) asks planned) in
     let two = given_of Fits (deletion_plan keys) (λ d. answer.Deleted d.statuses d.file) second.steps second.answer (asked_steps later kept_then latest_then second (op.Delete keys) asks_then planned_then) in
     let same : answer.Deleted one.0.statuses one.0.file ≡ answer.Deleted statuses file = sym one.2 ∙ answered in
     let same_statuses : one.0.statuses ≡ statuses = ap (λ (x : Answer). statuses_in x []) same in
@@ -99,10 +99,10 @@ treated_is (ending.Treated s) statuses h = ap ending.Treated (ap (λ (x : Answer
 treated_is (ending.MergeRefused d) statuses h = absurd (no_refusal d statuses h)
 
 pub imports_once : ImportsOnce
-imports_once domains later kept kept_then latest latest_then file keystores first second a c between statuses once asks planned answered fine whole up can way never asks_then planned_then can_then =
+imports_once chain later kept kept_then latest latest_then file keystores first second a c between statuses once asks planned answered fine whole up can way never asks_then planned_then can_then =
     let now = moment_at latest asks.0 in
     let then = moment_at latest_then asks_then.0 in
-    let one = given_of Fits (import_plan file now keystores) import_answer first.steps first.answer (asked_steps domains kept latest first (op.Import file keystores) asks planned) in
+    let one = given_of Fits (import_plan file now keystores) import_answer first.steps first.answer (asked_steps chain kept latest first (op.Import file keystores) asks planned) in
     let two = given_of Fits (import_plan file then keystores) import_answer second.steps second.answer (asked_steps later kept_then latest_then second (op.Import file keystores) asks_then planned_then) in
     let treated = treated_is one.0 statuses (sym one.2 ∙ answered) in
     let F : ImportEnd → Type 0 = λ e. Follows Fits (import_plan file now keystores) first.steps (Some e) in

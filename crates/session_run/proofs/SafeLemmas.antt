@@ -12,7 +12,7 @@ use Rattle.slash_defs.specs.Lists.{SafeList, IsUnsafe}
 use Rattle.protect_record.specs.Pasts.{Past}
 use Rattle.protect_record.specs.Passing.{Passes, Covers}
 use Rattle.protect_record.specs.PastLaws.{Slashable-sym}
-use Rattle.sign_roots.specs.declared.domains.Domains.{Domains}
+use Rattle.session_format.specs.declared.chain.SessionChain.{SessionChain}
 use Rattle.signer_link.specs.declared.request.SignRequest.{SignRequest}
 use Rattle.signer_link.specs.declared.reply.SignReply.{SignReply}
 use Rattle.signer_link.specs.declared.reply.SignReply.TheVariants as signing
@@ -196,20 +196,20 @@ sent_more t ts = flat_map-append step_sent t.steps (steps_of ts)
 cover_all : (state : State) (xs : List (DeskCall × DeskReply)) (list : Before) → AllCover state list → AllCover (state_after state xs) list
 cover_all state xs list h i d lt = let x = get_or list i d in covers_calls state xs x.0 x.1 (h i d lt)
 
-safe_turns : (domains : Domains) (latest : ℕ) (state : State) (ts : List Turn) (before : Before) → CanMake state (made ts) → AllPlanned domains latest state ts → SafeList before → All (CoveredOnceActive state (made ts)) before
+safe_turns : (chain : SessionChain) (latest : ℕ) (state : State) (ts : List Turn) (before : Before) → CanMake state (made ts) → AllPlanned chain latest state ts → SafeList before → All (CoveredOnceActive state (made ts)) before
     → Outcomes (state_after state (made ts)) before (sent ts)
-safe_turns domains latest state [] before can planned safe covered = nothing_more state before [] refl safe
-safe_turns domains latest state (t ∷ ts) before can planned safe covered =
+safe_turns chain latest state [] before can planned safe covered = nothing_more state before [] refl safe
+safe_turns chain latest state (t ∷ ts) before can planned safe covered =
     let C : List (DeskCall × DeskReply) → Type 0 = λ l. CanMake state l in
     let R : List (DeskCall × DeskReply) → Type 0 = λ l. All (CoveredOnceActive state l) before in
     let parts = can_split state (calls_of t) (made ts) (subst C (made_more t ts) can) in
     let now : All (CoveredOnceActive state (calls_of t ++ made ts)) before = subst R (made_more t ts) covered in
     let next = state_after state (calls_of t) in
-    let one = turn_safe state t (made ts) before (view_of domains (keys_of state.keys) t latest planned.0) parts.0 safe now in
+    let one = turn_safe state t (made ts) before (view_of chain (keys_of state.keys) t latest planned.0) parts.0 safe now in
     let after_one : All (CoveredOnceActive next (made ts)) (before ++ sent_in t.steps) =
     All-append (CoveredOnceActive next (made ts)) before (sent_in t.steps) (λ i d lt. covered_calls state (calls_of t) (made ts) (get_or before i d) (now i d lt))
     (λ i d lt. covered_always next (made ts) (get_or (sent_in t.steps) i d) (one.1 i d lt)) in
-    let rest = safe_turns domains (moment_by latest t.request) next ts (before ++ sent_in t.steps) parts.1 planned.1 one.0 after_one in
+    let rest = safe_turns chain (moment_by latest t.request) next ts (before ++ sent_in t.steps) parts.1 planned.1 one.0 after_one in
     let end : state_after state (made (t ∷ ts)) ≡ state_after next (made ts) = ap (state_after state) (made_more t ts) ∙ after_on state (calls_of t) (made ts) in
     let S : State → Type 0 = λ s. Outcomes s before (sent (t ∷ ts)) in
     let M : Before → Type 0 = λ l. Outcomes (state_after next (made ts)) before l in
@@ -220,9 +220,9 @@ safe_turns domains latest state (t ∷ ts) before can planned safe covered =
     ))
 
 -- whatever the turns, nothing slashable is sent
-pub safe_run : (domains : Domains) (latest : ℕ) (state : State) (ts : List Turn) → CanMake state (made ts) → AllPlanned domains latest state ts → StaysSafe state (steps_of ts)
-safe_run domains latest state ts can planned before safe covered =
-    let all = safe_turns domains latest state ts before can planned safe covered in (
+pub safe_run : (chain : SessionChain) (latest : ℕ) (state : State) (ts : List Turn) → CanMake state (made ts) → AllPlanned chain latest state ts → StaysSafe state (steps_of ts)
+safe_run chain latest state ts can planned before safe covered =
+    let all = safe_turns chain latest state ts before can planned safe covered in (
       all.0,
       All-append (CoveredInTheEnd state (made ts)) before (sent ts) (λ i d lt. covered_end state (made ts) (get_or before i d) (covered i d lt)) (λ i d lt was. all.1 i d lt),
     )

@@ -5,7 +5,7 @@ use Rattle.std.specs.BTreeMap.{is_at}
 use Rattle.std.specs.Map.{keys_of}
 use Rattle.edge_kit.specs.declared.bytes.PubKey.{PubKey}
 use Rattle.slash_defs.specs.declared.message.Message.{Message}
-use Rattle.sign_roots.specs.declared.domains.Domains.{Domains}
+use Rattle.session_format.specs.declared.chain.SessionChain.{SessionChain}
 use Rattle.signer_link.specs.declared.request.SignRequest.{SignRequest}
 use Rattle.signer_link.specs.declared.reply.SignReply.{SignReply}
 use Rattle.signer_link.specs.declared.reply.SignReply.TheVariants as signing
@@ -217,13 +217,13 @@ silent_turn state key t rest (inr p) can off then = by_view p.view where
       subst T (sym g.steps_are) (inr (tt, inr (sent_key key g.grant p.request g.signing other, inr (tt, then (subst E (sym g.steps_are) still)))))
 
 -- a key that is not active now sends nothing before it is
-pub silent_turns : (domains : Domains) (latest : ℕ) (state : State) (key : PubKey) (ts : List Turn) → CanMake state (made ts) → AllPlanned domains latest state ts → Is false state key → SilentUntilActive key (steps_of ts)
-silent_turns domains latest state key [] can planned off = tt
-silent_turns domains latest state key (t ∷ ts) can planned off =
+pub silent_turns : (chain : SessionChain) (latest : ℕ) (state : State) (key : PubKey) (ts : List Turn) → CanMake state (made ts) → AllPlanned chain latest state ts → Is false state key → SilentUntilActive key (steps_of ts)
+silent_turns chain latest state key [] can planned off = tt
+silent_turns chain latest state key (t ∷ ts) can planned off =
     let C : List (DeskCall × DeskReply) → Type 0 = λ l. CanMake state l in
     let parts = can_split state (calls_of t) (made ts) (subst C (made_more t ts) can) in
-    silent_turn state key t (steps_of ts) (view_of domains (keys_of state.keys) t latest planned.0) parts.0 off
-    (λ end. silent_turns domains (moment_by latest t.request) (state_after state (calls_of t)) key ts parts.1 planned.1 end)
+    silent_turn state key t (steps_of ts) (view_of chain (keys_of state.keys) t latest planned.0) parts.0 off
+    (λ end. silent_turns chain (moment_by latest t.request) (state_after state (calls_of t)) key ts parts.1 planned.1 end)
 
 -- ---- after each close
 
@@ -261,12 +261,12 @@ within_turn state t rest (inr p) can then all = by_view p.view where
       let T : List ClientStep → Type 0 = λ l. StaysSilent (l ++ rest) in
       subst T (sym g.steps_are) (λ key h. absurd (none key (reply.Granted g.grant) h), (λ key h. absurd h, (λ key h. absurd (unsettled key g.grant g.signing h), all)))
 
-pub silent_run : (domains : Domains) (latest : ℕ) (state : State) (ts : List Turn) → CanMake state (made ts) → AllPlanned domains latest state ts → StaysSilent (steps_of ts)
-silent_run domains latest state [] can planned = tt
-silent_run domains latest state (t ∷ ts) can planned =
+pub silent_run : (chain : SessionChain) (latest : ℕ) (state : State) (ts : List Turn) → CanMake state (made ts) → AllPlanned chain latest state ts → StaysSilent (steps_of ts)
+silent_run chain latest state [] can planned = tt
+silent_run chain latest state (t ∷ ts) can planned =
     let C : List (DeskCall × DeskReply) → Type 0 = λ l. CanMake state l in
     let parts = can_split state (calls_of t) (made ts) (subst C (made_more t ts) can) in
     let next = state_after state (calls_of t) in
-    within_turn state t (steps_of ts) (view_of domains (keys_of state.keys) t latest planned.0) parts.0
-    (λ key off. silent_turns domains (moment_by latest t.request) next key ts parts.1 planned.1 off)
-    (silent_run domains (moment_by latest t.request) next ts parts.1 planned.1)
+    within_turn state t (steps_of ts) (view_of chain (keys_of state.keys) t latest planned.0) parts.0
+    (λ key off. silent_turns chain (moment_by latest t.request) next key ts parts.1 planned.1 off)
+    (silent_run chain (moment_by latest t.request) next ts parts.1 planned.1)

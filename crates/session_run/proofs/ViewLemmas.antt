@@ -3,7 +3,7 @@
 use Rattle.std.proofs.Common.{◌≡◌, ◌⊎◌, inl, inr, ℕ, List, [], ◌∷◌, Option, Some, None, Result, Ok, Err, refl, sym, ◌∙◌, ap, subst}
 use Rattle.edge_kit.specs.declared.bytes.PubKey.{PubKey}
 use Rattle.slash_defs.specs.declared.message.Message.{Message}
-use Rattle.sign_roots.specs.declared.domains.Domains.{Domains}
+use Rattle.session_format.specs.declared.chain.SessionChain.{SessionChain}
 use Rattle.signer_link.specs.declared.request.SignRequest.{SignRequest}
 use Rattle.signer_link.specs.declared.reply.SignReply.{SignReply}
 use Rattle.signer_link.specs.declared.reply.SignReply.TheVariants as signing
@@ -185,17 +185,17 @@ pub record Proposal (t : Turn) : Type 0 where
 abbrev pub TurnView : Turn → Type 0
 TurnView t = AllQuiet t.steps ⊎ Proposal t
 
-module _ (domains : Domains) (kept : List PubKey) (t : Turn) where
-  pub op_view : (now : ℕ) (o : Op) → Follows Fits (op_plan domains kept now o) t.steps (Some t.answer) → TurnView t
+module _ (chain : SessionChain) (kept : List PubKey) (t : Turn) where
+  pub op_view : (now : ℕ) (o : Op) → Follows Fits (op_plan chain kept now o) t.steps (Some t.answer) → TurnView t
   op_view now (op.Propose key m object) f = inr (record {
-    request = sign_request domains object;
+    request = sign_request chain object;
     key = key;
     message = m;
     now = now;
-    view = proposal_of (sign_request domains object) key m now t.answer t.steps f;
+    view = proposal_of (sign_request chain object) key m now t.answer t.steps f;
   })
   op_view now (op.Merge file) f = inl (steps_asked Fits IsQuiet (calls (call.Merge file)) t.steps (Some t.answer) (quiet_calls (call.Merge file) tt) f)
-  op_view now (op.BadFile fault) f = inl (steps_asked Fits IsQuiet (op_plan domains kept now (op.BadFile fault)) t.steps (Some t.answer) tt f)
+  op_view now (op.BadFile fault) f = inl (steps_asked Fits IsQuiet (op_plan chain kept now (op.BadFile fault)) t.steps (Some t.answer) tt f)
   op_view now (op.Activate key) f = inl (steps_asked Fits IsQuiet (calls (call.Activate key now)) t.steps (Some t.answer) (quiet_calls (call.Activate key now) tt) f)
   op_view now (op.Export None) f = inl (steps_asked Fits IsQuiet (calls (call.Export kept)) t.steps (Some t.answer) (quiet_calls (call.Export kept) tt) f)
   op_view now (op.Export (Some keys)) f = inl (steps_asked Fits IsQuiet (calls (call.Export keys)) t.steps (Some t.answer) (quiet_calls (call.Export keys) tt) f)
@@ -203,14 +203,14 @@ module _ (domains : Domains) (kept : List PubKey) (t : Turn) where
   op_view now (op.Live key epoch live) f = inl (steps_asked Fits IsQuiet (calls (call.Answer key epoch live now)) t.steps (Some t.answer) (quiet_calls (call.Answer key epoch live now) tt) f)
   op_view now op.Compact f = inl (steps_asked Fits IsQuiet (calls call.Compact) t.steps (Some t.answer) (quiet_calls call.Compact tt) f)
   op_view now (op.Import file keystores) f =
-      inl (steps_asked Fits IsQuiet (op_plan domains kept now (op.Import file keystores)) t.steps (Some t.answer) (asked_bind IsQuiet (import_plan file now keystores) (λ end. Done (import_answer end)) (quiet_import file now keystores) (λ end. tt)) f)
+      inl (steps_asked Fits IsQuiet (op_plan chain kept now (op.Import file keystores)) t.steps (Some t.answer) (asked_bind IsQuiet (import_plan file now keystores) (λ end. Done (import_answer end)) (quiet_import file now keystores) (λ end. tt)) f)
   op_view now (op.Delete keys) f =
-      inl (steps_asked Fits IsQuiet (op_plan domains kept now (op.Delete keys)) t.steps (Some t.answer) (asked_bind IsQuiet (deletion_plan keys) (λ d. Done (answer.Deleted d.statuses d.file)) (quiet_deletion keys) (λ d. tt)) f)
+      inl (steps_asked Fits IsQuiet (op_plan chain kept now (op.Delete keys)) t.steps (Some t.answer) (asked_bind IsQuiet (deletion_plan keys) (λ d. Done (answer.Deleted d.statuses d.file)) (quiet_deletion keys) (λ d. tt)) f)
   op_view now op.List f =
-      inl (steps_asked Fits IsQuiet (op_plan domains kept now op.List) t.steps (Some t.answer) (asked_bind IsQuiet list_plan (λ keys. Done (answer.Listed keys)) quiet_list (λ keys. tt)) f)
+      inl (steps_asked Fits IsQuiet (op_plan chain kept now op.List) t.steps (Some t.answer) (asked_bind IsQuiet list_plan (λ keys. Done (answer.Listed keys)) quiet_list (λ keys. tt)) f)
 
-  pub view_of : (latest : ℕ) → IsPlanned domains kept latest t → TurnView t
+  pub view_of : (latest : ℕ) → IsPlanned chain kept latest t → TurnView t
   view_of latest f = by_request t.request f where
-    by_request : (q : Result Request Member) → Follows Fits (line_plan domains kept latest q) t.steps (Some t.answer) → TurnView t
-    by_request (Err m) g = inl (steps_asked Fits IsQuiet (line_plan domains kept latest (Err m)) t.steps (Some t.answer) tt g)
+    by_request : (q : Result Request Member) → Follows Fits (line_plan chain kept latest q) t.steps (Some t.answer) → TurnView t
+    by_request (Err m) g = inl (steps_asked Fits IsQuiet (line_plan chain kept latest (Err m)) t.steps (Some t.answer) tt g)
     by_request (Ok q) g = op_view (moment_at latest q) q.op g

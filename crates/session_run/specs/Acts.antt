@@ -4,7 +4,7 @@ use Rattle.std.specs.Map.{keys_of}
 use Rattle.record_journal.specs.TwoDisks.{FaultsLater, EitherRose}
 use Rattle.record_join.specs.BooksPasts.{EachOnce}
 use Rattle.slash_defs.specs.declared.message.Message.{Message}
-use Rattle.sign_roots.specs.declared.domains.Domains.{Domains}
+use Rattle.session_format.specs.declared.chain.SessionChain.{SessionChain}
 use Rattle.signer_link.specs.declared.request.SignRequest.{SignRequest}
 use Rattle.signer_link.specs.declared.reply.SignReply.{SignReply}
 use Rattle.check_sign.specs.Contents.{Seen, disks_in}
@@ -43,8 +43,8 @@ abbrev pub MakesAt : {D : Type 0} → (D → ℕ) → (D → ℕ → List ℕ �
 MakesAt {D} moment leaves faults before steps now = Makes (λ (d : Seen D) xs e. Path moment leaves faults d xs e) before steps now
 
 -- what a line asks was done, and is answered
-pub record Turned {D : Type 0} (moment : D → ℕ) (leaves : D → ℕ → List ℕ → Type 0) (faults : D → ℕ) (domains : Domains) (latest : ℕ) (t : Turn) (before now : AtBench D) : Type 0 where
-  pub planned : IsPlanned domains (keys_of before.desk.contents.keys) latest t
+pub record Turned {D : Type 0} (moment : D → ℕ) (leaves : D → ℕ → List ℕ → Type 0) (faults : D → ℕ) (chain : SessionChain) (latest : ℕ) (t : Turn) (before now : AtBench D) : Type 0 where
+  pub planned : IsPlanned chain (keys_of before.desk.contents.keys) latest t
   pub makes : MakesAt moment leaves faults before t.steps now
 
 -- a grant is dropped
@@ -64,8 +64,8 @@ pub record Broken {D : Type 0} (moment : D → ℕ) (leaves : D → ℕ → List
   pub breaks_off : BreaksOff plan steps
   pub makes : MakesAt moment leaves faults before steps now
 
-abbrev pub Unanswered : {D : Type 0} → (D → ℕ) → (D → ℕ → List ℕ → Type 0) → (D → ℕ) → Domains → ℕ → Result Request Member → AtBench D → AtBench D → Type 0
-Unanswered moment leaves faults domains latest q before now = Broken moment leaves faults (line_plan domains (keys_of before.desk.contents.keys) latest q) before now
+abbrev pub Unanswered : {D : Type 0} → (D → ℕ) → (D → ℕ → List ℕ → Type 0) → (D → ℕ) → SessionChain → ℕ → Result Request Member → AtBench D → AtBench D → Type 0
+Unanswered moment leaves faults chain latest q before now = Broken moment leaves faults (line_plan chain (keys_of before.desk.contents.keys) latest q) before now
 
 -- a plan was carried out at a bench, and this is the text of its answer
 pub record Answered {D : Type 0} (moment : D → ℕ) (leaves : D → ℕ → List ℕ → Type 0) (faults : D → ℕ) (plan : ClientPlan Answer) (before now : AtBench D) (text : List ℕ) : Type 0 where

@@ -2,7 +2,7 @@
 use Rattle.std.specs.Prelude.{◌≡◌, ℕ, ◌<◌, ◌⊎◌, List, [], ◌∷◌, ◌++◌, length, take, Option, None, IsSome}
 use Rattle.std.specs.Io.KnownBytes.{Appends}
 use Rattle.edge_kit.specs.Causes.{Rose}
-use Rattle.sign_roots.specs.declared.domains.Domains.{Domains}
+use Rattle.session_format.specs.declared.chain.SessionChain.{SessionChain}
 use Rattle.record_journal.specs.TwoDisks.{EitherRose}
 use Rattle.check_sign.specs.Contents.{disks_in}
 use Rattle.check_sign.specs.Calls.{LeavesDesk}
@@ -107,13 +107,13 @@ all_made turns steps = made turns ++ desk_calls steps
 -- How a session ends, over the bench and the wires before it and now. Some lines were served, a turn each, and after them one may
 -- have been begun and not answered, where memory ran out. What the status says, the images of the disks at each moment, and the
 -- laws are of these turns.
-pub record Ends {D : Type 0} (moment : D → ℕ) (leaves : D → ℕ → List ℕ → Type 0) (faults : D → ℕ) (domains : Domains) (bench_before bench_now : AtBench D) (before now : Wires) (result : Status) : Type 0 where
+pub record Ends {D : Type 0} (moment : D → ℕ) (leaves : D → ℕ → List ℕ → Type 0) (faults : D → ℕ) (chain : SessionChain) (bench_before bench_now : AtBench D) (before now : Wires) (result : Status) : Type 0 where
   pub turns : List Turn
   pub mid : AtBench D
   pub line : List ℕ
-  pub run : Run moment leaves faults domains 0 turns bench_before mid
-  pub unanswered : Unanswered moment leaves faults domains (moment_after 0 turns) (request_of domains line) mid bench_now
+  pub run : Run moment leaves faults chain 0 turns bench_before mid
+  pub unanswered : Unanswered moment leaves faults chain (moment_after 0 turns) (request_of chain line) mid bench_now
   pub ends : EndsBy faults turns line unanswered.steps bench_before mid bench_now before now result
-  pub ran : Ran faults domains 0 turns bench_before mid
+  pub ran : Ran faults chain 0 turns bench_before mid
   pub laws : Laws 0 turns bench_before
   pub images : LeavesDesk moment leaves (disks_in bench_before.desk) bench_before.desk.contents → Images moment leaves faults bench_before.desk bench_now.desk (all_made turns unanswered.steps)

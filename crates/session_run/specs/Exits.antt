@@ -1,7 +1,7 @@
 -- How the serving of one line ends, and how its fault is told.
 use Rattle.std.specs.Prelude.{◌≡◌, ℕ, ◌≤◌, List, Option, None, IsSome, Result, Ok, Err}
 use Rattle.std.specs.Io.KnownBytes.{Appends, Keeps}
-use Rattle.sign_roots.specs.declared.domains.Domains.{Domains}
+use Rattle.session_format.specs.declared.chain.SessionChain.{SessionChain}
 use Rattle.desk_machine.specs.Machine.{moment_limit}
 use Rattle.session_format.specs.Requests.{request_of}
 use Rattle.program_end.specs.Endings.{Closes, WritesFront, IsUnwritten}
@@ -17,22 +17,22 @@ use Rattle.session_run.specs.Plans.{moment_by}
 use Rattle.session_run.specs.Turns.{Turn, text_of}
 
 -- a turn of this line
-pub record IsTurn {D : Type 0} (moment : D → ℕ) (leaves : D → ℕ → List ℕ → Type 0) (faults : D → ℕ) (domains : Domains) (latest : ℕ) (line : List ℕ) (before now : AtBench D) (t : Turn) : Type 0 where
+pub record IsTurn {D : Type 0} (moment : D → ℕ) (leaves : D → ℕ → List ℕ → Type 0) (faults : D → ℕ) (chain : SessionChain) (latest : ℕ) (line : List ℕ) (before now : AtBench D) (t : Turn) : Type 0 where
   pub is_line : t.line ≡ line
-  pub request : t.request ≡ request_of domains t.line
-  pub turned : Turned moment leaves faults domains latest t before now
+  pub request : t.request ≡ request_of chain t.line
+  pub turned : Turned moment leaves faults chain latest t before now
 
 -- A line was served and answered, and this is the latest moment; or it was answered, and the disk failed; or a front of its answer
 -- was written; or memory ran out, and nothing was.
-abbrev pub ServesLine : {D : Type 0} → (D → ℕ) → (D → ℕ → List ℕ → Type 0) → (D → ℕ) → Domains → ℕ → List ℕ → AtBench D → AtBench D → Option (List ℕ) → Option (List ℕ) → ℕ → ℕ → Result ℕ Unserved → Type 0
-ServesLine moment leaves faults domains latest line before now held_before held_now failed_before failed_now (Ok next) =
-    (t : Turn) × IsTurn moment leaves faults domains latest line before now t × Appends held_before held_now (text_of t) × (next ≡ moment_by latest t.request) × (next ≤ moment_limit) × (now.desk.contents.torn ≡ None)
-ServesLine moment leaves faults domains latest line before now held_before held_now failed_before failed_now (Err unserved.Disk) =
-    (t : Turn) × IsTurn moment leaves faults domains latest line before now t × Appends held_before held_now (text_of t) × IsSome now.desk.contents.torn
-ServesLine moment leaves faults domains latest line before now held_before held_now failed_before failed_now (Err unserved.Write) =
-    (t : Turn) × IsTurn moment leaves faults domains latest line before now t × WritesFront (text_of t) held_before held_now failed_before failed_now
-ServesLine moment leaves faults domains latest line before now held_before held_now failed_before failed_now (Err unserved.Memory) =
-    Keeps held_before held_now × Unanswered moment leaves faults domains latest (request_of domains line) before now
+abbrev pub ServesLine : {D : Type 0} → (D → ℕ) → (D → ℕ → List ℕ → Type 0) → (D → ℕ) → SessionChain → ℕ → List ℕ → AtBench D → AtBench D → Option (List ℕ) → Option (List ℕ) → ℕ → ℕ → Result ℕ Unserved → Type 0
+ServesLine moment leaves faults chain latest line before now held_before held_now failed_before failed_now (Ok next) =
+    (t : Turn) × IsTurn moment leaves faults chain latest line before now t × Appends held_before held_now (text_of t) × (next ≡ moment_by latest t.request) × (next ≤ moment_limit) × (now.desk.contents.torn ≡ None)
+ServesLine moment leaves faults chain latest line before now held_before held_now failed_before failed_now (Err unserved.Disk) =
+    (t : Turn) × IsTurn moment leaves faults chain latest line before now t × Appends held_before held_now (text_of t) × IsSome now.desk.contents.torn
+ServesLine moment leaves faults chain latest line before now held_before held_now failed_before failed_now (Err unserved.Write) =
+    (t : Turn) × IsTurn moment leaves faults chain latest line before now t × WritesFront (text_of t) held_before held_now failed_before failed_now
+ServesLine moment leaves faults chain latest line before now held_before held_now failed_before failed_now (Err unserved.Memory) =
+    Keeps held_before held_now × Unanswered moment leaves faults chain latest (request_of chain line) before now
 
 -- how an output is closed after a line that was not served
 abbrev pub UnservedCloses : Unserved → Option (List ℕ) → Option (List ℕ) → ℕ → ℕ → Status → Type 0

@@ -3,7 +3,7 @@ use Rattle.std.specs.Prelude.{ℕ, max, List, Option, Some, None, unwrap_or, Res
 use Rattle.edge_kit.specs.declared.bytes.PubKey.{PubKey}
 use Rattle.slash_defs.specs.declared.message.Message.{Message}
 use Rattle.slash_defs.specs.Signing.{signing_root_of}
-use Rattle.sign_roots.specs.declared.domains.Domains.{Domains}
+use Rattle.session_format.specs.declared.chain.SessionChain.{SessionChain}
 use Rattle.signer_link.specs.declared.request.SignObject.{SignObject}
 use Rattle.signer_link.specs.declared.request.SignRequest.{SignRequest}
 use Rattle.signer_link.specs.declared.reply.SignReply.{SignReply}
@@ -142,23 +142,23 @@ import_answer (ending.MergeRefused d) = refusal_answer d
 -- ---- a line
 
 -- what goes to the signer beside the key and the message
-abbrev pub sign_request : Domains → Option SignObject → SignRequest
-sign_request domains object = record { fork = domains.fork; genesis = domains.genesis; object = object }
+abbrev pub sign_request : SessionChain → Option SignObject → SignRequest
+sign_request chain object = record { fork = chain.domains.fork; genesis = chain.domains.genesis; object = object }
 
 -- what is asked, at this moment, where these keys are kept; nothing where a text is no file
-abbrev pub op_plan : Domains → List PubKey → ℕ → Op → ClientPlan Answer
-op_plan domains kept now (op.Merge file) = calls (call.Merge file)
-op_plan domains kept now (op.BadFile fault) = Done (answer.BadFile fault)
-op_plan domains kept now (op.Activate key) = calls (call.Activate key now)
-op_plan domains kept now (op.Propose key m object) = proposes (sign_request domains object) (call.Propose key m now)
-op_plan domains kept now (op.Export None) = calls (call.Export kept)
-op_plan domains kept now (op.Export (Some keys)) = calls (call.Export keys)
-op_plan domains kept now (op.Prune key) = calls (call.Prune key)
-op_plan domains kept now (op.Live key epoch live) = calls (call.Answer key epoch live now)
-op_plan domains kept now (op.Import file keystores) = bind (import_plan file now keystores) (λ end. Done (import_answer end))
-op_plan domains kept now (op.Delete keys) = bind (deletion_plan keys) (λ d. Done (answer.Deleted d.statuses d.file))
-op_plan domains kept now op.Compact = calls call.Compact
-op_plan domains kept now op.List = bind list_plan (λ keys. Done (answer.Listed keys))
+abbrev pub op_plan : SessionChain → List PubKey → ℕ → Op → ClientPlan Answer
+op_plan chain kept now (op.Merge file) = calls (call.Merge file)
+op_plan chain kept now (op.BadFile fault) = Done (answer.BadFile fault)
+op_plan chain kept now (op.Activate key) = calls (call.Activate key now)
+op_plan chain kept now (op.Propose key m object) = proposes (sign_request chain object) (call.Propose key m now)
+op_plan chain kept now (op.Export None) = calls (call.Export kept)
+op_plan chain kept now (op.Export (Some keys)) = calls (call.Export keys)
+op_plan chain kept now (op.Prune key) = calls (call.Prune key)
+op_plan chain kept now (op.Live key epoch live) = calls (call.Answer key epoch live now)
+op_plan chain kept now (op.Import file keystores) = bind (import_plan file now keystores) (λ end. Done (import_answer end))
+op_plan chain kept now (op.Delete keys) = bind (deletion_plan keys) (λ d. Done (answer.Deleted d.statuses d.file))
+op_plan chain kept now op.Compact = calls call.Compact
+op_plan chain kept now op.List = bind list_plan (λ keys. Done (answer.Listed keys))
 
 -- the moment of a request: the greatest that was named, by an earlier line or this one
 abbrev pub moment_at : ℕ → Request → ℕ
@@ -169,6 +169,6 @@ moment_by moment (Err m) = moment
 moment_by moment (Ok q) = moment_at moment q
 
 -- a bad request asks nothing
-abbrev pub line_plan : Domains → List PubKey → ℕ → Result Request Member → ClientPlan Answer
-line_plan domains kept latest (Err m) = Done (answer.BadRequest m)
-line_plan domains kept latest (Ok q) = op_plan domains kept (moment_at latest q) q.op
+abbrev pub line_plan : SessionChain → List PubKey → ℕ → Result Request Member → ClientPlan Answer
+line_plan chain kept latest (Err m) = Done (answer.BadRequest m)
+line_plan chain kept latest (Ok q) = op_plan chain kept (moment_at latest q) q.op

@@ -2,7 +2,7 @@
 use Rattle.std.specs.Prelude.{◌≡◌, ℕ, List, [], Contains, Option, IfSome, Ok}
 use Rattle.edge_kit.specs.declared.bytes.PubKey.{PubKey}
 use Rattle.slash_defs.specs.declared.book.File.{File}
-use Rattle.sign_roots.specs.declared.domains.Domains.{Domains}
+use Rattle.session_format.specs.declared.chain.SessionChain.{SessionChain}
 use Rattle.record_join.specs.BooksPasts.{EachOnce}
 use Rattle.desk_machine.specs.States.{State}
 use Rattle.desk_machine.specs.Machine.{IsUp}
@@ -26,8 +26,8 @@ AsksFor t asked = (q : Request) × (t.request ≡ Ok q) × (q.op ≡ asked)
 -- none of its keys pruned. `a` is the state of the desk before the first, and `c` before the second; between them are calls, and stops of
 -- the program.
 abbrev pub DeletesOnce : Type 0
-DeletesOnce = (domains later : Domains) (kept kept_then : List PubKey) (latest latest_then : ℕ) (keys : List PubKey) (first second : Turn) (a c : State) (between : List Change) (statuses : List KeyStatus) (file : File)
-    → AsksFor first (op.Delete keys) → IsPlanned domains kept latest first → first.answer ≡ answer.Deleted statuses file → AreFine statuses
+DeletesOnce = (chain later : SessionChain) (kept kept_then : List PubKey) (latest latest_then : ℕ) (keys : List PubKey) (first second : Turn) (a c : State) (between : List Change) (statuses : List KeyStatus) (file : File)
+    → AsksFor first (op.Delete keys) → IsPlanned chain kept latest first → first.answer ≡ answer.Deleted statuses file → AreFine statuses
     → IsWhole a → IsUp a → CanMake a (calls_of first)
     → Path Changes (state_after a (calls_of first)) between c → ((key : PubKey) → Contains keys key → Never (Activates key) between)
     → AsksFor second (op.Delete keys) → IsPlanned later kept_then latest_then second → CanMake c (calls_of second)
@@ -37,9 +37,9 @@ DeletesOnce = (domains later : Domains) (kept kept_then : List PubKey) (latest l
 -- An import that was answered without error and comes again, where no deletion of a key of it was begun between, leaves every record,
 -- state and watch as it found them, and asks the signer nothing, also where it is refused then.
 abbrev pub ImportsOnce : Type 0
-ImportsOnce = (domains later : Domains) (kept kept_then : List PubKey) (latest latest_then : ℕ) (file : Option File) (keystores : List (List ℕ × List ℕ)) (first second : Turn) (a c : State) (between : List Change) (statuses : List KeyStatus)
+ImportsOnce = (chain later : SessionChain) (kept kept_then : List PubKey) (latest latest_then : ℕ) (file : Option File) (keystores : List (List ℕ × List ℕ)) (first second : Turn) (a c : State) (between : List Change) (statuses : List KeyStatus)
     → IfSome file (λ f. EachOnce f.books)
-    → AsksFor first (op.Import file keystores) → IsPlanned domains kept latest first → first.answer ≡ answer.Imported statuses → AreFine statuses
+    → AsksFor first (op.Import file keystores) → IsPlanned chain kept latest first → first.answer ≡ answer.Imported statuses → AreFine statuses
     → IsWhole a → IsUp a → CanMake a (calls_of first)
     → Path Changes (state_after a (calls_of first)) between c → ((key : PubKey) → IsKeyOf keystores key → Never (BeginsDeletion key) between)
     → AsksFor second (op.Import file keystores) → IsPlanned later kept_then latest_then second → CanMake c (calls_of second)

@@ -3,7 +3,7 @@ use Rattle.std.specs.Prelude.{◌≡◌, ℕ, List, [], ◌∷◌, flat_map, map
 use Rattle.std.specs.Map.{keys_of}
 use Rattle.edge_kit.specs.declared.bytes.PubKey.{PubKey}
 use Rattle.slash_defs.specs.declared.message.Message.{Message}
-use Rattle.sign_roots.specs.declared.domains.Domains.{Domains}
+use Rattle.session_format.specs.declared.chain.SessionChain.{SessionChain}
 use Rattle.signer_link.specs.declared.reply.Told.{Told}
 use Rattle.desk_machine.specs.States.{State}
 use Rattle.desk_machine.specs.declared.call.DeskCall.{DeskCall}
@@ -26,21 +26,21 @@ pub record Turn : Type 0 where
   pub answer : Answer
 
 -- each turn's request is its line's
-abbrev pub AskAsWritten : Domains → List Turn → Type 0
-AskAsWritten domains ts = map (λ t. t.request) ts ≡ map (λ t. request_of domains t.line) ts
+abbrev pub AskAsWritten : SessionChain → List Turn → Type 0
+AskAsWritten chain ts = map (λ t. t.request) ts ≡ map (λ t. request_of chain t.line) ts
 
 -- The steps are the plan's of what the line asks, and this is its answer: with these keys kept, where the latest moment that a
 -- line named was this.
-abbrev pub IsPlanned : Domains → List PubKey → ℕ → Turn → Type 0
-IsPlanned domains kept latest t = Follows Fits (line_plan domains kept latest t.request) t.steps (Some t.answer)
+abbrev pub IsPlanned : SessionChain → List PubKey → ℕ → Turn → Type 0
+IsPlanned chain kept latest t = Follows Fits (line_plan chain kept latest t.request) t.steps (Some t.answer)
 
 abbrev pub calls_of : Turn → List (DeskCall × DeskReply)
 calls_of t = desk_calls t.steps
 
 -- each turn did what its line asks, one after another, from this state of the desk on
-abbrev pub AllPlanned : Domains → ℕ → State → List Turn → Type 0
-AllPlanned domains latest state [] = Unit {0}
-AllPlanned domains latest state (t ∷ ts) = IsPlanned domains (keys_of state.keys) latest t × AllPlanned domains (moment_by latest t.request) (state_after state (calls_of t)) ts
+abbrev pub AllPlanned : SessionChain → ℕ → State → List Turn → Type 0
+AllPlanned chain latest state [] = Unit {0}
+AllPlanned chain latest state (t ∷ ts) = IsPlanned chain (keys_of state.keys) latest t × AllPlanned chain (moment_by latest t.request) (state_after state (calls_of t)) ts
 
 -- the greatest moment that was named
 abbrev pub moment_after : ℕ → List Turn → ℕ

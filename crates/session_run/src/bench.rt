@@ -13,8 +13,7 @@ use custody_format::Keystores;
 use desk_machine::{DeskCall, DeskReply, Grant, Outcome};
 use edge_kit::{Disk, PubKey};
 use key_custody::{Deletion, ImportEnd, delete_keys, import_keys, list_keys};
-use session_format::{Answer, Cause, Member, Op, Request};
-use sign_roots::Domains;
+use session_format::{Answer, Cause, Member, Op, Request, SessionChain};
 use signer_link::{SignObject, SignReply, SignRequest, Signer};
 use slash_defs::{File, Granted, Message};
 use std::alloc::{AllocError, Global};
@@ -68,17 +67,17 @@ impl<D: Disk, S: Signer> Bench<D, S> {
     pub(crate) fn answer(
         &mut self,
         alloc: Global,
-        domains: &Domains,
+        chain: &SessionChain,
         latest: u64,
         read: Result<Request, Member>,
     ) -> Result<(String, u64), AllocError>
         requires latest { latest ≤ moment_limit }
         requires epoch { IfOk read (λ q. unwrap_or q.epoch 0 ≤ moment_limit) }
         requires once { IfOk read (λ q. ListsOnce q.op) }
-        ensures done { IfOk result (λ x. Answered D.moment D.leaves D.faults (line_plan domains.now (keys_of self.old.desk.contents.keys) latest read) self.old self.new (string_bytes x.0)) }
+        ensures done { IfOk result (λ x. Answered D.moment D.leaves D.faults (line_plan chain.now (keys_of self.old.desk.contents.keys) latest read) self.old self.new (string_bytes x.0)) }
         ensures latest { IfOk result (λ x. x.1 ≡ moment_by latest read) }
         ensures limit { IfOk result (λ x. x.1 ≤ moment_limit) }
-        ensures undone { OnErr result (Unanswered D.moment D.leaves D.faults domains.now latest read self.old self.new) }
+        ensures undone { OnErr result (Unanswered D.moment D.leaves D.faults chain.now latest read self.old self.new) }
     {
         match read {
             Err(member) => {
@@ -87,7 +86,7 @@ impl<D: Disk, S: Signer> Bench<D, S> {
             }
             Ok(request) => {
                 let now = latest.max(request.epoch.unwrap_or(0));
-                let text = self.act(alloc, domains, request.op, now)?;
+                let text = self.act(alloc, chain, request.op, now)?;
                 Ok((text, now))
             }
         }
@@ -97,13 +96,13 @@ impl<D: Disk, S: Signer> Bench<D, S> {
     fn act(
         &mut self,
         alloc: Global,
-        domains: &Domains,
+        chain: &SessionChain,
         op: Op,
         now: u64,
     ) -> Result<String, AllocError>
         requires moment { now ≤ moment_limit }
         requires once { ListsOnce op }
-        ensures ends { PlanEnds D.moment D.leaves D.faults (λ s. string_bytes s) (op_plan domains.now (keys_of self.old.desk.contents.keys) now op) self.old self.new result }
+        ensures ends { PlanEnds D.moment D.leaves D.faults (λ s. string_bytes s) (op_plan chain.now (keys_of self.old.desk.contents.keys) now op) self.old self.new result }
     {
         match op {
             Op::Merge { file } => self.ask(alloc, DeskCall::Merge { file }),
@@ -113,7 +112,7 @@ impl<D: Disk, S: Signer> Bench<D, S> {
                 key,
                 message,
                 object,
-            } => self.propose(alloc, domains, object, key, message, now),
+            } => self.propose(alloc, chain, object, key, message, now),
             Op::Export { keys: Some(keys) } => self.ask(alloc, DeskCall::Export { keys }),
             Op::Export { keys: None } => {
                 let keys = self.desk.kept_keys()?;
@@ -191,18 +190,18 @@ impl<D: Disk, S: Signer> Bench<D, S> {
     fn propose(
         &mut self,
         alloc: Global,
-        domains: &Domains,
+        chain: &SessionChain,
         object: Option<SignObject>,
         key: PubKey,
         message: Message,
         now: u64,
     ) -> Result<String, AllocError>
         requires moment { now ≤ moment_limit }
-        ensures ends { PlanEnds D.moment D.leaves D.faults (λ s. string_bytes s) (proposes (sign_request domains.now object) (DeskCall.Propose key message now)) self.old self.new result }
+        ensures ends { PlanEnds D.moment D.leaves D.faults (λ s. string_bytes s) (proposes (sign_request chain.now object) (DeskCall.Propose key message now)) self.old self.new result }
     {
         let request = SignRequest {
-            fork: domains.fork,
-            genesis: domains.genesis,
+            fork: chain.domains.fork,
+            genesis: chain.domains.genesis,
             object,
         };
         match self.desk.call(DeskCall::Propose { key, message, now }) {

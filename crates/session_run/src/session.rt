@@ -11,8 +11,7 @@ use crate::lines::Lines;
 use crate::next::{LineFault, Next};
 use edge_kit::{Disk, Failed, Sink, Source};
 use program_end::{ClosingLine, Limit, Status, close, write_all};
-use session_format::read_request;
-use sign_roots::Domains;
+use session_format::{SessionChain, read_request};
 use signer_link::Signer;
 use std::alloc::Global;
 
@@ -35,13 +34,13 @@ pub(crate) enum Unserved {
 /// failed; and `OutOfMemory` where memory was wanted: what a line asks may be done then and not answered.
 pub fn serve_lines<D: Disk, S: Signer, I: Source, O: Sink>(
     alloc: Global,
-    domains: &Domains,
+    chain: &SessionChain,
     bench: &mut Bench<D, S>,
     input: &mut I,
     out: &mut O,
 ) -> Status
     requires up { bench.old.desk.contents.torn ≡ None }
-    ensures ends { Ends D.moment D.leaves D.faults domains.now bench.old bench.new
+    ensures ends { Ends D.moment D.leaves D.faults chain.now bench.old bench.new
         (record { left = I.left input.old; held = O.held out.old; reads_failed = I.faults input.old; writes_failed = O.faults out.old })
         (record { left = I.left input.new; held = O.held out.new; reads_failed = I.faults input.new; writes_failed = O.faults out.new })
         result }
@@ -54,7 +53,7 @@ pub fn serve_lines<D: Disk, S: Signer, I: Source, O: Sink>(
     'lines: for _ in 0..u64::MAX {
         match lines.next(alloc, input) {
             Ok(Next::Line(line)) => {
-                match serve_line(alloc, domains, bench, out, latest, line.as_slice()) {
+                match serve_line(alloc, chain, bench, out, latest, line.as_slice()) {
                     Ok(now) => latest = now,
                     Err(fault) => return close_unserved(alloc, out, fault),
                 }
@@ -63,7 +62,7 @@ pub fn serve_lines<D: Disk, S: Signer, I: Source, O: Sink>(
                 if line.is_empty() {
                     return Status::Done;
                 }
-                match serve_line(alloc, domains, bench, out, latest, line.as_slice()) {
+                match serve_line(alloc, chain, bench, out, latest, line.as_slice()) {
                     Ok(_) => return Status::Done,
                     Err(fault) => return close_unserved(alloc, out, fault),
                 }
@@ -99,20 +98,20 @@ fn close_unread<O: Sink>(alloc: Global, out: &mut O, fault: LineFault) -> Status
 /// Serves one line and writes its answer in one piece. Gives the latest moment.
 fn serve_line<D: Disk, S: Signer, O: Sink>(
     alloc: Global,
-    domains: &Domains,
+    chain: &SessionChain,
     bench: &mut Bench<D, S>,
     out: &mut O,
     latest: u64,
     line: &[u8],
 ) -> Result<u64, Unserved>
     requires latest { latest ≤ moment_limit }
-    ensures serves { ServesLine D.moment D.leaves D.faults domains.now latest line.now bench.old bench.new (O.held out.old) (O.held out.new) (O.faults out.old) (O.faults out.new) result }
+    ensures serves { ServesLine D.moment D.leaves D.faults chain.now latest line.now bench.old bench.new (O.held out.old) (O.held out.new) (O.faults out.old) (O.faults out.new) result }
     ensures later { O.faults out.old ≤ O.faults out.new }
 {
-    let Ok(read) = read_request(alloc, domains, line) else {
+    let Ok(read) = read_request(alloc, chain, line) else {
         return Err(Unserved::Memory);
     };
-    let Ok((text, now)) = bench.answer(alloc, domains, latest, read) else {
+    let Ok((text, now)) = bench.answer(alloc, chain, latest, read) else {
         return Err(Unserved::Memory);
     };
     match write_all(out, text.as_bytes()) {

@@ -2,6 +2,8 @@
 -- `aggregate_and_proof`).
 use Rattle.std.specs.Prelude.{ℕ, List, Bool, true, false, Option, Some, None, unwrap_or, codes, if◌then◌else◌}
 use Rattle.std.specs.Str.{bytes_eq}
+use Rattle.altair_blocks.specs.declared.version.ConsensusVersion.{ConsensusVersion}
+use Rattle.altair_blocks.specs.declared.version.ConsensusVersion.TheVariants as consensus
 use Rattle.signer_link.specs.declared.version.BlockVersion.{BlockVersion}
 use Rattle.signer_link.specs.declared.version.BlockVersion.TheVariants as version
 
@@ -27,6 +29,11 @@ version_named name = if bytes_eq name (codes "PHASE0") then Some version.Phase0
 -- a name that is none of these counts as the newest one
 abbrev pub version_of : List ℕ → BlockVersion
 version_of name = unwrap_or (version_named name) version.Fulu
+
+-- of a whole block
+abbrev pub block_version : ConsensusVersion → BlockVersion
+block_version consensus.Phase0 = version.Phase0
+block_version consensus.Altair = version.Altair
 
 -- an aggregate has the container of Electra
 abbrev pub is_from_electra : BlockVersion → Bool

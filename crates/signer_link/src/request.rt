@@ -5,11 +5,12 @@ ghost use Rattle.signer_link.specs.Plain.{is_aggregate, plain_epoch, plain_kind,
 
 use crate::aggregate::Aggregate;
 use crate::version::BlockVersion;
+use altair_blocks::AnyBlock;
 use altair_types::{ContributionAndProof, SyncAggregatorSelectionData};
 use block_copies::block_copy;
 use duty_types::ValidatorRegistration;
 use edge_kit::{Items, PubKey, Root};
-use phase0_blocks::{BeaconBlock, VoluntaryExit};
+use phase0_blocks::VoluntaryExit;
 use phase0_types::{AttestationData, BeaconBlockHeader, Fork, Shaped};
 use sign_roots::{DomainKind, Domains, signing_root};
 use slash_defs::Message;
@@ -27,8 +28,8 @@ pub enum SignObject {
         version: BlockVersion,
         header: BeaconBlockHeader,
     },
-    /// A whole block.
-    Block(BeaconBlock),
+    /// A whole block, of any version.
+    Block(AnyBlock),
     /// The data of a vote.
     Attestation(AttestationData),
 }

@@ -1,6 +1,8 @@
 //! The versions of a block.
 ghost use Rattle.std.specs.Prelude.{◌≡◌};
-ghost use Rattle.signer_link.specs.Versions.{is_from_electra, version_name, version_named, version_of};
+ghost use Rattle.signer_link.specs.Versions.{block_version, is_from_electra, version_name, version_named, version_of};
+
+use altair_blocks::ConsensusVersion;
 
 /// The fork whose container a block or an aggregate is, as far as this program knows them (Web3Signer: `version` of a
 /// `beacon_block` and of an `aggregate_and_proof`). A header has the same form and the same root in each of them.
@@ -52,6 +54,16 @@ impl BlockVersion {
         ensures { result ≡ version_of name.now }
     {
         BlockVersion::named(name).unwrap_or(BlockVersion::Fulu)
+    }
+
+    /// The version of a whole block.
+    pub fn of_block(version: ConsensusVersion) -> BlockVersion
+        ensures { result ≡ block_version version }
+    {
+        match version {
+            ConsensusVersion::Phase0 => BlockVersion::Phase0,
+            ConsensusVersion::Altair => BlockVersion::Altair,
+        }
     }
 
     /// Whether an aggregate has the container of Electra: from Electra on.

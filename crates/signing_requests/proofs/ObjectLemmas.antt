@@ -1,12 +1,18 @@
 -- Objects by their values, and the roots that are signed for them.
 use Rattle.std.proofs.Common.{◌≡◌, ◌/◌, ℕ, List, Result, Ok, Err, refl, sym, ap}
-use Rattle.phase0_types.specs.Containers.{fork, attestation, attestation_data, voluntary_exit}
+use Rattle.phase0_types.specs.Containers.{fork, attestation, attestation_data, beacon_block, voluntary_exit}
 use Rattle.phase0_types.specs.Attestations.{attestation_data_value}
 use Rattle.phase0_types.specs.Forks.{fork_value}
 use Rattle.phase0_types.specs.declared.fault.ReadFault.{ReadFault as ShapeFault}
 use Rattle.phase0_types.specs.declared.fork.Fork.{Fork}
+use Rattle.phase0_blocks.specs.Blocks.{beacon_block_value}
 use Rattle.phase0_blocks.specs.Operations.{voluntary_exit_value}
 use Rattle.phase0_blocks.specs.declared.operation.VoluntaryExit.{VoluntaryExit}
+use Rattle.altair_blocks.specs.Containers.{altair_block}
+use Rattle.altair_blocks.specs.Blocks.{altair_block_value}
+use Rattle.altair_blocks.specs.AnyBlocks.{block_value, slot_of}
+use Rattle.altair_blocks.specs.declared.any_block.AnyBlock.{AnyBlock}
+use Rattle.altair_blocks.specs.declared.any_block.AnyBlock.TheVariants as any
 use Rattle.altair_types.specs.Containers.{sync_aggregator_selection_data, sync_committee_contribution, contribution_and_proof}
 use Rattle.altair_types.specs.SyncCommittees.{sync_aggregator_selection_data_value, sync_committee_contribution_value, contribution_and_proof_value}
 use Rattle.altair_types.specs.declared.sync_committee.SyncAggregatorSelectionData.{SyncAggregatorSelectionData}
@@ -26,7 +32,7 @@ use Rattle.signer_link.specs.declared.aggregate.Aggregate.TheVariants as aggrega
 use Rattle.signer_link.specs.declared.request.PlainObject.{PlainObject}
 use Rattle.signer_link.specs.declared.request.PlainObject.TheVariants as plain
 use Rattle.signing_requests.specs.Members.{inside}
-use Rattle.signing_requests.specs.Objects.{aggregate_slot, choice_slot, contribution_slot, electra_aggregate_slot, exit_epoch, fork_from, said_aggregate, said_plain, signed_root}
+use Rattle.signing_requests.specs.Objects.{aggregate_slot, block_slot, choice_slot, contribution_slot, electra_aggregate_slot, exit_epoch, fork_from, said_aggregate, said_plain, signed_root}
 use Rattle.signing_requests.specs.Requests.{shaped}
 use Rattle.signing_requests.specs.declared.member.SigningMember.{SigningMember}
 use Rattle.signing_requests.specs.declared.refusal.SigningRefusal.TheVariants as refusal
@@ -34,6 +40,11 @@ use Rattle.signing_requests.specs.declared.refusal.SigningRefusal.TheVariants as
 pub fork_from-value : (f : Fork) → fork_from (fork_value f) ≡ f
 unfolding fork_from fork_value fork
 fork_from-value f = refl
+
+pub block_slot_value : (block : AnyBlock) → block_slot (block_value block) ≡ slot_of block
+unfolding block_slot beacon_block_value beacon_block altair_block_value altair_block
+block_slot_value (any.Phase0 block) = refl
+block_slot_value (any.Altair block) = refl
 
 pub exit_epoch-value : (e : VoluntaryExit) → exit_epoch (voluntary_exit_value e) ≡ e.epoch
 unfolding exit_epoch voluntary_exit_value voluntary_exit

@@ -8,8 +8,10 @@ use Rattle.phase0_types.specs.Containers.{fork, checkpoint, attestation, attesta
 use Rattle.phase0_types.specs.Attestations.{attestation_data_value}
 use Rattle.phase0_types.specs.Headers.{beacon_block_header_value}
 use Rattle.phase0_types.specs.declared.fork.Fork.{Fork}
-use Rattle.phase0_blocks.specs.Blocks.{beacon_block_value}
 use Rattle.phase0_blocks.specs.Operations.{voluntary_exit_value}
+use Rattle.altair_blocks.specs.Containers.{altair_block}
+use Rattle.altair_blocks.specs.AnyBlocks.{BlockValue, block_value, root_of_block, slot_of}
+use Rattle.altair_blocks.specs.declared.version.ConsensusVersion.TheVariants as consensus
 use Rattle.altair_types.specs.Containers.{sync_aggregator_selection_data, sync_committee_contribution, contribution_and_proof}
 use Rattle.altair_types.specs.SyncCommittees.{sync_aggregator_selection_data_value, contribution_and_proof_value}
 use Rattle.duty_types.specs.Containers.{aggregate_and_proof, electra_attestation, electra_aggregate_and_proof, validator_registration}
@@ -36,7 +38,7 @@ use Rattle.signing_requests.specs.declared.request.Wanted.TheVariants as wanted
 
 -- what is to be signed, by its value
 pub data ObjectValue : Type 0 where
-  block_is : ValueOf beacon_block → ObjectValue
+  block_is : BlockValue → ObjectValue
   header_is : BlockVersion → ValueOf beacon_block_header → ObjectValue
   vote_is : ValueOf attestation_data → ObjectValue
   reveal_is : ℕ → ObjectValue
@@ -66,7 +68,7 @@ said_plain (plain.Aggregate given) = said_aggregate given
 said_plain (plain.ValidatorRegistration given) = registration_is (validator_registration_value given)
 
 abbrev pub said : SigningObject → ObjectValue
-said (object.Block block) = block_is (beacon_block_value block)
+said (object.Block block) = block_is (block_value block)
 said (object.Header version header) = header_is version (beacon_block_header_value header)
 said (object.Vote details) = vote_is (attestation_data_value details)
 said (object.Plain p) = said_plain p
@@ -76,10 +78,11 @@ unfoldable pub fork_from : ValueOf fork → Fork
 unfolding fork
 fork_from v = record { previous_version = v.0; current_version = v.1.0; epoch = v.1.1.0 }
 
--- the slot of a block, and of its header
-unfoldable pub block_slot : ValueOf beacon_block → ℕ
-unfolding beacon_block
-block_slot v = v.0
+-- the slot of a whole block, by its version, and of a header
+unfoldable pub block_slot : BlockValue → ℕ
+unfolding beacon_block altair_block
+block_slot (consensus.Phase0, v) = v.0
+block_slot (consensus.Altair, v) = v.0
 
 unfoldable pub header_slot : ValueOf beacon_block_header → ℕ
 unfolding beacon_block_header
@@ -115,7 +118,7 @@ electra_aggregate_slot v = v.1.0.1.0.0
 
 -- the object's own root; of a sync committee's vote for a block, the block's
 abbrev pub object_root : ObjectValue → List ℕ
-object_root (block_is v) = root_of beacon_block v
+object_root (block_is v) = root_of_block v
 object_root (header_is version v) = root_of beacon_block_header v
 object_root (vote_is v) = root_of attestation_data v
 object_root (reveal_is epoch) = root_of uint64 epoch
@@ -174,7 +177,7 @@ with_object domains o = record { fork = domains.fork; genesis = domains.genesis;
 -- a block and a vote go by a proposal of their message, whose root is the one that is signed; anything else by leave alone
 abbrev pub wanted_of : Domains → SigningObject → Wanted
 wanted_of domains (object.Block block) =
-    wanted.Propose (message.Block block.slot (root (signed_root domains (said (object.Block block))))) (with_object domains (made_of.Block block))
+    wanted.Propose (message.Block (slot_of block) (root (signed_root domains (said (object.Block block))))) (with_object domains (made_of.Block block))
 wanted_of domains (object.Header version header) =
     wanted.Propose (block_message domains header) (with_object domains (made_of.Header version header))
 wanted_of domains (object.Vote details) =

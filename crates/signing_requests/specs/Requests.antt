@@ -8,10 +8,13 @@ use Rattle.serde_json.specs.Data.{Data}
 use Rattle.serde_json.specs.Find.{get, as_str, as_object}
 use Rattle.json_members.specs.Reading.{json_of, text_in, number_in, bytes_in}
 use Rattle.phase0_types.specs.Reading.{read_at}
-use Rattle.phase0_types.specs.Containers.{fork, attestation_data, beacon_block, beacon_block_header, voluntary_exit}
+use Rattle.phase0_types.specs.Containers.{fork, attestation_data, beacon_block_header, voluntary_exit}
 use Rattle.phase0_types.specs.declared.fault.ReadFault.{ReadFault as ShapeFault}
 use Rattle.phase0_types.specs.declared.fork.Fork.{Fork}
 use Rattle.phase0_types.specs.declared.member.Member.TheVariants as shape
+use Rattle.altair_blocks.specs.AnyBlocks.{read_block}
+use Rattle.altair_blocks.specs.declared.version.ConsensusVersion.{ConsensusVersion}
+use Rattle.altair_blocks.specs.declared.version.ConsensusVersion.TheVariants as consensus
 use Rattle.altair_types.specs.Containers.{sync_aggregator_selection_data, contribution_and_proof}
 use Rattle.duty_types.specs.Containers.{aggregate_and_proof, electra_aggregate_and_proof, validator_registration}
 use Rattle.sign_roots.specs.declared.domains.Domains.{Domains}
@@ -113,12 +116,21 @@ chain_for t genesis d = chain_at d >>= (λ domains. Ok (chain.Named domains))
 abbrev pub vote_at : Data → Result ObjectValue SigningRefusal
 vote_at d = found member.Attestation (get (codes "attestation") d) >>= (λ a. shaped member.Attestation vote_is (read_at attestation_data None a))
 
+-- the version that a name next to a whole block means, if whole blocks of it are taken
+abbrev pub whole_version : List ℕ → Option ConsensusVersion
+whole_version name = if bytes_eq name (codes "PHASE0") then Some consensus.Phase0
+    else if bytes_eq name (codes "ALTAIR") then Some consensus.Altair
+    else None
+
+-- the block, as the container of that version
+abbrev pub block_of : ConsensusVersion → Data → Result ObjectValue SigningRefusal
+block_of version w = shaped member.Block block_is (read_block version w)
+
 -- a whole block, whose version is that of its container
 abbrev pub whole_block : Data → Result ObjectValue SigningRefusal
 whole_block b = do
-  version ← found member.Version (text_in (codes "version") b)
-  if bytes_eq version (codes "PHASE0") then found member.Block (get (codes "block") b) >>= (λ w. shaped member.Block block_is (read_at beacon_block None w))
-      else Err (refusal.BadMember member.Version)
+  version ← found member.Version (option_and_then whole_version (text_in (codes "version") b))
+  found member.Block (get (codes "block") b) >>= block_of version
 
 -- the version that a block names next to its header; the newest where there is none
 abbrev pub version_in : Data → BlockVersion

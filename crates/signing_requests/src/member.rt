@@ -25,10 +25,10 @@ pub enum SigningMember {
     Attestation,
     /// The object with the block or its header.
     BeaconBlock,
-    /// The name of a fork: of a whole block `PHASE0`, next to a header of a block any name, and next to an aggregate one of
-    /// those from `PHASE0` to `FULU`.
+    /// The name of a fork: of a whole block `PHASE0` or `ALTAIR`, next to a header of a block any name, and next to an
+    /// aggregate one of those from `PHASE0` to `FULU`.
     Version,
-    /// The whole block (consensus-specs, `BeaconBlock`).
+    /// The whole block (consensus-specs, `BeaconBlock` of its version).
     Block,
     /// The header of the block (consensus-specs, `BeaconBlockHeader`).
     BlockHeader,

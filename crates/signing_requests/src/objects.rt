@@ -2,12 +2,12 @@
 ghost use Rattle.std.specs.Prelude.{◌≡◌};
 ghost use Rattle.serde_json.specs.View.{view};
 ghost use Rattle.phase0_types.specs.Reading.{read_at};
-ghost use Rattle.phase0_types.specs.Containers.{attestation_data, beacon_block, beacon_block_header, voluntary_exit};
+ghost use Rattle.phase0_types.specs.Containers.{attestation_data, beacon_block_header, voluntary_exit};
 ghost use Rattle.altair_types.specs.Containers.{contribution_and_proof, sync_aggregator_selection_data};
 ghost use Rattle.std.specs.Prelude.{None};
-ghost use Rattle.signing_requests.specs.Objects.{said, block_is, contribution_is, exit_is, header_is, registration_is, sync_choice_is, vote_is};
+ghost use Rattle.signing_requests.specs.Objects.{said, contribution_is, exit_is, header_is, registration_is, sync_choice_is, vote_is};
 ghost use Rattle.duty_types.specs.Containers.{validator_registration};
-ghost use Rattle.signing_requests.specs.Requests.{block_at, block_in, contribution_at, exit_at, registration_at, reveal_at, reveal_in, said_by, shaped, slot_at, slot_in, sync_choice_at, sync_message_at, sync_message_in, version_in, vote_at, whole_block};
+ghost use Rattle.signing_requests.specs.Requests.{block_at, block_in, block_of, contribution_at, exit_at, registration_at, reveal_at, reveal_in, said_by, shaped, slot_at, slot_in, sync_choice_at, sync_message_at, sync_message_in, version_in, vote_at, whole_block, whole_version};
 ghost use Rattle.signing_requests.specs.Steps.{GivesAs, ReadsAs};
 
 use crate::aggregates::{aggregate_in, versioned_aggregate_in};
@@ -16,11 +16,12 @@ use crate::member::{SigningMember, member_of};
 use crate::refusal::{SigningRefusal, SigningStop};
 use crate::request::SigningObject;
 use crate::texts::object_of;
+use altair_blocks::{AnyBlock, ConsensusVersion};
 use altair_types::{ContributionAndProof, SyncAggregatorSelectionData};
 use duty_types::ValidatorRegistration;
 use edge_kit::Root;
 use json_members::{bytes_in, number_in, text_in};
-use phase0_blocks::{BeaconBlock, VoluntaryExit};
+use phase0_blocks::VoluntaryExit;
 use phase0_types::{AttestationData, BeaconBlockHeader, Shaped};
 use serde_json::Value;
 use signer_link::{BlockVersion, PlainObject};
@@ -109,19 +110,34 @@ fn read_header(
 fn whole_block(alloc: Global, block: &Value) -> Result<SigningObject, SigningStop>
     ensures { GivesAs said result (whole_block (view block.now)) }
 {
-    if text_in(block, "version") != Some("PHASE0") {
+    let Some(version) = text_in(block, "version").and_then(|name| whole_version(name)) else {
         return Err(SigningStop::Refused(SigningRefusal::BadMember(SigningMember::Version)));
-    }
+    };
     match block.get("block") {
-        Some(json) => read_block(alloc, json),
+        Some(json) => read_block(alloc, version, json),
         None => Err(SigningStop::Refused(SigningRefusal::BadMember(SigningMember::Block))),
     }
 }
 
-fn read_block(alloc: Global, json: &Value) -> Result<SigningObject, SigningStop>
-    ensures { GivesAs said result (shaped SigningMember.Block block_is (read_at beacon_block None (view json.now))) }
+/// The version that a name next to a whole block means, if whole blocks of it are taken.
+fn whole_version(name: &str) -> Option<ConsensusVersion>
+    ensures { result ≡ whole_version name.now }
 {
-    match BeaconBlock::read_value(alloc, json)? {
+    match name {
+        "PHASE0" => Some(ConsensusVersion::Phase0),
+        "ALTAIR" => Some(ConsensusVersion::Altair),
+        _ => None,
+    }
+}
+
+fn read_block(
+    alloc: Global,
+    version: ConsensusVersion,
+    json: &Value,
+) -> Result<SigningObject, SigningStop>
+    ensures { GivesAs said result (block_of version (view json.now)) }
+{
+    match AnyBlock::read_value(alloc, version, json)? {
         Ok(block) => Ok(SigningObject::Block(block)),
         Err(fault) => Err(SigningStop::Refused(SigningRefusal::BadMember(member_of(
             SigningMember::Block,

@@ -2,8 +2,8 @@
 ghost use Rattle.std.specs.Prelude.{◌≡◌};
 ghost use Rattle.signing_requests.specs.Objects.{said, signed_root, wanted_of, with_object};
 
+use altair_blocks::AnyBlock;
 use edge_kit::{PubKey, Root};
-use phase0_blocks::BeaconBlock;
 use phase0_types::{AttestationData, BeaconBlockHeader, Shaped};
 use sign_roots::{DomainKind, Domains, signing_root};
 use signer_link::{BlockVersion, PlainObject, PlainRequest, SignObject, SignRequest};
@@ -15,8 +15,8 @@ const SLOTS_PER_EPOCH: u64 = 32;
 /// What is to be signed.
 #[derive(Drop, Debug)]
 pub enum SigningObject {
-    /// A whole block.
-    Block(BeaconBlock),
+    /// A whole block, of any version.
+    Block(AnyBlock),
     /// A block by its header, and the version that it names.
     Header {
         version: BlockVersion,
@@ -44,11 +44,11 @@ impl SigningObject {
 }
 
 /// The root that is signed for a whole block.
-#[tactic(auto, unfolding(crate::specs::Objects::block_slot, phase0_types::specs::Containers::beacon_block, phase0_blocks::specs::Blocks::beacon_block_value))]
-fn block_root(domains: &Domains, block: &BeaconBlock) -> Root
+#[tactic(auto, using(crate::proofs::ObjectLemmas::block_slot_value))]
+fn block_root(domains: &Domains, block: &AnyBlock) -> Root
     ensures { result.0 ≡ signed_root domains.now (said (SigningObject.Block block.now)) }
 {
-    let domain = domains.domain(DomainKind::BeaconProposer, block.slot / SLOTS_PER_EPOCH);
+    let domain = domains.domain(DomainKind::BeaconProposer, block.slot() / SLOTS_PER_EPOCH);
     signing_root(block.root(), domain)
 }
 
@@ -122,10 +122,10 @@ impl SigningRequest {
 }
 
 /// A whole block of this signing root.
-fn block_wanted(root: Root, domains: &Domains, block: BeaconBlock) -> Wanted
+fn block_wanted(root: Root, domains: &Domains, block: AnyBlock) -> Wanted
     ensures { root.0 ≡ signed_root domains.now (said (SigningObject.Block block)) → result ≡ wanted_of domains.now (SigningObject.Block block) }
 {
-    let slot = block.slot;
+    let slot = block.slot();
     proposal(
         Message::Block { slot, root },
         domains,

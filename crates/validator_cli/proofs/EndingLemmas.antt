@@ -58,7 +58,7 @@ refused_causes before now left Reads Disk s asked is ends = caused_for nothing a
 
 -- want of memory is complete
 want_complete : (asked : Asked) (left : Option (List ℕ)) → IsWithin asked left → IsComplete asked status.OutOfMemory
-want_complete (session genesis journal fork signer watch) left within = tt
+want_complete (session genesis journal fork altair signer watch) left within = tt
 want_complete (serve options) left within = absurd within
 want_complete (proxy options) left within = absurd within
 want_complete (merge genesis journal) left within = tt

@@ -1,9 +1,10 @@
 -- What a run of the program does, by what its words ask for.
 use Rattle.std.specs.Prelude.{◌≡◌, ◌⊎◌, ℕ, Bool, List, [], Option, Some, string_bytes}
 use Rattle.std.specs.Str.Iter.{LacksByte}
+use Rattle.edge_kit.specs.declared.bytes.Root.{Root}
 use Rattle.edge_kit.specs.declared.disk.Disks.{Disks}
 use Rattle.interchange_io.specs.Reading.{file_limit}
-use Rattle.sign_roots.specs.declared.domains.Domains.{Domains}
+use Rattle.phase0_types.specs.declared.fork.Fork.{Fork}
 use Rattle.signer_link.specs.declared.reply.Told.{Told}
 use Rattle.desk_machine.specs.declared.event.DeskEvent.{DeskEvent}
 use Rattle.check_sign.specs.Contents.{Seen}
@@ -11,6 +12,7 @@ use Rattle.program_end.specs.declared.closing.ClosingLine.TheVariants as closing
 use Rattle.program_end.specs.declared.limit.Limit.TheVariants as limit
 use Rattle.program_end.specs.declared.status.Status.{Status}
 use Rattle.program_end.specs.declared.status.Status.TheVariants as status
+use Rattle.session_format.specs.declared.chain.SessionChain.{SessionChain}
 use Rattle.session_run.specs.Acts.{AtBench}
 use Rattle.session_run.specs.Ends.{Ends, Wires}
 use Rattle.session_run.specs.Inputs.{WithinLimits}
@@ -53,12 +55,16 @@ wires_of view = record { left = view.left; held = view.out.held; reads_failed = 
 abbrev pub bench_at : {D : Type 0} → Seen D → Outside → AtBench D
 bench_at desk o = record { desk = desk; signer = record { told = o.told; faults = o.signs_failed; denials = o.signs_denied } }
 
+-- the chain of a session
+abbrev pub session_chain : Root → Fork → Option ℕ → SessionChain
+session_chain genesis fork altair = record { domains = record { fork = fork; genesis = genesis }; altair = altair }
+
 -- a session over the desk of two disks, its keys watched or not; where none was opened nothing was read or asked
-abbrev pub SessionEnds : {D : Type 0} → (D → List ℕ → Type 0) → (D → ℕ) → (D → ℕ → List ℕ → Type 0) → (D → ℕ) → Domains → Bool → Disks D → Disks D → Outside → Outside → List DeskEvent → Status → Type 0
-SessionEnds shows moment leaves faults domains watch disks_before disks_now before now events ended =
-    (NotOpened shows moment leaves faults domains.genesis disks_before disks_now before.view.out now.view.out events ended × IsUntouched before now)
-    ⊎ HadDesk shows moment leaves faults domains.genesis watch disks_before disks_now events
-    (λ desk_before desk_now. Ends moment leaves faults domains (bench_at desk_before before) (bench_at desk_now now) (wires_of before.view) (wires_of now.view) ended)
+abbrev pub SessionEnds : {D : Type 0} → (D → List ℕ → Type 0) → (D → ℕ) → (D → ℕ → List ℕ → Type 0) → (D → ℕ) → SessionChain → Bool → Disks D → Disks D → Outside → Outside → List DeskEvent → Status → Type 0
+SessionEnds shows moment leaves faults chain watch disks_before disks_now before now events ended =
+    (NotOpened shows moment leaves faults chain.domains.genesis disks_before disks_now before.view.out now.view.out events ended × IsUntouched before now)
+    ⊎ HadDesk shows moment leaves faults chain.domains.genesis watch disks_before disks_now events
+    (λ desk_before desk_now. Ends moment leaves faults chain (bench_at desk_before before) (bench_at desk_now now) (wires_of before.view) (wires_of now.view) ended)
 
 -- the disks come back as they were, nothing was read or asked, and nothing is noted
 pub record DoesNothing {D : Type 0} (disks_before disks_now : Disks D) (before now : Outside) (events : List DeskEvent) : Type 0 where
@@ -100,7 +106,7 @@ IsNoProxy asked = Unit {0}
 
 -- what was asked for, if it was no server, was done, or ended as it may
 abbrev pub EndsAs : {D : Type 0} → (D → List ℕ → Type 0) → (D → ℕ) → (D → ℕ → List ℕ → Type 0) → (D → ℕ) → Asked → Disks D → Disks D → Outside → Outside → List DeskEvent → Status → Type 0
-EndsAs shows moment leaves faults (session genesis journal fork signer watch) disks_before disks_now before now events s = SessionEnds shows moment leaves faults (record { fork = fork; genesis = genesis }) watch disks_before disks_now before now events s
+EndsAs shows moment leaves faults (session genesis journal fork altair signer watch) disks_before disks_now before now events s = SessionEnds shows moment leaves faults (session_chain genesis fork altair) watch disks_before disks_now before now events s
 EndsAs shows moment leaves faults (serve options) disks_before disks_now before now events s = ⊥
 EndsAs shows moment leaves faults (proxy options) disks_before disks_now before now events s = ⊥
 EndsAs shows moment leaves faults (merge genesis journal) disks_before disks_now before now events s = MergeEnds shows moment leaves faults genesis disks_before disks_now before.view now.view events s × Unasked before now
@@ -118,7 +124,7 @@ RunEnds shows moment leaves faults asked disks_before disks_now before now event
 -- the input is within the limits of what was asked for: of a session its lines and its length, of a merge its length; a showing, a
 -- rehearsal and a text read nothing
 abbrev pub IsWithin : Asked → Option (List ℕ) → Type 0
-IsWithin (session genesis journal fork signer watch) left = WithinLimits left
+IsWithin (session genesis journal fork altair signer watch) left = WithinLimits left
 IsWithin (serve options) left = ⊥
 IsWithin (proxy options) left = ⊥
 IsWithin (merge genesis journal) left = WithinLimit file_limit left
@@ -138,7 +144,7 @@ IsSessionComplete s = ⊥
 
 -- the same for what was asked for
 abbrev pub IsComplete : Asked → Status → Type 0
-IsComplete (session genesis journal fork signer watch) s = IsSessionComplete s
+IsComplete (session genesis journal fork altair signer watch) s = IsSessionComplete s
 IsComplete (serve options) s = ⊥
 IsComplete (proxy options) s = ⊥
 IsComplete (merge genesis journal) s = IsMergeComplete s
@@ -157,7 +163,7 @@ pub record Causes (asked : Asked) (left : Option (List ℕ)) (Reads Writes Disk 
 
 -- the plan is a session's
 abbrev pub IsSession : Plan → Type 0
-IsSession (plan.Session genesis journal fork signer watch) = Unit {0}
+IsSession (plan.Session genesis journal fork altair signer watch) = Unit {0}
 IsSession (plan.Serve options) = ⊥
 IsSession (plan.Proxy options) = ⊥
 IsSession (plan.Merge genesis journal) = ⊥

@@ -6,13 +6,14 @@ ghost use Rattle.edge_kit.specs.declared.bytes.Root.{Root};
 ghost use Rattle.phase0_types.specs.declared.fork.Fork.{Fork};
 ghost use Rattle.service_url.specs.Services.{Service};
 ghost use Rattle.session_run.specs.Inputs.{WithinLimits};
-ghost use Rattle.validator_cli.specs.Endings.{IsSession, IsSessionComplete, SessionEnds, outside_of};
+ghost use Rattle.validator_cli.specs.Endings.{IsSession, IsSessionComplete, SessionEnds, outside_of, session_chain};
 
 use check_sign::{Desk, Events};
 use command_line::Plan;
 use edge_kit::{Disk, Disks, Sink, Source};
 use journal_commands::close_unopened;
 use program_end::Status;
+use session_format::SessionChain;
 use session_run::{Bench, serve_lines};
 use sign_roots::Domains;
 use signer_link::Signer;
@@ -34,8 +35,8 @@ pub fn run_session<D: Disk, S: Signer, I: Source, O: Sink>(
     out: &mut O,
 ) -> (Status, Disks<D>, S, Events)
     requires { IsSession plan.now }
-    ensures ends { (genesis : Root) (journal : Option (List ℕ)) (fork : Fork) (signer_at : Option Service) (watch : Bool) → plan.now ≡ Plan.Session genesis journal fork signer_at watch
-        → SessionEnds D.shows D.moment D.leaves D.faults (record { fork = fork; genesis = genesis }) watch disks result.1
+    ensures ends { (genesis : Root) (journal : Option (List ℕ)) (fork : Fork) (altair : Option ℕ) (signer_at : Option Service) (watch : Bool) → plan.now ≡ Plan.Session genesis journal fork altair signer_at watch
+        → SessionEnds D.shows D.moment D.leaves D.faults (session_chain genesis fork altair) watch disks result.1
         (outside_of I.left I.faults O.held O.faults S.told S.faults S.denials input.old out.old signer) (outside_of I.left I.faults O.held O.faults S.told S.faults S.denials input.new out.new result.2) result.3.items result.0 }
     ensures read_fault { result.0 ≡ Status.ReadFault → Rose (I.faults input.old) (I.faults input.new) }
     ensures write_fault { result.0 ≡ Status.WriteFault → Rose (O.faults out.old) (O.faults out.new) }
@@ -47,6 +48,7 @@ pub fn run_session<D: Disk, S: Signer, I: Source, O: Sink>(
     let Plan::Session {
         genesis,
         fork,
+        altair,
         watch,
         ..
     } = plan
@@ -61,8 +63,12 @@ pub fn run_session<D: Disk, S: Signer, I: Source, O: Sink>(
         }
     };
     let domains = Domains::new(*fork, *genesis);
+    let chain = SessionChain {
+        domains,
+        altair: *altair,
+    };
     let mut bench = Bench::new(desk, signer);
-    let status = serve_lines(alloc, &domains, &mut bench, input, out);
+    let status = serve_lines(alloc, &chain, &mut bench, input, out);
     let (desk, signer) = bench.into_parts();
     let (disks, events) = desk.end();
     (status, disks, signer, events)

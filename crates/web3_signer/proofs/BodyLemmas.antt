@@ -2,16 +2,16 @@
 use Rattle.std.proofs.Common.{◌≡◌, false, codes, refl, Option, Some, None}
 use Rattle.serde_json.specs.Written.{has_float}
 use Rattle.phase0_types.specs.Writing.{write}
-use Rattle.phase0_types.specs.Containers.{fork, attestation_data, beacon_block, beacon_block_header, voluntary_exit, checkpoint}
+use Rattle.phase0_types.specs.Containers.{fork, attestation_data, beacon_block_header, voluntary_exit, checkpoint}
 use Rattle.phase0_types.specs.Attestations.{attestation_data_value}
 use Rattle.phase0_types.specs.Forks.{fork_value}
 use Rattle.phase0_types.specs.Headers.{beacon_block_header_value}
-use Rattle.phase0_blocks.specs.Blocks.{beacon_block_value}
+use Rattle.altair_blocks.specs.AnyBlocks.{block_shape, block_value, write_block}
 use Rattle.phase0_blocks.specs.Operations.{voluntary_exit_value}
-use Rattle.phase0_blocks.specs.declared.block.BeaconBlock.{BeaconBlock}
+use Rattle.altair_blocks.specs.declared.any_block.AnyBlock.{AnyBlock}
 use Rattle.block_copies.proofs.PlainLemmas.{neither, write_plain}
 use Rattle.slash_defs.specs.declared.message.Message.{Message}
-use Rattle.web3_signer.specs.Web3.{aggregate_data, sign_data, plain_data, versioned}
+use Rattle.web3_signer.specs.Web3.{aggregate_data, block_data, sign_data, plain_data}
 use Rattle.altair_types.specs.Containers.{sync_aggregator_selection_data, sync_committee_contribution, contribution_and_proof}
 use Rattle.altair_types.specs.SyncCommittees.{sync_aggregator_selection_data_value, sync_committee_contribution_value, contribution_and_proof_value}
 use Rattle.duty_types.specs.Containers.{aggregate_and_proof, electra_aggregate_and_proof, validator_registration}
@@ -26,8 +26,8 @@ use Rattle.signer_link.specs.declared.request.PlainObject.TheVariants as plain
 use Rattle.signer_link.specs.declared.request.PlainRequest.{PlainRequest}
 
 -- nor does a whole block
-block_plain : (block : BeaconBlock) → has_float (versioned (codes "block") (codes "PHASE0") (write beacon_block (beacon_block_value block))) ≡ false
-block_plain block = neither (has_float (write beacon_block (beacon_block_value block))) false (write_plain beacon_block (beacon_block_value block)) refl
+block_plain : (block : AnyBlock) → has_float (block_data block) ≡ false
+block_plain block = neither (has_float (write_block (block_value block))) false (write_plain (block_shape (block_value block).0) (block_value block).1) refl
 
 pub sign_plain_numbers : (request : SignRequest) (m : Message) → has_float (sign_data request m) ≡ false
 unfolding write fork fork_value attestation_data attestation_data_value checkpoint beacon_block_header beacon_block_header_value
@@ -35,7 +35,7 @@ sign_plain_numbers request m = at request.object where
   at : (object : Option SignObject) → has_float (sign_data (record request { object = object }) m) ≡ false
   at None = refl
   at (Some (made_of.Header v header)) = refl
-  at (Some (made_of.Block block)) = neither (has_float (versioned (codes "block") (codes "PHASE0") (write beacon_block (beacon_block_value block)))) false (block_plain block) refl
+  at (Some (made_of.Block block)) = neither (has_float (block_data block)) false (block_plain block) refl
   at (Some (made_of.Attestation details)) = refl
 
 -- nor does an aggregate

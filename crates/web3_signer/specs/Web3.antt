@@ -10,19 +10,20 @@ use Rattle.slash_defs.specs.declared.message.Message.{Message}
 use Rattle.slash_defs.specs.declared.message.Message.TheVariants as message
 use Rattle.slash_defs.specs.Signing.{signing_root_of}
 use Rattle.phase0_types.specs.Writing.{write}
-use Rattle.phase0_types.specs.Containers.{fork, attestation_data, beacon_block, beacon_block_header, voluntary_exit}
+use Rattle.phase0_types.specs.Containers.{fork, attestation_data, beacon_block_header, voluntary_exit}
 use Rattle.phase0_types.specs.Attestations.{attestation_data_value}
 use Rattle.phase0_types.specs.Forks.{fork_value}
 use Rattle.phase0_types.specs.Headers.{beacon_block_header_value}
 use Rattle.phase0_types.specs.declared.fork.Fork.{Fork}
-use Rattle.phase0_blocks.specs.Blocks.{beacon_block_value}
+use Rattle.altair_blocks.specs.AnyBlocks.{block_value, version_of, write_block}
+use Rattle.altair_blocks.specs.declared.any_block.AnyBlock.{AnyBlock}
 use Rattle.phase0_blocks.specs.Operations.{voluntary_exit_value}
 use Rattle.altair_types.specs.Containers.{sync_aggregator_selection_data, contribution_and_proof}
 use Rattle.altair_types.specs.SyncCommittees.{sync_aggregator_selection_data_value, contribution_and_proof_value}
 use Rattle.duty_types.specs.Containers.{aggregate_and_proof, electra_aggregate_and_proof, validator_registration}
 use Rattle.duty_types.specs.Values.{aggregate_and_proof_value, electra_aggregate_and_proof_value, validator_registration_value}
 use Rattle.signer_link.specs.Plain.{plain_root}
-use Rattle.signer_link.specs.Versions.{version_name}
+use Rattle.signer_link.specs.Versions.{block_version, version_name}
 use Rattle.signer_link.specs.declared.aggregate.Aggregate.{Aggregate}
 use Rattle.signer_link.specs.declared.aggregate.Aggregate.TheVariants as aggregate
 use Rattle.signer_link.specs.declared.request.SignObject.{SignObject}
@@ -58,6 +59,10 @@ versioned name version value =
     object (member name value
     (member (codes "version") (string version) no_members))
 
+-- a whole block next to its version
+abbrev pub block_data : AnyBlock → Data
+block_data block = versioned (codes "block") (version_name (block_version (version_of block))) (write_block (block_value block))
+
 -- the type of a request for a message
 abbrev pub type_of : Message → List ℕ
 type_of (message.Block slot root) = codes "BLOCK_V2"
@@ -81,7 +86,7 @@ root_data root = string (hex_text root)
 abbrev pub with_object : Option SignObject → Members → Members
 with_object None others = others
 with_object (Some (made_of.Header version header)) others = member (codes "beacon_block") (versioned (codes "block_header") (version_name version) (write beacon_block_header (beacon_block_header_value header))) others
-with_object (Some (made_of.Block block)) others = member (codes "beacon_block") (versioned (codes "block") (codes "PHASE0") (write beacon_block (beacon_block_value block))) others
+with_object (Some (made_of.Block block)) others = member (codes "beacon_block") (block_data block) others
 with_object (Some (made_of.Attestation details)) others = member (codes "attestation") (write attestation_data (attestation_data_value details)) others
 
 -- the request for the signature of a message: of its root, under the fork and the genesis root of the chain

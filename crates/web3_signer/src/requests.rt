@@ -1,8 +1,7 @@
 //! What Web3Signer is asked, as texts.
 ghost use Rattle.std.specs.Prelude.{◌≡◌, codes, decimal, IfOk, string_bytes};
 ghost use Rattle.json_members.specs.Building.{built};
-ghost use Rattle.phase0_blocks.specs.Blocks.{beacon_block_value};
-ghost use Rattle.phase0_types.specs.Containers.{beacon_block, beacon_block_header};
+ghost use Rattle.phase0_types.specs.Containers.{beacon_block_header};
 ghost use Rattle.phase0_types.specs.Headers.{beacon_block_header_value};
 ghost use Rattle.phase0_types.specs.Writing.{write};
 ghost use Rattle.serde_json.specs.Data.{no_members, object, put, string};
@@ -10,9 +9,9 @@ ghost use Rattle.serde_json.specs.View.{view};
 ghost use Rattle.signer_link.specs.Versions.{version_name};
 ghost use Rattle.web3_signer.specs.Web3 as web3;
 
+use altair_blocks::AnyBlock;
 use edge_kit::{PubKey, Root, hex_text, push_hex};
 use json_members::Object;
-use phase0_blocks::BeaconBlock;
 use phase0_types::{BeaconBlockHeader, Fork, Shaped};
 use serde_json::{Value, json};
 use signer_link::{Aggregate, BlockVersion, PlainObject, PlainRequest, SignObject, SignRequest};
@@ -104,14 +103,16 @@ fn versioned(
     Ok(object.value())
 }
 
-fn block_value(alloc: Global, block: &BeaconBlock) -> Result<Value, AllocError>
-    ensures { IfOk result (λ v. view v ≡ web3.versioned (codes "block") (codes "PHASE0") (write beacon_block (beacon_block_value block.now))) }
+fn block_value(alloc: Global, block: &AnyBlock) -> Result<Value, AllocError>
+    ensures { IfOk result (λ v. view v ≡ web3.block_data block.now) }
 {
-    let block = block.to_value(alloc)?;
-    let object = Object::new(alloc)
-        .with_value(alloc, "block", block)?
-        .with_text(alloc, "version", "PHASE0")?;
-    Ok(object.value())
+    let value = block.to_value(alloc)?;
+    versioned(
+        alloc,
+        "block",
+        BlockVersion::of_block(block.version()),
+        value,
+    )
 }
 
 /// The members of each request to sign, and one more.

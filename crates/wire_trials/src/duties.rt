@@ -1,9 +1,10 @@
-//! Slots, data of votes, questions and watches.
+//! Slots, data of votes, blocks, questions and watches.
 use crate::nodes::bits_of;
 use crate::questions::{answer_of, ask_of, attester};
-use crate::reading::{Stop, first_part, numbers_in};
+use crate::reading::{Stop, first_part, numbers_in, whole_block};
+use altair_blocks::version_at;
 use doppel_watch::{MOMENT_LIMIT, Watch};
-use duty_schedule::{check_data, slot_at};
+use duty_schedule::{DataDiffers, check_block, check_data, slot_at};
 use edge_kit::{Items, Root};
 use node_fallback::Cause;
 use phase0_types::{AttestationData, Checkpoint};
@@ -14,6 +15,8 @@ pub fn outcome(alloc: Global, subject: &str, arguments: &str) -> Result<String, 
     match subject {
         "slot" => slot(alloc, arguments),
         "check-data" => data(alloc, arguments),
+        "version" => version(alloc, arguments),
+        "check-block" => block(alloc, arguments),
         "fits" => fits(alloc, arguments),
         "bits" => Ok(format!(in alloc; "{:?}", bits_of(alloc, arguments)?.as_slice())?),
         "cause" => cause(alloc, arguments),
@@ -56,10 +59,38 @@ fn data(alloc: Global, words: &str) -> Result<String, Stop> {
     let (due, given) = first_part(words, ": ");
     let due = attester(alloc, due)?;
     let given = details_of(alloc, given)?;
-    match check_data(&due, &given) {
+    check_words(alloc, check_data(&due, &given))
+}
+
+/// What differs, if anything does.
+fn check_words(alloc: Global, checked: Result<(), DataDiffers>) -> Result<String, Stop> {
+    match checked {
         Ok(()) => Ok(String::from_str(alloc, "nothing differs")?),
         Err(differs) => Ok(format!(in alloc; "{differs}")?),
     }
+}
+
+/// A slot, and the epoch of Altair where one stands after it.
+fn slot_and_altair(alloc: Global, words: &str) -> Result<(u64, Option<u64>), Stop> {
+    match numbers_in(alloc, words)?.as_slice() {
+        [slot] => Ok((*slot, None)),
+        [slot, altair] => Ok((*slot, Some(*altair))),
+        _ => Err(Stop::Unread),
+    }
+}
+
+/// The version of a slot's block.
+fn version(alloc: Global, words: &str) -> Result<String, Stop> {
+    let (slot, altair) = slot_and_altair(alloc, words)?;
+    Ok(String::from_str(alloc, version_at(altair, slot).name())?)
+}
+
+/// What differs between the block that is due in a slot and one that a node gives for it.
+fn block(alloc: Global, words: &str) -> Result<String, Stop> {
+    let (due, given) = first_part(words, ": ");
+    let (slot, altair) = slot_and_altair(alloc, due)?;
+    let given = whole_block(alloc, given)?;
+    check_words(alloc, check_block(slot, altair, &given))
 }
 
 /// Whether an answer fits its question.

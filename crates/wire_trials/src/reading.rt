@@ -1,4 +1,5 @@
 //! What the words of a line stand for.
+use altair_blocks::AnyBlock;
 use json_members::json_of;
 use phase0_types::Shaped;
 use service_url::ServiceUrl;
@@ -77,6 +78,15 @@ pub fn value_of<T: Shaped>(alloc: Global, text: &str) -> Result<T, Stop> {
     match T::read_value(alloc, &json)? {
         Ok(value) => Ok(value),
         Err(_) => Err(Stop::Unread),
+    }
+}
+
+/// A whole block: after `block` the JSON of one of phase 0, after `altair_block` that of one of Altair.
+pub fn whole_block(alloc: Global, words: &str) -> Result<AnyBlock, Stop> {
+    match first_part(words, " ") {
+        ("block", json) => Ok(AnyBlock::Phase0(value_of(alloc, json)?)),
+        ("altair_block", json) => Ok(AnyBlock::Altair(value_of(alloc, json)?)),
+        _ => Err(Stop::Unread),
     }
 }
 

@@ -1,7 +1,7 @@
 //! The signing service over a link in memory.
 use crate::links::{link, sent};
 use crate::permits::{KEY, PERMIT};
-use crate::reading::{Stop, first_part, numbers_in, service_of, value_of, with_bytes};
+use crate::reading::{Stop, first_part, numbers_in, service_of, value_of, whole_block, with_bytes};
 use crate::scenes::Scene;
 use altair_types::{ContributionAndProof, SyncAggregatorSelectionData, SyncCommitteeContribution};
 use edge_kit::{MemLink, Root, Sig, hex_text};
@@ -40,8 +40,7 @@ pub fn signer(alloc: Global, setting: &str, failing: &[u64]) -> Result<Web3Signe
 fn object(alloc: Global, words: &str) -> Result<SignObject, Stop> {
     match first_part(words, " ") {
         ("header", rest) => header(alloc, rest),
-        ("block", json) => Ok(SignObject::Block(value_of(alloc, json)?)),
-        _ => Err(Stop::Unread),
+        _ => Ok(SignObject::Block(whole_block(alloc, words)?)),
     }
 }
 

@@ -84,11 +84,13 @@ fn push_plan(alloc: Global, planned: &Plan, out: &mut String) -> Result<(), Allo
             genesis,
             journal,
             fork,
+            altair,
             signer,
             watch,
         } => {
             push_place(alloc, out, "session", genesis, journal.as_ref())?;
-            push_signing(out, fork, signer.is_some(), *watch)
+            push_signing(out, fork, signer.is_some(), *watch)?;
+            push_altair(out, *altair)
         }
         Plan::Serve(options) => push_options(alloc, out, options),
         Plan::Proxy(options) => push_proxy(alloc, out, options),
@@ -133,6 +135,14 @@ fn push_signing(
     write!(out, " {} {has_signer} {watch}", fork.epoch)
 }
 
+/// Appends from which epoch on blocks have the Altair body, or a `-` where they never have.
+fn push_altair(out: &mut String, altair: Option<u64>) -> Result<(), AllocError> {
+    match altair {
+        Some(epoch) => write!(out, " altair {epoch}"),
+        None => out.push_str(" altair -"),
+    }
+}
+
 /// Appends the address of a service.
 fn push_service(out: &mut String, service: &ServiceUrl) -> Result<(), AllocError> {
     write!(out, " {}{}", service.authority(), service.path())
@@ -150,6 +160,7 @@ fn push_options(alloc: Global, out: &mut String, options: &ServeOptions) -> Resu
     push_service(out, &options.signer)?;
     push_door(out, options)?;
     push_work(out, options)?;
+    push_altair(out, options.altair)?;
     for node in options.nodes.as_slice() {
         push_service(out, node)?;
     }

@@ -1,26 +1,29 @@
 //! Lines of a session, and the requests that they are.
 use crate::reading::{bytes, push_digits, push_ended};
 use edge_kit::Root;
-use session_format::{Answer, Member, Op, Request, read_request};
+use session_format::{Answer, Member, Op, Request, SessionChain, read_request};
 use sign_roots::{Domains, Fork};
 use signer_link::SignObject;
 use slash_defs::Message;
 use std::alloc::{AllocError, Global};
 
-/// A chain whose version changes at epoch 10.
-fn domains() -> Domains {
+/// A chain whose version changes at epoch 10, and whose blocks are Altair's from epoch 2 on.
+fn chain() -> SessionChain {
     let fork = Fork {
         previous_version: [0, 0, 0, 1],
         current_version: [0, 0, 0, 2],
         epoch: 10,
     };
-    Domains::new(fork, Root([0xcc; 32]))
+    SessionChain {
+        domains: Domains::new(fork, Root([0xcc; 32])),
+        altair: Some(2),
+    }
 }
 
 /// Appends the request that a line is, or the member that it is refused for and the answer.
 pub(crate) fn push_request_of(alloc: Global, text: &str, out: &mut String) -> Option<()> {
     let line = bytes(alloc, text)?;
-    match &read_request(alloc, &domains(), line.as_slice()).ok()? {
+    match &read_request(alloc, &chain(), line.as_slice()).ok()? {
         Ok(request) => push_request(out, request).ok(),
         Err(member) => push_refusal(alloc, out, *member).ok(),
     }

@@ -1,7 +1,7 @@
 use Rattle.std.proofs.Common.{refl, sym, ◌∙◌, ap}
 use Rattle.std.specs.Option.{option_map}
 use Rattle.std.specs.Result.{result_ok}
-use Rattle.phase0_blocks.specs.declared.block.BeaconBlock.{BeaconBlock}
+use Rattle.altair_blocks.specs.declared.any_block.AnyBlock.{AnyBlock}
 use Rattle.duty_plans.specs.declared.ended.Unsent.TheVariants as granted
 use Rattle.duty_plans.specs.Ends.{left_by}
 use Rattle.duty_sends.proofs.StepLemmas.{ends_as, runs_dropped}
@@ -18,5 +18,5 @@ block_posted-requires g c = (c.args.block, refl)
 
 pub returns-in-Given-clause-runs : goal.returns-in-Given-clause-runs
 returns-in-Given-clause-runs g c = λ s.
-    let same = ap (λ (b : BeaconBlock). option_map (λ by. left_by (granted.Block b) by) (result_ok c.send-posted.result)) (sym c.block_posted.ensures) in
+    let same = ap (λ (b : AnyBlock). option_map (λ by. left_by (granted.Block b) by) (result_ok c.send-posted.result)) (sym c.block_posted.ensures) in
     rw c.in-Given.is (ends_as g.K.DeskCalls.leads g.met.K.DeskCalls.leads_none _ _ _ _ _ (c.left_of.ensures ∙ same) (c.send-posted.ensures.runs s (granted.Block c.args.block)))

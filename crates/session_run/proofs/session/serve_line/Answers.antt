@@ -5,10 +5,10 @@ use Rattle.session_run.proofs.ExitLemmas.{serves_ok, serves_disk, serves_write}
 use Rattle.session_run.proofs.session.serve_line.Goals as goal
 
 pub answer-requires-clause-epoch : goal.answer-requires-clause-epoch
-answer-requires-clause-epoch g c = within_limit c.args.domains.now c.args.line.now c.in-Ok.read c.in-Ok.ensures
+answer-requires-clause-epoch g c = within_limit c.args.chain.now c.args.line.now c.in-Ok.read c.in-Ok.ensures
 
 pub answer-requires-clause-once : goal.answer-requires-clause-once
-answer-requires-clause-once g c = files_once c.args.domains.now c.args.line.now c.in-Ok.read c.in-Ok.ensures
+answer-requires-clause-once g c = files_once c.args.chain.now c.args.line.now c.in-Ok.read c.in-Ok.ensures
 
 pub returns-in-Ok-write_all-clause-serves : goal.returns-in-Ok-write_all-clause-serves
 returns-in-Ok-write_all-clause-serves g c =

@@ -6,7 +6,7 @@ use Rattle.session_run.proofs.session.serve_lines.Given as goal
 
 abbrev pub invariant-lines : goal.invariant-lines
 invariant-lines g l = record {
-  so_far : SoFar g.D.Disk.moment g.D.Disk.leaves g.D.Disk.faults l.domains (g.I.Source.left l.fn.input) (g.I.Source.left l.input) l.fn.bench l.bench (g.O.Sink.held l.fn.out) (g.O.Sink.held l.out) l.lines l.latest;
+  so_far : SoFar g.D.Disk.moment g.D.Disk.leaves g.D.Disk.faults l.chain (g.I.Source.left l.fn.input) (g.I.Source.left l.input) l.fn.bench l.bench (g.O.Sink.held l.fn.out) (g.O.Sink.held l.out) l.lines l.latest;
   count : l.counter + length l.lines.bytes ≤ l.lines.total;
   within : l.lines.total < input_limit;
   latest : l.latest ≤ moment_limit;

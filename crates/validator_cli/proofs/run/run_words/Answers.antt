@@ -22,15 +22,15 @@ returns-in-Session-clause-ending g c =
     let before : Outside = outside_of g.I.Source.left g.I.Source.faults g.O.Sink.held g.O.Sink.faults g.S.Signer.told g.S.Signer.faults g.S.Signer.denials c.args.input.now c.args.out.now c.args.signer in
     let now : Outside = outside_of g.I.Source.left g.I.Source.faults g.O.Sink.held g.O.Sink.faults g.S.Signer.told g.S.Signer.faults g.S.Signer.denials c.run_session.new.input c.run_session.new.out c.run_session.result.2 in
     let taken : taken_as (Ok c.in-Ok-Ok.planned) ≡ asked_of (map string_bytes c.args.words.now) = search rules in
-    let is : session c.in-Session.genesis c.in-Session.journal c.in-Session.fork c.in-Session.signer c.in-Session.watch ≡ asked_of (map string_bytes c.args.words.now) = ap (λ (p : Plan). taken_as (Ok p)) (sym c.in-Session.is) ∙ taken in
-    asked_for g.D.Disk.shows g.D.Disk.moment g.D.Disk.leaves g.D.Disk.faults c.args.disks c.run_session.result.1 before now c.run_session.result.3.items c.run_session.result.0 (session c.in-Session.genesis c.in-Session.journal c.in-Session.fork c.in-Session.signer c.in-Session.watch) (asked_of (map string_bytes c.args.words.now)) is
-    (c.run_session.ensures.ends c.in-Session.genesis c.in-Session.journal c.in-Session.fork c.in-Session.signer c.in-Session.watch c.in-Session.is)
+    let is : session c.in-Session.genesis c.in-Session.journal c.in-Session.fork c.in-Session.altair c.in-Session.signer c.in-Session.watch ≡ asked_of (map string_bytes c.args.words.now) = ap (λ (p : Plan). taken_as (Ok p)) (sym c.in-Session.is) ∙ taken in
+    asked_for g.D.Disk.shows g.D.Disk.moment g.D.Disk.leaves g.D.Disk.faults c.args.disks c.run_session.result.1 before now c.run_session.result.3.items c.run_session.result.0 (session c.in-Session.genesis c.in-Session.journal c.in-Session.fork c.in-Session.altair c.in-Session.signer c.in-Session.watch) (asked_of (map string_bytes c.args.words.now)) is
+    (c.run_session.ensures.ends c.in-Session.genesis c.in-Session.journal c.in-Session.fork c.in-Session.altair c.in-Session.signer c.in-Session.watch c.in-Session.is)
 
 pub returns-in-Session-clause-causes : goal.returns-in-Session-clause-causes
 returns-in-Session-clause-causes g c =
     let taken : taken_as (Ok c.in-Ok-Ok.planned) ≡ asked_of (map string_bytes c.args.words.now) = search rules in
-    let is : session c.in-Session.genesis c.in-Session.journal c.in-Session.fork c.in-Session.signer c.in-Session.watch ≡ asked_of (map string_bytes c.args.words.now) = ap (λ (p : Plan). taken_as (Ok p)) (sym c.in-Session.is) ∙ taken in
-    caused_for (session c.in-Session.genesis c.in-Session.journal c.in-Session.fork c.in-Session.signer c.in-Session.watch) (asked_of (map string_bytes c.args.words.now)) _ _ _ _ _ is (record {
+    let is : session c.in-Session.genesis c.in-Session.journal c.in-Session.fork c.in-Session.altair c.in-Session.signer c.in-Session.watch ≡ asked_of (map string_bytes c.args.words.now) = ap (λ (p : Plan). taken_as (Ok p)) (sym c.in-Session.is) ∙ taken in
+    caused_for (session c.in-Session.genesis c.in-Session.journal c.in-Session.fork c.in-Session.altair c.in-Session.signer c.in-Session.watch) (asked_of (map string_bytes c.args.words.now)) _ _ _ _ _ is (record {
       read_fault = c.run_session.ensures.read_fault;
       write_fault = c.run_session.ensures.write_fault;
       disk_fault = c.run_session.ensures.disk_fault;

@@ -1,0 +1,5 @@
+pub mod Containers
+pub mod Names
+pub mod Blocks
+pub mod Versions
+pub mod AnyBlocks
