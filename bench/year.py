@@ -5,6 +5,7 @@ import http.client, json, mmap, os, random, signal, socket, struct, subprocess, 
 program, built, weeks, keys = os.path.abspath(sys.argv[1]), sys.argv[2], int(sys.argv[3]), int(sys.argv[4])
 lanes, seed = int(os.environ.get('LANES', '4')), int(os.environ.get('SEED', '1'))
 slots_a_week = int(os.environ.get('SLOTS_A_WEEK', '50400'))
+inside = os.environ.get('PEERS', 'inside') == 'inside'
 keep_epochs, more_words = os.environ.get('KEEP_EPOCHS', '64'), os.environ.get('WORDS', '').split()
 
 GENESIS_ROOT, TOKEN = '0x' + '5a' * 32, 'a-token-of-36-characters-0123456789'
@@ -13,9 +14,9 @@ FIRST_SLOT = FIRST_EPOCH * SLOTS
 LIMIT = keys + weeks + 64
 PERIOD = max(1, int(os.environ.get('VALIDATORS', '1000000')) // keys)
 MIB = 1 << 20
-# the numbers that the peers keep (`enum count` of year_peers.c), and how many there is room for before the epochs of the last votes
+# the numbers that the peers keep (`enum count` of year_answers.h), and how many there is room for before the epochs of the last votes
 COUNTS = ('requests', 'busy', 'votes', 'votes_again', 'votes_late', 'votes_wrong', 'gaps', 'blocks', 'blocks_again', 'blocks_late', 'turn',
-          'lines_sent', 'lines_other', 'starts', 'no_key', 'faults')
+          'lines_sent', 'lines_other', 'starts', 'no_key', 'faults', 'next_block')
 ALL_COUNTS = 64
 QUIET_SECONDS = 60
 
@@ -65,10 +66,19 @@ def count(name):
 def last_epoch(number):
     return struct.unpack_from('<q', counts, 8 * (ALL_COUNTS + number))[0]
 
+def peer_words():
+    return [str(word) for word in (genesis_time, keys, LIMIT, PERIOD, clock_path, counts_path, os.path.join(folder, 'notes'))]
+
 def start_peers():
-    words = [os.path.join(built, 'peers'), genesis_time, keys, LIMIT, PERIOD, FIRST_EPOCH, clock_path, counts_path, os.path.join(folder, 'notes'), os.path.join(folder, 'lines')]
+    """The process of the peers and their ports. Peers inside the program have ports that nobody listens at, and no process."""
+    if inside:
+        held.extend(socket.socket() for _ in range(2))
+        for it in held:
+            it.bind(('127.0.0.1', 0))
+        return None, [str(it.getsockname()[1]) for it in held]
+    words = [os.path.join(built, 'peers'), *peer_words(), os.path.join(folder, 'lines')]
     with open(os.path.join(folder, 'peers'), 'ab') as errors:
-        started.append(subprocess.Popen([str(word) for word in words], stdout=subprocess.PIPE, stderr=errors, text=True))
+        started.append(subprocess.Popen(words, stdout=subprocess.PIPE, stderr=errors, text=True))
     ports = started[-1].stdout.readline().split()
     wanted('the peers do not start', len(ports) == 2)
     return started[-1], ports
@@ -79,9 +89,10 @@ def serve(*words):
     """Starts the program over the driven clock. Its lines go to the peers."""
     line = [program, 'serve', '--genesis', GENESIS_ROOT, '--journal', journal, '--signer', 'http://127.0.0.1:' + ports[1], '--listen', '127.0.0.1:%d' % port,
             '--token', TOKEN, '--lanes', str(lanes), *keep_words, *more_words, *words, 'http://127.0.0.1:' + ports[0]]
-    surroundings = {**os.environ, 'LD_PRELOAD': os.path.join(built, 'clock.so'), 'YEAR_CLOCK': clock_path}
+    surroundings = {**os.environ, 'LD_PRELOAD': os.path.join(built, 'inside.so' if inside else 'clock.so'), 'YEAR_CLOCK': clock_path,
+                    'YEAR_PEERS': ' '.join([*peer_words(), *ports])}
     # a pipe that the peers do not read is an error here, rather than a wait
-    lines = os.open(os.path.join(folder, 'lines'), os.O_WRONLY | os.O_NONBLOCK)
+    lines = os.open(os.devnull if inside else os.path.join(folder, 'lines'), os.O_WRONLY | os.O_NONBLOCK)
     os.set_blocking(lines, True)
     with os.fdopen(lines, 'wb') as out, open(os.path.join(folder, 'errors'), 'ab') as errors:
         started.append(subprocess.Popen(line, stdin=subprocess.DEVNULL, stdout=out, stderr=errors, env=surroundings))
@@ -96,7 +107,7 @@ def ended(child, status):
 def look(child):
     """Stops where the program or its peers ended, or nothing was asked for a while."""
     wanted('the program ended with status %s' % child.poll(), child.poll() is None)
-    wanted('the peers ended with status %s' % peers.poll(), peers.poll() is None)
+    wanted('the peers ended with status %s' % (peers and peers.poll()), inside or peers.poll() is None)
     asked = count('requests')
     if asked != watched[0]:
         watched[:] = [asked, time.monotonic()]
@@ -188,8 +199,8 @@ class Due:
         first = lambda number, slot: -((number % SLOTS - slot) // SLOTS)
         return sum(max(0, first(n, min(ended or until, until)) - first(n, begun)) for n, stints in self.stints.items() for begun, ended in stints)
 
-    def behind(self, until):
-        """How many votes that were due before a slot are missing behind the last vote of their key."""
+    def open_at_end(self, until):
+        """How many votes that were due before a slot are missing after the last vote of their key."""
         missing = 0
         for number, stints in self.stints.items():
             first = max(last_epoch(number) + 1, FIRST_EPOCH)
@@ -231,14 +242,15 @@ def restart(child, pace):
 # ---- a week
 
 def one_week(week, child):
-    """Gives the program that runs at its end, and the most that was resident, and that the journal had."""
+    """Gives the program that runs at its end, what was resident at the looks, the most that ever was, and the most that a file of the journal had."""
     end = FIRST_SLOT + week * slots_a_week
     acts = sorted((end - slots_a_week * draw.uniform(0.05, 1), act) for act in ('hand over', 'restart'))
     begun, first, up = time.monotonic(), slot_now(), 0
-    most, largest = 0, 0
+    most, largest, resident = 0, 0, []
     while True:
         look(child)
         largest = max(largest, *sizes())
+        resident.append(memory(child, 'VmRSS'))
         slot = slot_now()
         while acts and acts[0][0] <= slot:
             act = acts.pop(0)[1]
@@ -248,23 +260,23 @@ def one_week(week, child):
                 up = slot_now()
             else:
                 hand_over(week, child)
-        # a program that was just started is looked at an epoch later, which matters in short weeks alone
+        # a program that was just started is looked at an epoch later, which matters in short weeks only
         if slot >= max(end, up + SLOTS):
-            return child, max(most, memory(child, 'VmHWM')), largest
+            return child, sum(resident) / len(resident), max(most, memory(child, 'VmHWM')), largest
         time.sleep(0.01)
 
-def row_of(week, child, most, largest, took):
+def row_of(week, child, mean, most, largest, took):
     until = slot_now()
-    posted, lost = count('votes'), due.behind(until)
+    posted, lost = count('votes'), due.open_at_end(until)
     due.take_notes()
     expected, lost = due.expected(until), lost + due.missed
     blocks, lost_blocks = due.lost_blocks(until)
     a, b = sizes()
     turn = count('turn') / 1e9
     struct.pack_into('<Q', counts, 8 * COUNTS.index('turn'), 0)
-    row = dict(week=week, resident=memory(child, 'VmRSS'), most=most, a=a, b=b, largest=max(largest, a, b), expected=expected, posted=posted, lost=lost,
+    row = dict(week=week, mean=mean, resident=memory(child, 'VmRSS'), most=most, a=a, b=b, largest=max(largest, a, b), expected=expected, posted=posted, lost=lost,
                late=count('votes_late'), again=count('votes_again'), blocks=count('blocks'), lost_blocks=len(lost_blocks), turn=turn, took=took)
-    print('; '.join(['%(week)d', '%(resident)d', '%(most)d', '%(a)d', '%(b)d', '%(largest)d', '%(expected)d', '%(posted)d', '%(lost)d', '%(late)d', '%(again)d',
+    print('; '.join(['%(week)d', '%(mean).0f', '%(resident)d', '%(most)d', '%(a)d', '%(b)d', '%(largest)d', '%(expected)d', '%(posted)d', '%(lost)d', '%(late)d', '%(again)d',
                      '%(blocks)d', '%(lost_blocks)d', '%(turn).3f', '%(took).0f']) % row, flush=True)
     return row
 
@@ -290,12 +302,12 @@ def whole_handover():
 
 def judge(rows, opened, active, handover):
     first, last = rows[0], rows[-1]
-    resident, most = max(row['resident'] for row in rows), max(row['most'] for row in rows)
+    resident, most = max(max(row['mean'], row['resident']) for row in rows), max(row['most'] for row in rows)
     peak = max(row['largest'] for row in rows)
     room = 64 * max(1, keys / 1000)
     goals = [
-        ('memory stays', abs(last['resident'] / first['resident'] - 1) <= 0.2, 'resident at the end of the first week %d KiB, of the last %d' % (first['resident'], last['resident'])),
-        ('memory is small', resident <= room * 1024, 'at most %.1f MiB were resident at the end of a week, of %d (%.1f at any moment)' % (resident / 1024, room, most / 1024)),
+        ('memory stays', abs(last['mean'] / first['mean'] - 1) <= 0.2, 'resident in the mean of the first week %d KiB, of the last %d' % (first['mean'], last['mean'])),
+        ('memory is small', resident <= room * 1024, 'at most %.1f MiB were resident in the mean and at the end of a week, of %d (%.1f at any moment)' % (resident / 1024, room, most / 1024)),
         ('journal is small', peak <= 65 * MIB, 'a file had at most %.1f MiB at any look, of 64 and what an epoch adds' % (peak / MIB)),
         ('opening', opened < 0.3, '%.3f s, of 0.3' % opened),
         ('no vote lost', last['lost'] == last['late'] == count('votes_wrong') == 0 and last['posted'] >= last['expected'],
@@ -319,7 +331,9 @@ os.mkdir(folder)
 journal = os.path.join(folder, 'journal')
 os.mkfifo(os.path.join(folder, 'lines'))
 clock_path, ahead = place('clock', 8)
-counts_path, counts = place('counts', 8 * (ALL_COUNTS + LIMIT))
+counts_path, counts = place('counts', 8 * (ALL_COUNTS + LIMIT) + LIMIT)
+for number in range(LIMIT):
+    struct.pack_into('<q', counts, 8 * (ALL_COUNTS + number), FIRST_EPOCH - 1)
 watched = [0, time.monotonic()]
 draw = random.Random(seed)
 genesis_time = int(time.time())
@@ -337,7 +351,7 @@ print('serve %s, %d lanes; %d weeks of %d slots, %d keys, a block in each slot t
     ' '.join(keep_words + more_words) if keep_words + more_words else 'without --keep-epochs' + ('' if has_keep else ', which this program lacks'),
     lanes, weeks, slots_a_week, keys, PERIOD, seed), flush=True)
 
-started = []
+started, held = [], []
 try:
     peers, ports = start_peers()
     # keys are taken in, a hundred at once, while no duties are done
@@ -351,12 +365,12 @@ try:
     due.newest = keys - 1
     drive_to(genesis_time + FIRST_SLOT * SECONDS + 0.5)
     child = serve()
-    print('week; resident KiB; highest KiB; bytes of PATH.a; of PATH.b; highest of either; votes expected; posted; lost; late; posted again; blocks; blocks lost; longest turn s; real s', flush=True)
+    print('week; mean KiB; resident KiB; highest KiB; bytes of PATH.a; of PATH.b; highest of either; votes expected; posted; lost; late; posted again; blocks; blocks lost; longest turn s; real s', flush=True)
     rows = []
     for week in range(1, weeks + 1):
         begun = time.monotonic()
-        child, most, largest = one_week(week, child)
-        rows.append(row_of(week, child, most, largest, time.monotonic() - begun))
+        child, mean, most, largest = one_week(week, child)
+        rows.append(row_of(week, child, mean, most, largest, time.monotonic() - begun))
     child.kill()
     ended(child, -signal.SIGKILL)
     asked, busy = count('requests'), count('busy')
