@@ -7,7 +7,11 @@
 # 20 ms. Beside it stand the best that so many lanes allow, which is the votes of the fullest lane, each with the servers' own time for its
 # three requests (from the accepted connection to the answer, the mean of the run), and a plain client, a process for each lane that sends
 # as many requests of the same kinds over plain sockets, one after another. Votes that were begun in their slot are cast to the last, past its
-# end too, 8 s after its third: the last column is how many were posted before. It takes about six minutes.
+# end too, 8 s after its third: the last column is how many were posted before. Then 100 votes of a slot are cast with --aggregate, of whose
+# validators about a sixteenth are chosen, in 1, 4 and 16 lanes with a service that takes 20 ms: from two thirds of the slot to the last
+# aggregate, beside the best that so many lanes allow, which is the aggregates of the fullest lane with the servers' time for their three
+# requests. Each validator that is chosen must post once, with its proof, the votes' data and a signature of the service, and no other one. It
+# takes about eight minutes.
 # Usage: bench/serve.sh [VOTES ..]     (10 100 1000 where none is given; PROGRAM=PATH for another program)
 set -eu
 cd "$(dirname "$0")/.."
@@ -129,5 +133,38 @@ for delay, lanes in (0, 1), (20, 1), (20, 4), (20, 16):
         at, own = voted('v%d-%d-%d' % (delay, lanes, count), count, lanes)
         best, beside, in_slot = math.ceil(count / lanes) * own, plain(count, lanes), sum(t < SLOT - THIRD for t in at)
         print('%d; %d; %d; %.3f; %.3f; %.2f; %.3f; %.2f; %d' % (delay, lanes, count, at[-1], best, at[-1] / best, beside, at[-1] / beside, in_slot), flush=True)
+
+# ---- how long aggregates take
+
+MEMBERS = 256
+
+def aggregated(journal, count, lanes):
+    """The seconds from two thirds of a slot to each aggregate, in order, and the servers' own time for one: the mean."""
+    child, third = vote_once(journal, count, lanes, options=('--aggregate',), committee=MEMBERS)
+    lines, _ = ended(child)
+    asked, signatures = node.take(), signer.take()
+    proofs = {r.target[len(SIGN):]: signature_of(r.target[len(SIGN):], r.body['signingRoot']) for r in signatures if r.body['type'] == 'AGGREGATION_SLOT'}
+    wanted('the slot is signed by %d validators' % len(proofs), sorted(proofs) == sorted(key(n) for n in range(count)))
+    chosen = [key(n) for n in range(count) if is_aggregator(proofs[key(n)], MEMBERS)]
+    told = ''.join('1 vote %s sent\n' % key(n) for n in range(count)) + ''.join('1 aggregate %s sent\n' % k for k in chosen)
+    wanted('lines:\n' + lines, lines == told)
+    posts = [r for r in asked if r.target == AGGREGATES]
+    given = {signature_of(r.target[len(SIGN):], r.body['signingRoot']) for r in signatures if r.body['type'] == 'AGGREGATE_AND_PROOF'}
+    for r in posts:
+        message = r.body[0]['message']
+        wanted('a post: %s' % r.body, len(r.body) == 1 and message['aggregate']['data'] == data_at(1) and r.body[0]['signature'] in given
+               and message['selection_proof'] == proofs[key(int(message['aggregator_index']))])
+    wanted('posts', sorted(key(int(r.body[0]['message']['aggregator_index'])) for r in posts) == chosen)
+    wanted('an aggregate is early', min(r.begun for r in asked if r.target.startswith(AGGREGATE) or r.target == AGGREGATES) >= third + 4)
+    kinds = [[r for r in asked if r.target.startswith(AGGREGATE + '?')], [r for r in signatures if r.body['type'] == 'AGGREGATE_AND_PROOF'], posts]
+    wanted('requests of each kind: %s' % [len(of) for of in kinds], [len(of) for of in kinds] == [len(chosen)] * 3)
+    return sorted(r.ended - third - 4 for r in posts), sum(r.ended - r.begun for of in kinds for r in of) / len(chosen)
+
+print('lanes; votes; aggregates; seconds from two thirds of the slot to the last; best; ratio', flush=True)
+signer.set(delay=0.02)
+for lanes in 1, 4, 16:
+    at, own = aggregated('a%d' % lanes, 100, lanes)
+    best = math.ceil(len(at) / lanes) * own
+    print('%d; 100; %d; %.3f; %.3f; %.2f' % (lanes, len(at), at[-1], best, at[-1] / best), flush=True)
 shutil.rmtree(folder)
 PY

@@ -7,6 +7,7 @@ GENESIS_ROOT, ZERO, TOKEN = '0x' + '5a' * 32, '0x' + '00' * 32, 'a-token-of-36-c
 GARBLE = 'what no question is answered by'
 FORK = {'previous_version': '0x00000001', 'current_version': '0x00000001', 'epoch': '0'}
 DATA, VOTES, BLOCKS, SIGN = '/eth/v1/validator/attestation_data', '/eth/v1/beacon/pool/attestations', '/eth/v1/beacon/blocks', '/api/v1/eth2/sign/'
+AGGREGATE, AGGREGATES = '/eth/v1/validator/aggregate_attestation', '/eth/v1/validator/aggregate_and_proofs'
 SLOT, THIRD = 12, 4
 folder = tempfile.mkdtemp()
 
@@ -130,7 +131,7 @@ def tell(due, method, target, body):
         return 200, {'dependent_root': ZERO, 'data': rows}
     if path.startswith('/eth/v1/validator/duties/attester/'):
         wanted, epoch = {int(i) for i in body}, int(path.split('/')[-1])
-        rows = [{'pubkey': key(n), 'validator_index': str(n), 'committee_index': '0', 'committee_length': '2048', 'committees_at_slot': '1',
+        rows = [{'pubkey': key(n), 'validator_index': str(n), 'committee_index': '0', 'committee_length': str(due.get('committee', 2048)), 'committees_at_slot': '1',
                  'validator_committee_index': str(n % 2048), 'slot': str(slot)} for n, slot in due['votes'].items() if n in wanted and slot // 32 == epoch]
         return 200, {'dependent_root': ZERO, 'data': rows}
     if path == DATA:
@@ -139,7 +140,9 @@ def tell(due, method, target, body):
         slot = int(path.split('/')[-1])
         version = due.get('versions', {}).get(slot, 'phase0')
         return 200, {'version': version, 'data': block_at(due, slot, dict(asked)['randao_reveal'], version)}
-    if path in (VOTES, BLOCKS):
+    if path == AGGREGATE:
+        return 200, {'data': {'aggregation_bits': '0x' + 'ff' * 256 + '01', 'data': data_at(int(dict(asked)['slot'])), 'signature': '0x' + '77' * 96}}
+    if path in (VOTES, BLOCKS, AGGREGATES):
         due['refuses'] = due.get('refuses', 0) - 1
         return (503, {'code': 503, 'message': 'takes none'}) if due.get('takes_none') or due['refuses'] >= 0 else (200, None)
     return 404, {'code': 404, 'message': 'not here'}
@@ -181,10 +184,14 @@ def sessions(journal, requests):
     wanted('session: ' + told.stdout + told.stderr, told.returncode == 0)
     return [json.loads(line) for line in told.stdout.splitlines()]
 
-def vote_once(journal, count, lanes, connections=0):
+def is_aggregator(signature, members):
+    """Whether a validator with this signature of the slot aggregates the votes of its committee (consensus-specs)."""
+    return int.from_bytes(hashlib.sha256(bytes.fromhex(signature[2:])).digest()[:8], 'little') % max(1, members // 16) == 0
+
+def vote_once(journal, count, lanes, connections=0, options=(), **due):
     """Starts the program with so many keys, each of which votes in slot 1; gives it, and the moment of the third of that slot."""
     sessions(journal, [{'op': 'activate', 'pubkey': key(n)} for n in range(count)])
     begun = int(time.time()) - 8
-    node.set(genesis_time=begun, blocks={}, votes={n: 1 for n in range(count)})
+    node.set(genesis_time=begun, blocks={}, votes={n: 1 for n in range(count)}, **due)
     node.take(), signer.take()
-    return serve(journal, 2, connections, lanes), begun + SLOT + THIRD
+    return serve(journal, 2, connections, lanes, options=options), begun + SLOT + THIRD

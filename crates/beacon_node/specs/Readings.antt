@@ -10,7 +10,7 @@ use Rattle.json_members.specs.Reading.{json_of, text_in, number_in, bytes_in, fl
 use Rattle.phase0_types.specs.Shapes.{Shape}
 use Rattle.phase0_types.specs.Values.{ValueOf}
 use Rattle.phase0_types.specs.Reading.{read_at}
-use Rattle.phase0_types.specs.Containers.{fork, checkpoint, attestation_data}
+use Rattle.phase0_types.specs.Containers.{attestation, attestation_data, checkpoint, fork}
 use Rattle.altair_blocks.specs.AnyBlocks.{read_block}
 use Rattle.altair_blocks.specs.Versions.{version_named}
 use Rattle.http_wire.specs.declared.message.Response.{Response}
@@ -25,7 +25,7 @@ use Rattle.node_calls.specs.declared.answer.ProposerRow.{ProposerRow}
 use Rattle.node_calls.specs.declared.answer.AttesterRow.{AttesterRow}
 use Rattle.node_calls.specs.declared.answer.LivenessRow.{LivenessRow}
 use Rattle.node_calls.specs.Fitting.{are_proposer_rows, are_attester_rows, most_rows}
-use Rattle.beacon_node.specs.Said.{Said, genesis_is, fork_is, syncing_is, validators_are, proposers_are, attesters_are, data_is, block_is, liveness_is}
+use Rattle.beacon_node.specs.Said.{Said, genesis_is, fork_is, syncing_is, validators_are, proposers_are, attesters_are, data_is, block_is, aggregate_is, liveness_is}
 
 -- the next reading, where this one gave a value
 infixl 10 ◌>>=◌
@@ -152,6 +152,7 @@ answer_in (ask.Proposer epoch) d = proposers_in epoch d
 answer_in (ask.Attester epoch indices) d = attesters_in epoch d
 answer_in (ask.Data slot committee) d = details_in d
 answer_in (ask.Block slot reveal) d = block_in d
+answer_in (ask.Aggregate root slot) d = option_map aggregate_is (data_value attestation d)
 answer_in (ask.Liveness epoch indices) d = option_map liveness_is (rows_in liveness_row d)
 
 -- and that a body gives

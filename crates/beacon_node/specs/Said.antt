@@ -2,9 +2,10 @@
 use Rattle.std.specs.Prelude.{ℕ, Bool, List, Result, Ok, Err}
 use Rattle.edge_kit.specs.declared.bytes.Root.{Root}
 use Rattle.phase0_types.specs.Values.{ValueOf}
-use Rattle.phase0_types.specs.Containers.{fork, attestation_data}
+use Rattle.phase0_types.specs.Containers.{attestation, attestation_data, fork}
 use Rattle.phase0_types.specs.Forks.{fork_value}
 use Rattle.phase0_types.specs.Attestations.{attestation_data_value}
+use Rattle.phase0_blocks.specs.Votes.{attestation_value}
 use Rattle.altair_blocks.specs.AnyBlocks.{BlockValue, block_value}
 use Rattle.node_calls.specs.declared.answer.Answer.{Answer}
 use Rattle.node_calls.specs.declared.answer.Answer.TheVariants as answer
@@ -23,6 +24,7 @@ pub data Said : Type 0 where
   attesters_are : (dependent_root : Root) → List AttesterRow → Said
   data_is : ValueOf attestation_data → Said
   block_is : BlockValue → Said
+  aggregate_is : ValueOf attestation → Said
   liveness_is : List LivenessRow → Said
 
 abbrev pub said : Answer → Said
@@ -34,6 +36,7 @@ said (answer.Proposer root rows) = proposers_are root rows
 said (answer.Attester root rows) = attesters_are root rows
 said (answer.Data details) = data_is (attestation_data_value details)
 said (answer.Block block) = block_is (block_value block)
+said (answer.Aggregate aggregate) = aggregate_is (attestation_value aggregate)
 said (answer.Liveness rows) = liveness_is rows
 
 -- of a reply

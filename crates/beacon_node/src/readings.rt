@@ -101,6 +101,7 @@ fn answer_in(alloc: Global, ask: &Ask, value: &Value) -> Result<Option<Answer>, 
         Ask::Attester { epoch, .. } => attesters_in(alloc, *epoch, value),
         Ask::Data { .. } => details_in(alloc, value),
         Ask::Block { .. } => block_in(alloc, value),
+        Ask::Aggregate { .. } => Ok(data_in(alloc, value)?.map(Answer::Aggregate)),
         Ask::Liveness { .. } => Ok(rows_in(alloc, value)?.map(Answer::Liveness)),
     }
 }

@@ -1,12 +1,12 @@
 //! What a beacon node is asked and given, as texts.
 ghost use Rattle.std.specs.Prelude.{◌≡◌, ◌++◌, codes, decimal, IfOk, OnOk, string_bytes};
 ghost use Rattle.edge_kit.specs.Texts.{hex_text};
-ghost use Rattle.serde_json.specs.Data.{array, string};
+ghost use Rattle.serde_json.specs.Data.{array, item, no_items, string};
 ghost use Rattle.serde_json.specs.View.{items_view, view};
 ghost use Rattle.beacon_node.specs.Requests as request;
 
 use altair_blocks::signed_to_value;
-use edge_kit::{PubKey, Sig, push_hex};
+use edge_kit::{PubKey, Root, Sig, push_hex};
 use http::Method;
 use node_calls::{Ask, Post};
 use phase0_types::Shaped;
@@ -63,6 +63,10 @@ fn ask_path(alloc: Global, ask: &Ask) -> Result<String, AllocError>
             slot,
             randao_reveal,
         } => block_path(alloc, *slot, randao_reveal),
+        Ask::Aggregate {
+            attestation_data_root,
+            slot,
+        } => aggregate_path(alloc, attestation_data_root, *slot),
         Ask::Liveness { epoch, .. } => with_number(alloc, "/eth/v1/validator/liveness/", *epoch),
     }
 }
@@ -98,6 +102,23 @@ fn block_path(alloc: Global, slot: u64, randao_reveal: &Sig) -> Result<String, A
     push_hex(alloc, &mut path, &randao_reveal.0)?;
     path.push_str("&graffiti=")?;
     push_hex(alloc, &mut path, &[0; 32])?;
+    Ok(path)
+}
+
+fn aggregate_path(
+    alloc: Global,
+    attestation_data_root: &Root,
+    slot: u64,
+) -> Result<String, AllocError>
+    ensures { IfOk result (λ path. string_bytes path ≡ request.aggregate_path attestation_data_root.now slot) }
+{
+    let mut path = String::from_str(
+        alloc,
+        "/eth/v1/validator/aggregate_attestation?attestation_data_root=",
+    )?;
+    push_hex(alloc, &mut path, &attestation_data_root.0)?;
+    path.push_str("&slot=")?;
+    push_number(alloc, &mut path, slot)?;
     Ok(path)
 }
 
@@ -163,7 +184,7 @@ fn number_value(alloc: Global, number: u64) -> Result<Value, AllocError>
     number.to_value(alloc)
 }
 
-/// The request that hands a vote or a block over.
+/// The request that hands a vote, a block or an aggregate over.
 pub(crate) fn post_request(alloc: Global, post: &Post) -> Result<NodeRequest, AllocError>
     ensures method { IfOk result (λ r. r.method ≡ codes "POST") }
     ensures path { IfOk result (λ r. string_bytes r.path ≡ request.post_path post.now) }
@@ -183,6 +204,7 @@ fn post_path(post: &Post) -> &'static str
     match post {
         Post::Vote(_) => "/eth/v1/beacon/pool/attestations",
         Post::Block(_) => "/eth/v1/beacon/blocks",
+        Post::Aggregate(_) => "/eth/v1/validator/aggregate_and_proofs",
     }
 }
 
@@ -190,10 +212,14 @@ fn post_value(alloc: Global, post: &Post) -> Result<Value, AllocError>
     ensures { IfOk result (λ v. view v ≡ request.post_data post.now) }
 {
     match post {
-        Post::Vote(vote) => {
-            let vote = vote.to_value(alloc)?;
-            json!(in alloc; [vote])
-        }
+        Post::Vote(vote) => list_of_one(alloc, vote.to_value(alloc)?),
         Post::Block(signed) => signed_to_value(alloc, signed),
+        Post::Aggregate(signed) => list_of_one(alloc, signed.to_value(alloc)?),
     }
+}
+
+fn list_of_one(alloc: Global, value: Value) -> Result<Value, AllocError>
+    ensures { IfOk result (λ v. view v ≡ array (item (view value) no_items)) }
+{
+    json!(in alloc; [value])
 }

@@ -5,7 +5,7 @@ use crate::words::{key, numbers_of, root};
 use altair_blocks::{AltairBlock, AltairBlockBody, AnyBlock, SyncAggregate};
 use edge_kit::{Items, Root, Sig};
 use node_calls::{Answer, AttesterRow, LivenessRow, ProposerRow, ValidatorRow};
-use phase0_blocks::{BeaconBlock, BeaconBlockBody};
+use phase0_blocks::{Attestation, BeaconBlock, BeaconBlockBody};
 use phase0_types::{AttestationData, BoundedList, Checkpoint, Eth1Data, Fork};
 use std::alloc::Global;
 
@@ -104,12 +104,12 @@ fn votes(alloc: Global, numbers: &[u64]) -> Option<Answer> {
     })
 }
 
-/// `data=SLOT,COMMITTEE,ROOT`: what a committee is to vote, from epoch 0 to the slot's.
-fn details(numbers: &[u64]) -> Option<Answer> {
+/// What a committee is to vote, from epoch 0 to the slot's.
+fn details(numbers: &[u64]) -> Option<AttestationData> {
     let [slot, committee, head] = numbers else {
         return None;
     };
-    Some(Answer::Data(AttestationData {
+    Some(AttestationData {
         slot: *slot,
         index: *committee,
         beacon_block_root: root(*head),
@@ -121,7 +121,30 @@ fn details(numbers: &[u64]) -> Option<Answer> {
             epoch: *slot / 32,
             root: root(0),
         },
+    })
+}
+
+/// `data=SLOT,COMMITTEE,ROOT`: what a committee is to vote.
+fn data(numbers: &[u64]) -> Option<Answer> {
+    Some(Answer::Data(details(numbers)?))
+}
+
+/// `aggregate=SLOT,COMMITTEE,ROOT`: the votes of all members of a committee for that.
+fn aggregate(alloc: Global, numbers: &[u64]) -> Option<Answer> {
+    Some(Answer::Aggregate(Attestation {
+        aggregation_bits: all_members(alloc)?,
+        details: details(numbers)?,
+        signature: Sig([0; 96]),
     }))
+}
+
+/// A set bit for each of the 128 members of a committee.
+fn all_members(alloc: Global) -> Option<BoundedList<bool, 2048>> {
+    let bits = vec![in alloc; true; 128].ok()?;
+    match BoundedList::try_new(bits) {
+        Ok(bits) => Some(bits),
+        Err(_) => None,
+    }
 }
 
 fn no_items<T: Drop, const LIMIT: usize>(alloc: Global) -> BoundedList<T, LIMIT> {
@@ -186,7 +209,8 @@ fn answer(alloc: Global, name: &str, numbers: &[u64]) -> Option<Answer> {
         "live" => liveness(alloc, numbers),
         "proposes" => proposes(alloc, numbers),
         "votes" => votes(alloc, numbers),
-        "data" => details(numbers),
+        "data" => data(numbers),
+        "aggregate" => aggregate(alloc, numbers),
         "block" => block(alloc, numbers),
         "altair_block" => altair_block(alloc, numbers),
         _ => None,

@@ -17,6 +17,7 @@ fn setup_at(altair: Option<u64>) -> DutySetup {
         fork: FORK,
         altair,
         watch: false,
+        aggregate: false,
         slots: 1,
         keep_epochs: None,
     }

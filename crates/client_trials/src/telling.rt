@@ -29,6 +29,10 @@ fn word(ask: &Ask) -> &'static str {
             slot: _,
             randao_reveal: _,
         } => "block",
+        Ask::Aggregate {
+            attestation_data_root: _,
+            slot: _,
+        } => "aggregate",
         Ask::Liveness {
             epoch: _,
             indices: _,
@@ -45,6 +49,10 @@ fn write_post(text: &mut String, call: &PostCall) -> Result<(), AllocError> {
             AnyBlock::Phase0(block) => write!(text, " block@{}{star}", block.slot),
             AnyBlock::Altair(block) => write!(text, " altair_block@{}{star}", block.slot),
         },
+        Post::Aggregate(signed) => {
+            let slot = signed.message.aggregate.details.slot;
+            write!(text, " aggregate@{slot}{star}")
+        }
     }
 }
 

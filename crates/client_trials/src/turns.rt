@@ -1,9 +1,10 @@
 //! The subject `turns`: turns of the duty loop. The first part of a line has the words `start=N`, when the clock starts;
-//! `turns=N`, how many are taken; `watches=1` where keys are watched; `late=MOMENT,SECONDS`, the wait that is over
-//! late; `jump=MOMENT,REACHED`, the moment at which the wait for another is over; `keep=N` of how many
-//! epochs all is kept, all of it where that is absent; and `joins=KEY`, the keys that become active after the first of
-//! two turns. The second part describes the loop's own desk and node, and each further part a lane. The chain began at
-//! second 1000. Where not all is kept, what is kept at the loop's own desk is written.
+//! `turns=N`, how many are taken; `watches=1` where keys are watched; `aggregates=1` where validators that are chosen
+//! aggregate the votes of their committee; `late=MOMENT,SECONDS`, the wait that is over late; `jump=MOMENT,REACHED`,
+//! the moment at which the wait for another is over; `keep=N` of how many epochs all is kept, all of it where that is
+//! absent; and `joins=KEY`, the keys that become active after the first of two turns. The second part describes the
+//! loop's own desk and node, and each further part a lane. The chain began at second 1000. Where not all is kept, what
+//! is kept at the loop's own desk is written.
 ghost use Rattle.std.specs.Prelude.{OnOk};
 ghost use Rattle.duty_work.specs.Houses.{IsHolding};
 
@@ -44,25 +45,31 @@ fn clock_of(alloc: Global, part: &str) -> Option<TrialClock> {
     Some(TrialClock::new(MemClock::new(start, delays), jump))
 }
 
-fn course_of(alloc: Global, part: &str) -> Option<Course> {
+fn setup_of(alloc: Global, part: &str) -> Option<DutySetup> {
     let watch = number_in(part, "watches")? == 1;
+    let aggregate = number_in(part, "aggregates")? == 1;
     let slots = number_in(part, "turns")?;
     let keep_epochs = match number_in(part, "keep")? {
         0 => None,
         epochs => Some(epochs),
     };
     let altair = epoch_in(alloc, part, "altair")?;
-    let clock = clock_of(alloc, part)?;
-    let joining = keys_in(alloc, part, "joins")?;
-    let setup = DutySetup {
+    Some(DutySetup {
         genesis: root(0),
         genesis_time: 1000,
         fork: FORK,
         altair,
         watch,
+        aggregate,
         slots,
         keep_epochs,
-    };
+    })
+}
+
+fn course_of(alloc: Global, part: &str) -> Option<Course> {
+    let setup = setup_of(alloc, part)?;
+    let clock = clock_of(alloc, part)?;
+    let joining = keys_in(alloc, part, "joins")?;
     Some(Course {
         setup,
         clock,

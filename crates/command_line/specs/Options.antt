@@ -32,6 +32,10 @@ flag_in id options = option_map_or (λ text. bytes_eq text (codes "true")) (firs
 abbrev pub watch_in : List Row → Bool
 watch_in options = flag_in (codes "watch") options
 
+-- `--aggregate` was given
+abbrev pub aggregate_in : List Row → Bool
+aggregate_in options = flag_in (codes "aggregate") options
+
 -- `--quiet` was given
 abbrev pub quiet_in : List Row → Bool
 quiet_in options = flag_in (codes "quiet") options

@@ -1,5 +1,6 @@
 -- What the values of the options of `serve` write: where it listens, its token, when blocks have the Altair body, when it
--- ends, its lanes, what it keeps, how long it waits for a node, whether it reports only faults, and its nodes.
+-- ends, its lanes, whether it aggregates votes, what it keeps, how long it waits for a node, whether it reports only faults,
+-- and its nodes.
 use Rattle.std.specs.Prelude.{ℕ, ◌==◌, ◌&&◌, nat_le, nat_lt, Bool, List, [], ◌∷◌, length, Option, Some, None, is_some, option_map, filter_map, if◌then◌else◌, codes}
 use Rattle.std.specs.Char.{is_ascii_graphic}
 use Rattle.std.specs.List.{list_all, slice_split}
@@ -9,7 +10,7 @@ use Rattle.edge_kit.specs.Texts.{quoted_number}
 use Rattle.service_url.specs.Services.{Service, service_at}
 use Rattle.clap.specs.Words.{Row, Text, all_of, first_of}
 use Rattle.command_line.specs.Forks.{at_colon}
-use Rattle.command_line.specs.Options.{altair_in, at_most, between, genesis_in, journal_in, quiet_in, watch_in}
+use Rattle.command_line.specs.Options.{aggregate_in, altair_in, at_most, between, genesis_in, journal_in, quiet_in, watch_in}
 use Rattle.command_line.specs.declared.listen_address.ListenAddress.{ListenAddress}
 use Rattle.command_line.specs.declared.listen_address.ListenHost.{ListenHost}
 use Rattle.command_line.specs.declared.listen_address.ListenHost.TheVariants.{Localhost, Ipv4}
@@ -156,12 +157,12 @@ keep_epochs_in options = option_map_or epochs_at (first_of (codes "keep-epochs")
 abbrev pub timeout_in : List Row → Option ℕ
 timeout_in options = option_map_or timeout_at (first_of (codes "timeout") options) (Some 2)
 
--- what it keeps of what was signed, how long it waits for a node, and whether it tells of faults alone
+-- whether it aggregates votes, what it keeps of what was signed, how long it waits for a node, and whether it reports only faults
 abbrev pub work_in : List Row → Option WorkOptions
 work_in options = do
   keep_epochs ← keep_epochs_in options
   timeout ← timeout_in options
-  Some (record { keep_epochs = keep_epochs; timeout = timeout; quiet = quiet_in options })
+  Some (record { aggregate = aggregate_in options; keep_epochs = keep_epochs; timeout = timeout; quiet = quiet_in options })
 
 -- the nodes, in the order of the words
 abbrev pub nodes_in : List Row → Option (List Service)
@@ -183,6 +184,7 @@ serve_options_in options = do
     token = door.token;
     altair = ends.altair;
     watch = watch_in options;
+    aggregate = work.aggregate;
     slots = ends.slots;
     connections = ends.connections;
     lanes = ends.lanes;

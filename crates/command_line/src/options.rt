@@ -2,7 +2,7 @@
 ghost use Rattle.std.specs.Prelude.{◌≡◌, ◌<◌, ◌≤◌, IfOk, IfSome, map, option_map};
 ghost use Rattle.clap.specs.Words.{all_of, first_of, found_of, rows_of};
 ghost use Rattle.command_line.specs.Serving.{keep_epochs_in, lanes_in, limit_in, listen_in, signer_in, timeout_in, token_in};
-ghost use Rattle.command_line.specs.Options.{altair_in, clients_in, flag_in, fork_in, genesis_in, journal_in, number_in, quiet_in, steps_in, watch_in};
+ghost use Rattle.command_line.specs.Options.{aggregate_in, altair_in, clients_in, flag_in, fork_in, genesis_in, journal_in, number_in, quiet_in, steps_in, watch_in};
 
 use crate::fork_text::read_fork;
 use crate::kept_epochs::KeptEpochs;
@@ -57,6 +57,13 @@ pub(crate) fn watch_of(options: &ArgMatches<'_>) -> bool
     ensures { result ≡ watch_in (rows_of (found_of options.now)) }
 {
     flag_of(options, "watch")
+}
+
+/// Whether `--aggregate` was given.
+pub(crate) fn aggregate_of(options: &ArgMatches<'_>) -> bool
+    ensures { result ≡ aggregate_in (rows_of (found_of options.now)) }
+{
+    flag_of(options, "aggregate")
 }
 
 /// Whether `--quiet` was given.

@@ -5,7 +5,7 @@ ghost use Rattle.clap.specs.Words.{found_of, rows_of};
 ghost use Rattle.command_line.specs.Plans.{proxy_in, taken_as};
 ghost use Rattle.command_line.specs.Proxying.{genesis_time_in, lane_options_in, proxy_options_in};
 
-use crate::fault::{Fault, refused};
+use crate::fault::{Argument, Fault, refused};
 use crate::options::{lanes_of, limit_of, number_of, quiet_of};
 use crate::planned::{Plan, Usage};
 use crate::proxy_options::{LaneOptions, ProxyOptions};
@@ -68,7 +68,7 @@ fn read_genesis_time<'a>(options: &ArgMatches<'a>) -> Result<u64, Fault<'a>>
 {
     match number_of(options, "genesis-time") {
         Some(time) => Ok(time),
-        None => Err(Fault::GenesisTime(value_of(options, "genesis-time"))),
+        None => Err(Fault::Value(Argument::GenesisTime, value_of(options, "genesis-time"))),
     }
 }
 
@@ -77,10 +77,10 @@ fn read_lanes<'a>(options: &ArgMatches<'a>) -> Result<LaneOptions, Fault<'a>>
     ensures { result_ok result ≡ lane_options_in (rows_of (found_of options.now)) }
 {
     let Some(connections) = limit_of(options, "connections") else {
-        return Err(Fault::Connections(value_of(options, "connections")));
+        return Err(Fault::Value(Argument::Connections, value_of(options, "connections")));
     };
     let Some(lanes) = lanes_of(options) else {
-        return Err(Fault::Lanes(value_of(options, "lanes")));
+        return Err(Fault::Value(Argument::Lanes, value_of(options, "lanes")));
     };
     Ok(LaneOptions { connections, lanes })
 }

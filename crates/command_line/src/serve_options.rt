@@ -26,6 +26,8 @@ pub struct ServeOptions {
     pub altair: Option<u64>,
     /// Whether a key that becomes active signs only once it was told not live in the two epochs after.
     pub watch: bool,
+    /// Whether validators that are chosen to aggregate the votes of their committee do so.
+    pub aggregate: bool,
     /// After how many slots the duties end.
     pub slots: u64,
     /// After how many connections the Keymanager API ends.
@@ -52,6 +54,7 @@ impl fmt::Debug for ServeOptions {
             .field("token", &self.token)
             .field("altair", &self.altair)
             .field("watch", &self.watch)
+            .field("aggregate", &self.aggregate)
             .field("slots", &self.slots)
             .field("connections", &self.connections)
             .field("lanes", &self.lanes)
@@ -88,9 +91,11 @@ pub(crate) struct EndOptions {
     pub(crate) lanes: LaneCount,
 }
 
-/// What a server keeps of what was signed, how long it waits for a node, and whether it tells of faults alone.
+/// Whether a server aggregates votes, what it keeps of what was signed, how long it waits for a node, and whether it reports
+/// only faults.
 #[derive(Clone, Copy)]
 pub(crate) struct WorkOptions {
+    pub(crate) aggregate: bool,
     pub(crate) keep_epochs: KeptEpochs,
     pub(crate) timeout: NodeTimeout,
     pub(crate) quiet: bool,

@@ -5,10 +5,10 @@ ghost use Rattle.clap.specs.Words.{found_of, rows_of};
 ghost use Rattle.command_line.specs.Plans.{serve_in, taken_as};
 ghost use Rattle.command_line.specs.Serving.{door_in, ends_in, nodes_in, serve_options_in, services_of, signing_in, work_in};
 
-use crate::fault::{Fault, refused};
+use crate::fault::{Argument, Fault, refused};
 use crate::options::{
-    altair_of, genesis_of, journal_of, keep_epochs_of, lanes_of, limit_of, listen_of, quiet_of,
-    signer_of, text_of, texts_of, timeout_of, token_of, watch_of,
+    aggregate_of, altair_of, genesis_of, journal_of, keep_epochs_of, lanes_of, limit_of, listen_of,
+    quiet_of, signer_of, text_of, texts_of, timeout_of, token_of, watch_of,
 };
 use crate::planned::{Plan, Usage};
 use crate::serve_options::{DoorOptions, EndOptions, ServeOptions, SigningOptions, WorkOptions};
@@ -65,6 +65,7 @@ fn read_options<'a>(
         token: door.token,
         altair: ends.altair,
         watch: watch_of(options),
+        aggregate: work.aggregate,
         slots: ends.slots,
         connections: ends.connections,
         lanes: ends.lanes,
@@ -83,13 +84,13 @@ pub(crate) fn read_signing<'a>(
     ensures { IfOk result (λ read. result_ok read ≡ signing_in (rows_of (found_of options.now))) }
 {
     let Some(genesis) = genesis_of(options) else {
-        return Ok(Err(Fault::Genesis(value_of(options, "genesis"))));
+        return Ok(Err(Fault::Value(Argument::Genesis, value_of(options, "genesis"))));
     };
     let Some(journal) = journal_of(alloc, options)? else {
-        return Ok(Err(Fault::Journal));
+        return Ok(Err(Fault::Value(Argument::Journal, "")));
     };
     let Some(signer) = signer_of(alloc, options)? else {
-        return Ok(Err(Fault::Signer(value_of(options, "signer"))));
+        return Ok(Err(Fault::Value(Argument::Signer, value_of(options, "signer"))));
     };
     Ok(Ok(SigningOptions {
         genesis,
@@ -106,7 +107,7 @@ pub(crate) fn read_door<'a>(
     ensures { IfOk result (λ read. result_ok read ≡ door_in (rows_of (found_of options.now))) }
 {
     let Some(listen) = listen_of(options) else {
-        return Ok(Err(Fault::Listen(value_of(options, "listen"))));
+        return Ok(Err(Fault::Value(Argument::Listen, value_of(options, "listen"))));
     };
     let Some(token) = token_of(alloc, options)? else {
         return Ok(Err(Fault::Token));
@@ -120,16 +121,16 @@ fn read_ends<'a>(options: &ArgMatches<'a>) -> Result<EndOptions, Fault<'a>>
     ensures { result_ok result ≡ ends_in (rows_of (found_of options.now)) }
 {
     let Some(altair) = altair_of(options) else {
-        return Err(Fault::Altair(value_of(options, "altair")));
+        return Err(Fault::Value(Argument::Altair, value_of(options, "altair")));
     };
     let Some(slots) = limit_of(options, "slots") else {
-        return Err(Fault::Slots(value_of(options, "slots")));
+        return Err(Fault::Value(Argument::Slots, value_of(options, "slots")));
     };
     let Some(connections) = limit_of(options, "connections") else {
-        return Err(Fault::Connections(value_of(options, "connections")));
+        return Err(Fault::Value(Argument::Connections, value_of(options, "connections")));
     };
     let Some(lanes) = lanes_of(options) else {
-        return Err(Fault::Lanes(value_of(options, "lanes")));
+        return Err(Fault::Value(Argument::Lanes, value_of(options, "lanes")));
     };
     Ok(EndOptions {
         altair,
@@ -139,17 +140,19 @@ fn read_ends<'a>(options: &ArgMatches<'a>) -> Result<EndOptions, Fault<'a>>
     })
 }
 
-/// What a server keeps of what was signed, how long it waits for a node, and whether it tells of faults alone.
+/// Whether a server aggregates votes, what it keeps of what was signed, how long it waits for a node, and whether it reports
+/// only faults.
 fn read_work<'a>(options: &ArgMatches<'a>) -> Result<WorkOptions, Fault<'a>>
     ensures { result_ok result ≡ work_in (rows_of (found_of options.now)) }
 {
     let Some(keep_epochs) = keep_epochs_of(options) else {
-        return Err(Fault::KeepEpochs(value_of(options, "keep-epochs")));
+        return Err(Fault::Value(Argument::KeepEpochs, value_of(options, "keep-epochs")));
     };
     let Some(timeout) = timeout_of(options) else {
-        return Err(Fault::Timeout(value_of(options, "timeout")));
+        return Err(Fault::Value(Argument::Timeout, value_of(options, "timeout")));
     };
     Ok(WorkOptions {
+        aggregate: aggregate_of(options),
         keep_epochs,
         timeout,
         quiet: quiet_of(options),
@@ -165,7 +168,7 @@ fn read_nodes<'a>(
 {
     match texts_of(options, "node") {
         Some(texts) => read_services(alloc, texts),
-        None => Ok(Err(Fault::Node(""))),
+        None => Ok(Err(Fault::Value(Argument::Node, ""))),
     }
 }
 
@@ -177,12 +180,12 @@ fn read_services<'a>(
     ensures { IfOk result (λ read. result_ok read ≡ services_of (map (λ text. text.now) texts.now)) }
 {
     if texts.is_empty() {
-        return Ok(Err(Fault::Node("")));
+        return Ok(Err(Fault::Value(Argument::Node, "")));
     }
     let mut services = Vec::with_capacity(alloc, texts.len())?;
     'texts: for text in texts {
         let Some(service) = ServiceUrl::read(alloc, text)? else {
-            return Ok(Err(Fault::Node(text)));
+            return Ok(Err(Fault::Value(Argument::Node, text)));
         };
         services.push(service)?;
     }

@@ -4,7 +4,7 @@ ghost use Rattle.clap.specs.Words.{found_of, kind_of, rows_of, subcommand_rows_o
 ghost use Rattle.clap.specs.declared.error.kind.ErrorKind.TheVariants.{OutOfMemory};
 ghost use Rattle.command_line.specs.Plans.{asked_at, asked_in, asked_of, help_on, is_display, merge_in, nothing, rehearse_in, session_by, session_in, session_with, show_in, shown, taken_as};
 
-use crate::fault::{Fault, refused};
+use crate::fault::{Argument, Fault, refused};
 use crate::options::{
     altair_of, clients_of, fork_of, genesis_of, journal_of, number_of, steps_of, text_of, watch_of,
 };
@@ -32,11 +32,12 @@ use std::alloc::{AllocError, Global};
 ///   `--journal` and `--signer`, in this order, is reported.
 /// - `serve` with `--genesis`, `--journal` and `--signer` as above, `--listen`, `localhost` or four decimals of at
 ///   most 255 joined by dots, `:` and a port of at most 65535, and `--token`, 1 to 256 ASCII characters from `!` to
-///   `~`; maybe `--altair`, an epoch, none where it is absent; maybe `--watch` and `--quiet`, which have no value; maybe
-///   `--slots` and `--connections`, which are 18446744073709551615 where they are absent; maybe `--lanes`, 1 to 64, which
-///   is 4 where it is absent; maybe `--keep-epochs`, 2 or more, or `all`, which is 64 where it is absent; maybe
-///   `--timeout`, 1 to 60, which is 2 where it is absent; and one node or more, each a URL as for `--signer`. Each number
-///   has 1 to 20 decimal digits and is below 2^64. The first that is out of form, in the order of this list, is reported.
+///   `~`; maybe `--altair`, an epoch, none where it is absent; maybe `--watch`, `--aggregate` and `--quiet`, which have no
+///   value; maybe `--slots` and `--connections`, which are 18446744073709551615 where they are absent; maybe `--lanes`, 1
+///   to 64, which is 4 where it is absent; maybe `--keep-epochs`, 2 or more, or `all`, which is 64 where it is absent;
+///   maybe `--timeout`, 1 to 60, which is 2 where it is absent; and one node or more, each a URL as for `--signer`. Each
+///   number has 1 to 20 decimal digits and is below 2^64. The first that is out of form, in the order of this list, is
+///   reported.
 /// - `proxy` with `--genesis`, `--journal`, `--signer`, `--listen` and `--token` as for `serve`, and `--genesis-time`, a
 ///   number; maybe `--connections`, `--lanes` and `--quiet`, also as there.
 /// - `merge` and `show`, each with `--genesis` and `--journal`.
@@ -113,11 +114,11 @@ fn session_plan(alloc: Global, options: &ArgMatches<'_>) -> Result<Result<Plan, 
     };
     let Some(fork) = fork_of(options) else {
         let text = text_of(options, "fork").unwrap_or("");
-        return refused(alloc, Fault::Fork(text));
+        return refused(alloc, Fault::Value(Argument::Fork, text));
     };
     let Some(altair) = altair_of(options) else {
         let text = text_of(options, "altair").unwrap_or("");
-        return refused(alloc, Fault::Altair(text));
+        return refused(alloc, Fault::Value(Argument::Altair, text));
     };
     let journal = text_of(options, "journal");
     let signer = text_of(options, "signer");
@@ -149,7 +150,7 @@ fn session_at(
         return session_by(alloc, genesis, fork, altair, None, url, watch);
     };
     let Some(journal) = read_path(alloc, path)? else {
-        return refused(alloc, Fault::Journal);
+        return refused(alloc, Fault::Value(Argument::Journal, ""));
     };
     session_by(alloc, genesis, fork, altair, Some(journal), url, watch)
 }
@@ -178,7 +179,7 @@ fn session_by(
         }));
     };
     let Some(signer) = ServiceUrl::read(alloc, url)? else {
-        return refused(alloc, Fault::Signer(url));
+        return refused(alloc, Fault::Value(Argument::Signer, url));
     };
     Ok(Ok(Plan::Session {
         genesis,
@@ -198,7 +199,7 @@ fn merge_plan(alloc: Global, options: &ArgMatches<'_>) -> Result<Result<Plan, Us
         return no_genesis(alloc, options);
     };
     let Some(journal) = journal_of(alloc, options)? else {
-        return refused(alloc, Fault::Journal);
+        return refused(alloc, Fault::Value(Argument::Journal, ""));
     };
     Ok(Ok(Plan::Merge { genesis, journal }))
 }
@@ -211,7 +212,7 @@ fn show_plan(alloc: Global, options: &ArgMatches<'_>) -> Result<Result<Plan, Usa
         return no_genesis(alloc, options);
     };
     let Some(journal) = journal_of(alloc, options)? else {
-        return refused(alloc, Fault::Journal);
+        return refused(alloc, Fault::Value(Argument::Journal, ""));
     };
     Ok(Ok(Plan::Show { genesis, journal }))
 }
@@ -223,17 +224,20 @@ fn rehearse_plan(alloc: Global, options: &ArgMatches<'_>) -> Result<Result<Plan,
     let Some(number) = number_of(options, "number") else {
         return refused(
             alloc,
-            Fault::Number(text_of(options, "number").unwrap_or("")),
+            Fault::Value(Argument::Number, text_of(options, "number").unwrap_or("")),
         );
     };
     let Some(clients) = clients_of(options) else {
         return refused(
             alloc,
-            Fault::Clients(text_of(options, "clients").unwrap_or("")),
+            Fault::Value(Argument::Clients, text_of(options, "clients").unwrap_or("")),
         );
     };
     let Some(steps) = steps_of(options) else {
-        return refused(alloc, Fault::Steps(text_of(options, "steps").unwrap_or("")));
+        return refused(
+            alloc,
+            Fault::Value(Argument::Steps, text_of(options, "steps").unwrap_or("")),
+        );
     };
     Ok(Ok(Plan::Rehearse {
         number,
@@ -246,7 +250,7 @@ fn no_genesis(alloc: Global, options: &ArgMatches<'_>) -> Result<Result<Plan, Us
     ensures { IfOk result (λ answer. taken_as answer ≡ nothing) }
 {
     let text = text_of(options, "genesis").unwrap_or("");
-    refused(alloc, Fault::Genesis(text))
+    refused(alloc, Fault::Value(Argument::Genesis, text))
 }
 
 /// The answer to `help`, on a command or on the program.

@@ -4,13 +4,14 @@ use Rattle.command_table.specs.declared.command.Name.{Name}
 use Rattle.command_table.specs.declared.command.Name.TheVariants as name
 use Rattle.command_table.specs.declared.row.Row.{Row}
 use Rattle.command_table.specs.declared.row.Row.TheVariants as row
-use Rattle.command_table.specs.Table.{fork_rule, genesis_rule, help_shape, merge_shape, nodes_rule, option_rule, proxy_shape, quiet_rule, rehearse_shape, serve_shape, session_shape, show_shape, value_rule, watch_rule}
+use Rattle.command_table.specs.Table.{aggregate_rule, fork_rule, genesis_rule, help_shape, merge_shape, nodes_rule, option_rule, proxy_shape, quiet_rule, rehearse_shape, serve_shape, session_shape, show_shape, value_rule, watch_rule}
 
 -- the argument of a row
 abbrev pub row_rule : Row → Rule
 row_rule row.Genesis = genesis_rule
 row_rule row.Fork = fork_rule
 row_rule row.Watch = watch_rule
+row_rule row.Aggregate = aggregate_rule
 row_rule row.Quiet = quiet_rule
 row_rule row.Nodes = nodes_rule
 row_rule (row.Value id name about) = value_rule id.now

@@ -36,9 +36,12 @@ flag_rule id = record (new_rule id) {
   action = Some SetTrue;
 }
 
--- `--watch` and `--quiet`
+-- `--watch`, `--aggregate` and `--quiet`
 abbrev pub watch_rule : Rule
 watch_rule = flag_rule (codes "watch")
+
+abbrev pub aggregate_rule : Rule
+aggregate_rule = flag_rule (codes "aggregate")
 
 abbrev pub quiet_rule : Rule
 quiet_rule = flag_rule (codes "quiet")
@@ -65,7 +68,7 @@ door_rules = option_rule (codes "listen") true ∷ option_rule (codes "token") t
 
 -- what a server may do without
 abbrev pub end_rules : List Rule
-end_rules = altair_rule ∷ watch_rule ∷ option_rule (codes "slots") false ∷ option_rule (codes "connections") false ∷ option_rule (codes "lanes") false ∷ []
+end_rules = altair_rule ∷ watch_rule ∷ aggregate_rule ∷ option_rule (codes "slots") false ∷ option_rule (codes "connections") false ∷ option_rule (codes "lanes") false ∷ []
 
 -- what it keeps of what was signed, how long it waits for a node, and whether it tells of faults alone
 abbrev pub work_rules : List Rule

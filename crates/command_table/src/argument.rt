@@ -2,7 +2,7 @@
 ghost use Rattle.std.specs.Prelude.{◌≡◌, false};
 ghost use Rattle.clap.specs.Words.{rule_of};
 ghost use Rattle.command_table.specs.Rows.{row_rule};
-ghost use Rattle.command_table.specs.Table.{flag_rule, fork_rule, genesis_rule, nodes_rule, option_rule, quiet_rule, value_rule, watch_rule};
+ghost use Rattle.command_table.specs.Table.{aggregate_rule, flag_rule, fork_rule, genesis_rule, nodes_rule, option_rule, quiet_rule, value_rule, watch_rule};
 
 use crate::row::Row;
 use clap::{Arg, ArgAction};
@@ -17,6 +17,7 @@ pub(crate) fn argument<'a>(alloc: Global, row: &Row) -> Arg<'a>
         Row::Genesis => genesis(alloc),
         Row::Fork => fork(alloc),
         Row::Watch => watch(alloc),
+        Row::Aggregate => aggregate(alloc),
         Row::Quiet => quiet(alloc),
         Row::Nodes => nodes(alloc),
         Row::Value { id, name, about } => value(alloc, id, name, about),
@@ -109,6 +110,18 @@ fn watch<'a>(alloc: Global) -> Arg<'a>
         alloc,
         "watch",
         "A key that becomes active signs only once it was told{n}not live in the two epochs after",
+    )
+}
+
+/// The option `--aggregate`.
+fn aggregate<'a>(alloc: Global) -> Arg<'a>
+    ensures local { result.global ≡ false }
+    ensures rule { rule_of result ≡ aggregate_rule }
+{
+    flag(
+        alloc,
+        "aggregate",
+        "Validators that are chosen to aggregate the votes of their{n}committee do so, two thirds into the slot",
     )
 }
 

@@ -42,6 +42,9 @@ Options of serve:
           From that epoch on, blocks have the Altair body [default: never]
       --watch
           A key that becomes active signs only once it was told not live in the two epochs after
+      --aggregate
+          Validators that are chosen to aggregate the votes of their committee do so, two thirds
+          into the slot
       --slots <N>
           Duties end after that many slots; for tests and scripts [default: no end]
       --connections <N>
@@ -115,7 +118,7 @@ const SESSION: [Row; 6] = [
 ];
 
 /// The options of `serve`, and its nodes last.
-const SERVE: [Row; 14] = [
+const SERVE: [Row; 15] = [
     Row::Genesis,
     Row::Choice {
         id: "journal",
@@ -148,6 +151,7 @@ const SERVE: [Row; 14] = [
         is_required: false,
     },
     Row::Watch,
+    Row::Aggregate,
     Row::Choice {
         id: "slots",
         name: "N",

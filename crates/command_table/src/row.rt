@@ -9,6 +9,8 @@ pub(crate) enum Row {
     Fork,
     /// The option `--watch`.
     Watch,
+    /// The option `--aggregate`.
+    Aggregate,
     /// The option `--quiet`.
     Quiet,
     /// The nodes, which stand after the options.

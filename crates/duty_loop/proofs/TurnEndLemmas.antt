@@ -12,17 +12,18 @@ use Rattle.duty_plans.specs.Steps.{Calls, Replies}
 use Rattle.duty_plans.specs.declared.ended.Ended.{Ended}
 use Rattle.duty_plans.specs.declared.result.DutyResult.{DutyResult}
 use Rattle.duty_plans.specs.declared.task.Task.{Task}
+use Rattle.duty_plans.specs.Choices.{aggregate_tasks, reports}
 use Rattle.duty_plans.specs.Ends.{merged, results_of}
 use Rattle.duty_plans.specs.Tasks.{again_tasks, fresh}
 use Rattle.duty_plans.specs.declared.setup.DutySetup.{DutySetup}
 use Rattle.duty_turns.specs.declared.held.DutyEnd.{DutyEnd}
 use Rattle.duty_turns.specs.declared.held.DutyEnd.TheVariants as end
-use Rattle.duty_turns.specs.Lines.{duty_lines}
+use Rattle.duty_turns.specs.Lines.{aggregate_lines, duty_lines}
 use Rattle.duty_turns.specs.Standing.{Standing}
 use Rattle.duty_pruning.specs.Pruning.{pruning_file}
-use Rattle.duty_turns.specs.Times.{again_start, epoch_of, is_first_slot, is_missed, next_slot, slot_start, votes_start}
+use Rattle.duty_turns.specs.Times.{again_start, aggregates_start, epoch_of, is_first_slot, is_missed, next_slot, slot_start, votes_start}
 use Rattle.duty_turns.specs.TurnSteps.{TurnPlan, TurnReply, TurnStep, Fits, Own, Owned, Writes, Wrote}
-use Rattle.duty_turns.specs.Turns.{Next, NextPlan, active_of, after_works, again_plan, asked_plan, at_moment, at_slot, blocks_in, calls, close_plan, closed_plan, due_plan, exported, exports, failed_plan, keys_of_turn, left_plan, merges, listed_plan, next_turn, own_reply, prunes, ready_plan, refreshes, refreshes_lanes, is_worth_compacting, shortens, sized, tried_plan, turn_plan, turns_plan, unless_short, votes_in, votes_plan, waits, with_active, woken_plan, work_of, works}
+use Rattle.duty_turns.specs.Turns.{Next, NextPlan, active_of, after_wait, again_plan, aggregates_plan, asked_plan, at_moment, at_slot, blocks_in, calls, choices_of, chooses_plan, close_plan, due_plan, exported, exports, failed_plan, finish_plan, gathers_plan, keys_of_turn, left_plan, merges, listed_plan, next_turn, own_reply, prunes, puts, ready_plan, report_plan, refreshes, refreshes_lanes, is_worth_compacting, shortens, sized, told_plan, tried_plan, turn_plan, turns_plan, unless_short, votes_in, votes_plan, waits, with_active, woken_plan, work_of, works, wrote}
 use Rattle.duty_loop.proofs.GivesLemmas.{Always, Gives, Said, calls_always, gives_ask, gives_bind, gives_done, if_always, looks_up_always, refreshes_always, refreshes_lanes_always, stop_always, waits_always, works_always}
 use Rattle.duty_loop.proofs.PartLemmas.{EndInCut, WhyNone, asked_part}
 
@@ -74,16 +75,22 @@ prunes_turn (Some keep) slot (Some active) p h = exports_turn keep (epoch_of slo
 asks_failed_turn : (s : Standing) → IsTurn (calls call.HasFailed (failed_plan s))
 asks_failed_turn s front = gives_ask (Why Standing) front (Own (Calls call.HasFailed)) (λ r. failed_plan s (own_reply r)) (λ r fit. failed_turn front s r)
 
-closed_turn : (setup : DutySetup) (slot : ℕ) (front : List TurnStep) (text : List ℕ) (s : Standing) (r : TurnReply) → Fits (Writes text) r → Gives (Why Standing) (front ++ (Writes text, r) ∷ []) (closed_plan setup slot s r)
-closed_turn setup slot front text s (Wrote true piece) fit =
-    prunes_turn setup.keep_epochs slot s.active (calls call.HasFailed (failed_plan s)) (asks_failed_turn s) (front ++ (Writes text, Wrote true piece) ∷ [])
-closed_turn setup slot front text s (Wrote false piece) fit = gives_done (Why Standing) (front ++ (Writes text, Wrote false piece) ∷ []) (Err end.Write) (front, text, piece, refl)
-closed_turn setup slot front text s r fit = absurd fit
+finish_turn : (setup : DutySetup) (slot : ℕ) (s : Standing) → IsTurn (finish_plan setup slot s)
+finish_turn setup slot s = prunes_turn setup.keep_epochs slot s.active (calls call.HasFailed (failed_plan s)) (asks_failed_turn s)
+
+wrote_turn : (front : List TurnStep) (text : List ℕ) (next : NextPlan) → IsTurn next → (r : TurnReply) → Fits (Writes text) r → Gives (Why Standing) (front ++ (Writes text, r) ∷ []) (wrote r next)
+wrote_turn front text next h (Wrote true piece) fit = h (front ++ (Writes text, Wrote true piece) ∷ [])
+wrote_turn front text next h (Wrote false piece) fit = gives_done (Why Standing) (front ++ (Writes text, Wrote false piece) ∷ []) (Err end.Write) (front, text, piece, refl)
+wrote_turn front text next h r fit = absurd fit
+
+puts_turn : (text : List ℕ) (next : NextPlan) → IsTurn next → IsTurn (puts text next)
+puts_turn text next h front = gives_ask (Why Standing) front (Writes text) (λ r. wrote r next) (wrote_turn front text next h)
 
 close_turn : (setup : DutySetup) (slot : ℕ) (ds : List Duty) (results : List DutyResult) (s : Standing) → IsTurn (close_plan setup slot ds results s)
-close_turn setup slot ds results s front =
-    let text = duty_lines slot ds results in
-    gives_ask (Why Standing) front (Writes text) (closed_plan setup slot s) (closed_turn setup slot front text s)
+close_turn setup slot ds results s = puts_turn (duty_lines slot ds results) (finish_plan setup slot s) (finish_turn setup slot s)
+
+report_turn : (setup : DutySetup) (slot : ℕ) (choices : List Task) (found : List (Option DutyResult)) (s : Standing) → IsTurn (report_plan setup slot choices found s)
+report_turn setup slot choices found s = puts_turn (aggregate_lines slot choices found) (finish_plan setup slot s) (finish_turn setup slot s)
 
 -- ---- what stands between
 
@@ -97,16 +104,40 @@ shortens_turn s p h = if_always (Why Standing) (is_first_slot s.slot) (calls cal
 
 -- ---- a turn
 
+aggregates_turn : (setup : DutySetup) (s : Standing) (choices : List Task) (chosen : List Ended) (tasks : List Task) (reached : ℕ) → IsTurn (aggregates_plan setup s choices chosen tasks reached)
+aggregates_turn setup s choices chosen tasks reached =
+    let moment = aggregates_start setup.genesis_time s.slot in
+    let next = after_wait setup.genesis_time moment reached s in
+    let last = at_slot (next_slot s.slot) s in
+    let after : List Ended → NextPlan = λ ends. report_plan setup s.slot choices (reports chosen ends) last in
+    if_always (Why Standing) (is_missed setup.genesis_time s.slot moment reached) (report_plan setup s.slot choices (reports chosen []) next) (works (work_of setup s) 0 tasks after)
+    (report_turn setup s.slot choices (reports chosen []) next)
+    (works_always (Why Standing) (work_of setup s) 0 tasks after (λ ends. report_turn setup s.slot choices (reports chosen ends) last))
+
+gathers_turn : (setup : DutySetup) (s : Standing) (choices : List Task) (chosen : List Ended) (tasks : List Task) → IsTurn (gathers_plan setup s choices chosen tasks)
+gathers_turn setup s choices chosen [] = report_turn setup s.slot choices (reports chosen []) (at_slot (next_slot s.slot) s)
+gathers_turn setup s choices chosen (t ∷ tasks) = waits_always (Why Standing) (aggregates_start setup.genesis_time s.slot) (aggregates_plan setup s choices chosen (t ∷ tasks)) (aggregates_turn setup s choices chosen (t ∷ tasks))
+
+chooses_turn : (setup : DutySetup) (s : Standing) (choices : List Task) → IsTurn (chooses_plan setup s choices)
+chooses_turn setup s [] = finish_turn setup s.slot (at_slot (next_slot s.slot) s)
+chooses_turn setup s (t ∷ choices) =
+    works_always (Why Standing) (work_of setup s) 0 (t ∷ choices) (λ chosen. gathers_plan setup s (t ∷ choices) chosen (aggregate_tasks (t ∷ choices) chosen))
+    (λ chosen. gathers_turn setup s (t ∷ choices) chosen (aggregate_tasks (t ∷ choices) chosen))
+
+told_turn : (setup : DutySetup) (s : Standing) (ds : List Duty) (ends : List Ended) (results : List DutyResult) → IsTurn (told_plan setup s ds ends results)
+told_turn setup s ds ends results = puts_turn (duty_lines s.slot ds results) (chooses_plan setup s (choices_of setup ds ends)) (chooses_turn setup s (choices_of setup ds ends))
+
 tried_turn : (setup : DutySetup) (s : Standing) (ds : List Duty) (ends : List Ended) (tasks : List Task) (reached : ℕ) → IsTurn (tried_plan setup s ds ends tasks reached)
 tried_turn setup s ds ends tasks reached =
-    let next = after_works setup.genesis_time reached s in
-    let after : List Ended → NextPlan = λ again. close_plan setup s.slot ds (merged ends again) (at_slot (next_slot s.slot) s) in
-    if_always (Why Standing) (is_missed setup.genesis_time s.slot (again_start setup.genesis_time s.slot) reached) (close_plan setup s.slot ds (results_of ends) next) (works (work_of setup s) 0 tasks after)
+    let moment = again_start setup.genesis_time s.slot in
+    let next = after_wait setup.genesis_time moment reached s in
+    let after : List Ended → NextPlan = λ again. told_plan setup s ds ends (merged ends again) in
+    if_always (Why Standing) (is_missed setup.genesis_time s.slot moment reached) (close_plan setup s.slot ds (results_of ends) next) (works (work_of setup s) 0 tasks after)
     (close_turn setup s.slot ds (results_of ends) next)
-    (works_always (Why Standing) (work_of setup s) 0 tasks after (λ again. close_turn setup s.slot ds (merged ends again) (at_slot (next_slot s.slot) s)))
+    (works_always (Why Standing) (work_of setup s) 0 tasks after (λ again. told_turn setup s ds ends (merged ends again)))
 
 left_turn : (setup : DutySetup) (s : Standing) (ds : List Duty) (ends : List Ended) (tasks : List Task) → IsTurn (left_plan setup s ds ends tasks)
-left_turn setup s ds ends [] = close_turn setup s.slot ds (results_of ends) (at_slot (next_slot s.slot) s)
+left_turn setup s ds ends [] = told_turn setup s ds ends (results_of ends)
 left_turn setup s ds ends (t ∷ tasks) = waits_always (Why Standing) (again_start setup.genesis_time s.slot) (tried_plan setup s ds ends (t ∷ tasks)) (tried_turn setup s ds ends (t ∷ tasks))
 
 votes_turn : (setup : DutySetup) (s : Standing) (ds : List Duty) (proposed : List Ended) (reached : ℕ) → IsTurn (votes_plan setup s ds proposed reached)

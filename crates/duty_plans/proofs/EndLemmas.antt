@@ -1,13 +1,14 @@
--- What is left of duties, and how they ended at last, up to a place.
+-- How duties ended at last, what follows of them, and what is reported of aggregates, up to a place.
 use Rattle.std.proofs.Common.{◌≡◌, ℕ, zero, suc, ◌+◌, ◌<◌, ◌≤◌, List, [], ◌∷◌, ◌++◌, length, drop, take, get_or, Option, Some, None, add-one, append_assoc, refl, sym, ◌∙◌, ap, arith}
 use Rattle.std.proofs.lemmas.List.{append-nil, at_drop_more, drop_all, drop-drop, map-append, take_more}
-use Rattle.duty_schedule.specs.declared.rows.Duty.{Duty}
+use Rattle.duty_plans.specs.declared.ended.Aggregation.{Aggregation}
 use Rattle.duty_plans.specs.declared.ended.Ended.{Ended}
 use Rattle.duty_plans.specs.declared.ended.Unsent.{Unsent}
 use Rattle.duty_plans.specs.declared.result.DutyResult.{DutyResult}
 use Rattle.duty_plans.specs.declared.task.Task.{Task}
 use Rattle.duty_plans.specs.Ends.{last_result, left_after, merged, place_after, place_by, results_of}
-use Rattle.duty_plans.specs.Tasks.{again_of, again_tasks}
+use Rattle.duty_plans.specs.Choices.{ends_after, next_by, next_place, report_of, reports}
+use Rattle.duty_plans.specs.Tasks.{tasks_by}
 
 -- ---- how duties ended
 
@@ -45,33 +46,63 @@ place_within e at i next h turn = by e.unsent turn where
   by None is = omega arith
   by (Some unsent) is = omega arith
 
--- ---- what is left of duties
+-- ---- what follows of each
 
-again_nil : (ds : List Duty) → again_tasks ds [] ≡ []
-again_nil [] = refl
-again_nil (d ∷ ds) = refl
+module _ {A : Type 0} (next : A → Ended → List Task) where
+  tasks_nil : (xs : List A) → tasks_by next xs [] ≡ []
+  tasks_nil [] = refl
+  tasks_nil (x ∷ xs) = refl
 
-again_from : (ds : List Duty) (ends : List Ended) (i : ℕ) (d : Duty) (e : Ended) → i < length ds → i < length ends → e ≡ get_or ends i e
-    → again_tasks (drop i ds) (drop i ends) ≡ again_of (get_or ds i d) e ++ again_tasks (drop (suc i) ds) (drop (suc i) ends)
-again_from [] ends i d e l h at = absurd (omega arith)
-again_from (x ∷ ds) [] i d e l h at = absurd (omega arith)
-again_from (x ∷ ds) (y ∷ ends) zero d e l h at = ap (λ (z : Ended). again_of x z ++ again_tasks ds ends) (sym at)
-again_from (x ∷ ds) (y ∷ ends) (suc i) d e l h at = again_from ds ends i d e (omega arith) (omega arith) at
+  tasks_from : (xs : List A) (ends : List Ended) (i : ℕ) (x : A) (e : Ended) → i < length xs → i < length ends → e ≡ get_or ends i e
+      → tasks_by next (drop i xs) (drop i ends) ≡ next (get_or xs i x) e ++ tasks_by next (drop (suc i) xs) (drop (suc i) ends)
+  tasks_from [] ends i x e l h at = absurd (omega arith)
+  tasks_from (y ∷ xs) [] i x e l h at = absurd (omega arith)
+  tasks_from (y ∷ xs) (f ∷ ends) zero x e l h at = ap (λ (z : Ended). next y z ++ tasks_by next xs ends) (sym at)
+  tasks_from (y ∷ xs) (f ∷ ends) (suc i) x e l h at = tasks_from xs ends i x e (omega arith) (omega arith) at
 
--- those of one more
-pub again_more : (ds : List Duty) (ends : List Ended) (i : ℕ) (d : Duty) (e : Ended) (got now : List Task) → i < length ds → i < length ends → e ≡ get_or ends i e → now ≡ got ++ again_of (get_or ds i d) e
-    → got ++ again_tasks (drop i ds) (drop i ends) ≡ again_tasks ds ends → now ++ again_tasks (drop (i + 1) ds) (drop (i + 1) ends) ≡ again_tasks ds ends
-again_more ds ends i d e got now l h at pushed so =
-    let one : List Task = again_of (get_or ds i d) e in
-    ap (λ (x : List Task). x ++ again_tasks (drop (i + 1) ds) (drop (i + 1) ends)) pushed
-    ∙ append_assoc got one (again_tasks (drop (i + 1) ds) (drop (i + 1) ends))
-    ∙ ap (λ n. got ++ (one ++ again_tasks (drop n ds) (drop n ends))) (add-one i)
-    ∙ ap (λ (x : List Task). got ++ x) (sym (again_from ds ends i d e l h at)) ∙ so
+  -- those of one more
+  pub tasks_more : (xs : List A) (ends : List Ended) (i : ℕ) (x : A) (e : Ended) (got now : List Task) → i < length xs → i < length ends → e ≡ get_or ends i e → now ≡ got ++ next (get_or xs i x) e
+      → got ++ tasks_by next (drop i xs) (drop i ends) ≡ tasks_by next xs ends → now ++ tasks_by next (drop (i + 1) xs) (drop (i + 1) ends) ≡ tasks_by next xs ends
+  tasks_more xs ends i x e got now l h at pushed so =
+      let one : List Task = next (get_or xs i x) e in
+      ap (λ (t : List Task). t ++ tasks_by next (drop (i + 1) xs) (drop (i + 1) ends)) pushed
+      ∙ append_assoc got one (tasks_by next (drop (i + 1) xs) (drop (i + 1) ends))
+      ∙ ap (λ n. got ++ (one ++ tasks_by next (drop n xs) (drop n ends))) (add-one i)
+      ∙ ap (λ (t : List Task). got ++ t) (sym (tasks_from xs ends i x e l h at)) ∙ so
 
--- the ends are over
-pub again_end : (ds : List Duty) (ends : List Ended) (i : ℕ) (got : List Task) → length ends ≤ i → got ++ again_tasks (drop i ds) (drop i ends) ≡ again_tasks ds ends → got ≡ again_tasks ds ends
-again_end ds ends i got h so = sym (append-nil got) ∙ ap (λ (x : List Task). got ++ x) (sym (ap (λ (x : List Ended). again_tasks (drop i ds) x) (drop_all i ends h) ∙ again_nil (drop i ds))) ∙ so
+  -- the ends are over
+  pub tasks_end : (xs : List A) (ends : List Ended) (i : ℕ) (got : List Task) → length ends ≤ i → got ++ tasks_by next (drop i xs) (drop i ends) ≡ tasks_by next xs ends → got ≡ tasks_by next xs ends
+  tasks_end xs ends i got h so = sym (append-nil got) ∙ ap (λ (t : List Task). got ++ t) (sym (ap (λ (x : List Ended). tasks_by next (drop i xs) x) (drop_all i ends h) ∙ tasks_nil (drop i xs))) ∙ so
 
--- the duties are over
-pub again_over : (ds : List Duty) (ends : List Ended) (i : ℕ) (got : List Task) → length ds ≤ i → got ++ again_tasks (drop i ds) (drop i ends) ≡ again_tasks ds ends → got ≡ again_tasks ds ends
-again_over ds ends i got h so = sym (append-nil got) ∙ ap (λ (x : List Duty). got ++ again_tasks x (drop i ends)) (sym (drop_all i ds h)) ∙ so
+  -- the others are over
+  pub tasks_over : (xs : List A) (ends : List Ended) (i : ℕ) (got : List Task) → length xs ≤ i → got ++ tasks_by next (drop i xs) (drop i ends) ≡ tasks_by next xs ends → got ≡ tasks_by next xs ends
+  tasks_over xs ends i got h so = sym (append-nil got) ∙ ap (λ (x : List A). got ++ tasks_by next x (drop i ends)) (sym (drop_all i xs h)) ∙ so
+
+-- ---- what is reported of aggregates
+
+after_place : (o : Option Aggregation) (at : ℕ) (ends : List Ended) → ends_after o (drop at ends) ≡ drop (next_by o at) ends
+after_place None at ends = refl
+after_place (Some x) at ends = drop-drop 1 at ends
+
+next_report : (cs ends : List Ended) (i at next : ℕ) (c : Ended) (r : Option DutyResult) → i < length cs → c ≡ get_or cs i c → r ≡ report_of c (drop at ends) → next ≡ next_place c at
+    → reports (drop i cs) (drop at ends) ≡ r ∷ reports (drop (i + 1) cs) (drop next ends)
+next_report cs ends i at next c r l is by turn =
+    at_drop_more (λ x. reports x (drop at ends)) cs i c l
+    ∙ ap (λ (x : Ended). reports (x ∷ drop (i + 1) cs) (drop at ends)) (sym is)
+    ∙ ap (λ (x : Option DutyResult). x ∷ reports (drop (i + 1) cs) (ends_after c.aggregation (drop at ends))) (sym by)
+    ∙ ap (λ (x : List Ended). r ∷ reports (drop (i + 1) cs) x) (after_place c.aggregation at ends ∙ ap (λ n. drop n ends) (sym turn))
+
+pub reports_more : (cs ends : List Ended) (got now : List (Option DutyResult)) (i at next : ℕ) (c : Ended) (r : Option DutyResult) → i < length cs → c ≡ get_or cs i c → r ≡ report_of c (drop at ends) → next ≡ next_place c at
+    → now ≡ got ++ r ∷ [] → got ++ reports (drop i cs) (drop at ends) ≡ reports cs ends → now ++ reports (drop (i + 1) cs) (drop next ends) ≡ reports cs ends
+reports_more cs ends got now i at next c r l is by turn pushed so =
+    let rest : List (Option DutyResult) = reports (drop (i + 1) cs) (drop next ends) in
+    ap (λ (x : List (Option DutyResult)). x ++ rest) pushed ∙ append_assoc got (r ∷ []) rest ∙ ap (λ (x : List (Option DutyResult)). got ++ x) (sym (next_report cs ends i at next c r l is by turn)) ∙ so
+
+pub reports_over : (cs ends : List Ended) (got : List (Option DutyResult)) (i at : ℕ) → length cs ≤ i → got ++ reports (drop i cs) (drop at ends) ≡ reports cs ends → got ≡ reports cs ends
+reports_over cs ends got i at l so = sym (append-nil got) ∙ ap (λ (x : List Ended). got ++ reports x (drop at ends)) (sym (drop_all i cs l)) ∙ so
+
+pub next_within : (c : Ended) (at i next : ℕ) → at ≤ i → next ≡ next_place c at → next ≤ i + 1
+next_within c at i next h turn = by c.aggregation turn where
+  by : (o : Option Aggregation) → next ≡ next_by o at → next ≤ i + 1
+  by None is = omega arith
+  by (Some x) is = omega arith

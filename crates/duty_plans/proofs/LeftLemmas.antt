@@ -9,6 +9,7 @@ use Rattle.edge_kit.specs.declared.bytes.Sig.{Sig}
 use Rattle.slash_defs.specs.declared.message.Message.{Message}
 use Rattle.phase0_types.specs.declared.attestation.AttestationData.{AttestationData}
 use Rattle.altair_blocks.specs.declared.any_block.AnyBlock.{AnyBlock}
+use Rattle.duty_types.specs.declared.aggregate.AggregateAndProof.{AggregateAndProof}
 use Rattle.desk_machine.specs.declared.open_grant.OpenGrant.{OpenGrant}
 use Rattle.desk_machine.specs.declared.call.DeskCall.{DeskCall}
 use Rattle.desk_machine.specs.declared.call.DeskCall.TheVariants as call
@@ -35,12 +36,12 @@ use Rattle.duty_plans.specs.declared.result.DutyResult.TheVariants as ended
 use Rattle.duty_plans.specs.declared.task.Task.{Task}
 use Rattle.duty_plans.specs.declared.task.Task.TheVariants as task
 use Rattle.duty_plans.specs.declared.work.SlotWork.{SlotWork}
-use Rattle.duty_plans.specs.Ends.{is_repeated, left_by, over}
+use Rattle.duty_plans.specs.Ends.{barred, is_repeated, left_by, over}
 use Rattle.duty_plans.specs.Guards.{granted_by, granted_in}
-use Rattle.duty_plans.specs.Messages.{block_message, block_post, block_request, vote_message, vote_post, vote_request}
-use Rattle.duty_plans.specs.Reading.{block_of, grant_of, posted_of, signature_of, vote_of}
+use Rattle.duty_plans.specs.Messages.{aggregate_message, aggregate_post, block_message, block_post, block_request, vote_message, vote_post, vote_request}
+use Rattle.duty_plans.specs.Reading.{aggregate_of, block_of, grant_of, posted_of, signature_of, vote_of}
 use Rattle.duty_plans.specs.Steps.{DutyCall, DutyReply, DutyStep, DutyPlan, Calls, Replies, Signed, Answered, Taken, Fits, desk_calls, step_calls}
-use Rattle.duty_plans.specs.Plans.{answer_reply, desk_reply, post_reply, sign_reply, allowed_plan, block_plan, granted_plan, made_plan, post_plan, publish_plan, revealed_plan, sent, settles, task_plan, under, vote_plan, voted_plan, with_got}
+use Rattle.duty_plans.specs.Plans.{answer_reply, desk_reply, post_reply, sign_reply, aggregate_plan, aggregated_plan, allowed_plan, block_plan, choose_plan, chosen_by, gathered_plan, granted_plan, made_plan, post_plan, proof_plan, publish_plan, revealed_plan, sent, settles, task_plan, under, vote_plan, voted_plan, with_got}
 use Rattle.duty_plans.specs.Repeats.{HadLeave, IsLeft}
 use Rattle.duty_plans.specs.Tasks.{IsOwnTask, IsOwnUnsent, duty_of, owner_of, unsent_message}
 use Rattle.duty_plans.proofs.DutyLemmas.{block_got, grant_got, vote_got}
@@ -103,18 +104,18 @@ module _ (work : SlotWork) (d : Duty) where
       let more = granted_in (step_calls (Calls (call.Settle grant o), r)) in
       leaves_end (so ++ more) unsent by own (had_more so more unsent h)
 
-  leaves_posted : (so : Given) (unsent : Unsent) (g : Got (Unit {0})) → IsOwnUnsent work.altair d unsent → Had so unsent → Leaves so (with_got (left_by unsent) g (sent unsent))
+  leaves_posted : (so : Given) (unsent : Unsent) (g : Got (Unit {0})) → IsOwnUnsent work.altair d unsent → Had so unsent → Leaves so (with_got (left_by unsent) g (sent (left_by unsent)))
   leaves_posted so unsent (got.Given x) own h = leaves_end so unsent ended.Sent own h
   leaves_posted so unsent (got.Failed by) own h = leaves_end so unsent by own h
   leaves_posted so unsent got.Nothing own h = tt
 
-  leaves_post : (so : Given) (unsent : Unsent) (grant : OpenGrant) (p : Post) → IsOwnUnsent work.altair d unsent → Had so unsent → Leaves so (post_plan unsent grant p)
+  leaves_post : (so : Given) (unsent : Unsent) (grant : OpenGrant) (p : Post) → IsOwnUnsent work.altair d unsent → Had so unsent → Leaves so (post_plan (left_by unsent) grant p)
   leaves_post so unsent grant p own h r f r2 f2 =
       let one = so ++ granted_in [] in
       let more = granted_in (step_calls (Calls (call.Settle grant outcome.Sent), r2)) in
       leaves_posted (one ++ more) unsent (posted_of (post_reply r)) own (had_more one more unsent (had_more so (granted_in []) unsent h))
 
-  leaves_signed : (so : Given) (unsent : Unsent) (grant : OpenGrant) (g : Got Sig) (made : Sig → Post) → IsOwnUnsent work.altair d unsent → Had so unsent → Leaves so (under (left_by unsent) grant g (λ signature. post_plan unsent grant (made signature)))
+  leaves_signed : (so : Given) (unsent : Unsent) (grant : OpenGrant) (g : Got Sig) (made : Sig → Post) → IsOwnUnsent work.altair d unsent → Had so unsent → Leaves so (under (left_by unsent) grant g (λ signature. post_plan (left_by unsent) grant (made signature)))
   leaves_signed so unsent grant (got.Given x) made own h = leaves_post so unsent grant (made x) own h
   leaves_signed so unsent grant (got.Failed by) made own h = settled_end so unsent grant outcome.Dropped by own h
   leaves_signed so unsent grant got.Nothing made own h = λ r f. tt
@@ -124,10 +125,23 @@ module _ (work : SlotWork) (d : Duty) where
 
   -- ---- where nothing is left
 
-  leaves_got : {T : Type 0} (so : Given) (g : Got T) (k : T → DutyPlan Ended) → ((x : T) → g ≡ got.Given x → Leaves so (k x)) → Leaves so (with_got over g k)
-  leaves_got so (got.Given x) k h = h x refl
-  leaves_got so (got.Failed by) k h = tt
-  leaves_got so got.Nothing k h = tt
+  -- an end by this leaves nothing
+  abbrev LeavesNone : (DutyResult → Ended) → Type 0
+  LeavesNone ends = (by : DutyResult) → (ends by).unsent ≡ None
+
+  left_none : (so : Given) (e : Ended) → e.unsent ≡ None → LeftBy so e
+  left_none so e is = subst (λ (o : Option Unsent). IfSome o (λ unsent. (is_repeated e.result ≡ true) × IsOwnUnsent work.altair d unsent × HadLeave so (owner_of d) (unsent_message work.domains unsent))) (sym is) tt
+
+  leaves_got : {T : Type 0} (so : Given) (ends : DutyResult → Ended) (g : Got T) (k : T → DutyPlan Ended) → LeavesNone ends → ((x : T) → g ≡ got.Given x → Leaves so (k x)) → Leaves so (with_got ends g k)
+  leaves_got so ends (got.Given x) k none h = h x refl
+  leaves_got so ends (got.Failed by) k none h = left_none so (ends by) (none by)
+  leaves_got so ends got.Nothing k none h = tt
+
+  over_none : LeavesNone over
+  over_none by = refl
+
+  barred_none : (unsent : Unsent) → LeavesNone (barred unsent)
+  barred_none unsent by = refl
 
   leaves_under : {T : Type 0} (so : Given) (unsent : Unsent) (grant : OpenGrant) (g : Got T) (k : T → DutyPlan Ended) → IsOwnUnsent work.altair d unsent → Had so unsent → ((x : T) → Leaves so (k x)) → Leaves so (under (left_by unsent) grant g k)
   leaves_under so unsent grant (got.Given x) k own had h = h x
@@ -148,7 +162,7 @@ module _ (work : SlotWork) (d : Duty) where
   leaves_publish so m now unsent q made is own r f =
       let key = owner_of d in
       let more = granted_in (step_calls (Calls (call.Propose key m now), r)) in
-      leaves_got (so ++ more) (grant_of (desk_reply r)) (λ grant. granted_plan unsent q made grant) (λ grant e.
+      leaves_got (so ++ more) (barred unsent) (grant_of (desk_reply r)) (λ grant. granted_plan unsent q made grant) (barred_none unsent) (λ grant e.
       leaves_granted (so ++ more) unsent q made grant own (leave_for (so ++ more) key m (unsent_message work.domains unsent) is (Contains-append_right so more (key, m) (granted_now key m now r grant f e))))
 
 leaves_voted : (work : SlotWork) (row : AttesterRow) (details : AttestationData) (so : Given) → first_that_differs (data_members row details) ≡ None → Leaves work (duty.Vote row) so (voted_plan work row details)
@@ -159,17 +173,49 @@ leaves_made work row block so own = leaves_publish work (duty.Block row) so (blo
 
 leaves_vote : (work : SlotWork) (row : AttesterRow) (so : Given) → Leaves work (duty.Vote row) so (vote_plan work row)
 leaves_vote work row so r f =
-    leaves_got work (duty.Vote row) (so ++ granted_in []) (vote_of row (answer_reply r)) (λ details. voted_plan work row details) (λ details e. leaves_voted work row details (so ++ granted_in []) (vote_got row (answer_reply r) details e))
+    leaves_got work (duty.Vote row) (so ++ granted_in []) over (vote_of row (answer_reply r)) (λ details. voted_plan work row details) (over_none work (duty.Vote row)) (λ details e. leaves_voted work row details (so ++ granted_in []) (vote_got row (answer_reply r) details e))
 
 leaves_block : (work : SlotWork) (row : ProposerRow) (so : Given) → Leaves work (duty.Block row) so (block_plan work row)
 leaves_block work row so r f =
     let D : Duty = duty.Block row in
     let one = so ++ granted_in (step_calls (Calls (call.Allow row.pubkey work.moment), r)) in
     let two = one ++ granted_in [] in
-    leaves_got work D one (grant_of (desk_reply r)) (λ grant. allowed_plan work row grant) (λ grant e s f2.
+    leaves_got work D one over (grant_of (desk_reply r)) (λ grant. allowed_plan work row grant) (over_none work D) (λ grant e s f2.
     leaves_under work D two granted.Reveal grant (signature_of (sign_reply s)) (λ reveal. revealed_plan work row grant reveal) tt tt (λ reveal a f3 t f4.
     let three = (two ++ granted_in []) ++ granted_in (step_calls (Calls (call.Settle grant outcome.Sent), t)) in
-    leaves_got work D three (block_of work.altair row (answer_reply a)) (λ block. made_plan work row block) (λ block is. leaves_made work row block three (block_got work.altair row (answer_reply a) block is))))
+    leaves_got work D three over (block_of work.altair row (answer_reply a)) (λ block. made_plan work row block) (over_none work D) (λ block is. leaves_made work row block three (block_got work.altair row (answer_reply a) block is))))
+
+-- of an aggregate nothing is left
+leaves_choose : (work : SlotWork) (row : AttesterRow) (details : AttestationData) (so : Given) → Leaves work (duty.Vote row) so (choose_plan work row details)
+leaves_choose work row details so r f =
+    let D : Duty = duty.Vote row in
+    let one = so ++ granted_in (step_calls (Calls (call.Allow row.pubkey work.moment), r)) in
+    leaves_got work D one over (grant_of (desk_reply r)) (λ grant. proof_plan work row details grant) (over_none work D) (λ grant e s f2 t f3.
+    let two = (one ++ granted_in []) ++ granted_in (step_calls (Calls (call.Settle grant outcome.Dropped), t)) in
+    leaves_got work D two over (signature_of (sign_reply s)) (λ proof. Done (chosen_by row details proof)) (over_none work D) (λ proof is. tt))
+
+leaves_dropped : (work : SlotWork) (d : Duty) (so : Given) (grant : OpenGrant) (g : Got Sig) (k : Sig → DutyPlan Ended) → ((x : Sig) → Leaves work d so (k x)) → Leaves work d so (under over grant g k)
+leaves_dropped work d so grant (got.Given x) k h = h x
+leaves_dropped work d so grant (got.Failed by) k h = λ r f. tt
+leaves_dropped work d so grant got.Nothing k h = λ r f. tt
+
+leaves_spread : (work : SlotWork) (d : Duty) (so : Given) (grant : OpenGrant) (p : Post) → Leaves work d so (post_plan over grant p)
+leaves_spread work d so grant p r f t f2 =
+    let two = (so ++ granted_in []) ++ granted_in (step_calls (Calls (call.Settle grant outcome.Sent), t)) in
+    leaves_got work d two over (posted_of (post_reply r)) (sent over) (over_none work d) (λ x is. tt)
+
+leaves_gathered : (work : SlotWork) (row : AttesterRow) (given : AggregateAndProof) (so : Given) → Leaves work (duty.Vote row) so (gathered_plan work row given)
+leaves_gathered work row given so r f =
+    let D : Duty = duty.Vote row in
+    let one = so ++ granted_in (step_calls (Calls (call.Allow row.pubkey work.moment), r)) in
+    leaves_got work D one over (grant_of (desk_reply r)) (λ grant. aggregated_plan work given grant) (over_none work D) (λ grant e s f2.
+    leaves_dropped work D (one ++ granted_in []) grant (signature_of (sign_reply s)) (λ signature. post_plan over grant (aggregate_post given signature)) (λ signature. leaves_spread work D (one ++ granted_in []) grant (aggregate_post given signature)))
+
+leaves_aggregate : (work : SlotWork) (row : AttesterRow) (details : AttestationData) (proof : Sig) (so : Given) → Leaves work (duty.Vote row) so (aggregate_plan work row details proof)
+leaves_aggregate work row details proof so r f =
+    let D : Duty = duty.Vote row in
+    leaves_got work D (so ++ granted_in []) over (aggregate_of details (answer_reply r)) (λ aggregate. gathered_plan work row (aggregate_message row proof aggregate)) (over_none work D) (λ aggregate e.
+    leaves_gathered work row (aggregate_message row proof aggregate) (so ++ granted_in []))
 
 pub task_left : (work : SlotWork) (t : Task) (steps : List DutyStep) (e : Ended) → IsOwnTask work.altair t → Follows Fits (task_plan work t) steps (Some e) → IsLeft work t steps e
 task_left work (task.Fresh (duty.Vote row)) steps e own f = leaves_follows work (duty.Vote row) [] (vote_plan work row) steps e (leaves_vote work row []) f
@@ -180,3 +226,5 @@ task_left work (task.Again (duty.Block row) granted.Reveal) steps e own f = leav
 task_left work (task.Again (duty.Vote row) granted.Reveal) steps e own f = absurd own
 task_left work (task.Again (duty.Vote row) (granted.Block block)) steps e own f = absurd own
 task_left work (task.Again (duty.Block row) (granted.Vote details)) steps e own f = absurd own
+task_left work (task.Choose row details) steps e own f = leaves_follows work (duty.Vote row) [] (choose_plan work row details) steps e (leaves_choose work row details []) f
+task_left work (task.Aggregate row details proof) steps e own f = leaves_follows work (duty.Vote row) [] (aggregate_plan work row details proof) steps e (leaves_aggregate work row details proof []) f

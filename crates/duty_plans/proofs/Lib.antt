@@ -5,3 +5,4 @@ pub mod DutyLemmas
 pub mod SlotLemmas
 pub mod LeftLemmas
 pub mod EndLemmas
+pub mod AggregateLemmas

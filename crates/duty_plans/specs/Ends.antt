@@ -1,7 +1,10 @@
 -- How duties ended, and what of them can be done again.
 use Rattle.std.specs.Prelude.{ℕ, ◌+◌, if◌then◌else◌, Bool, true, false, List, [], ◌∷◌, map, drop, Option, Some, None}
+use Rattle.duty_plans.specs.declared.ended.Aggregation.{Aggregation}
+use Rattle.duty_plans.specs.declared.ended.Aggregation.TheVariants as votes
 use Rattle.duty_plans.specs.declared.ended.Ended.{Ended}
 use Rattle.duty_plans.specs.declared.ended.Unsent.{Unsent}
+use Rattle.duty_plans.specs.declared.ended.Unsent.TheVariants as granted
 use Rattle.duty_plans.specs.declared.result.Unsigned.TheVariants as unsigned
 use Rattle.duty_plans.specs.declared.result.DutyResult.{DutyResult}
 use Rattle.duty_plans.specs.declared.result.DutyResult.TheVariants as ended
@@ -15,11 +18,21 @@ is_repeated by = false
 
 -- the end of a duty for which nothing is left
 abbrev pub over : DutyResult → Ended
-over by = record { result = by; unsent = None }
+over by = record { result = by; unsent = None; aggregation = None }
+
+-- what is known of a committee's votes by what is to be sent
+abbrev pub aggregation_of : Unsent → Option Aggregation
+aggregation_of granted.Reveal = None
+aggregation_of (granted.Vote details) = Some (votes.Voted details)
+aggregation_of (granted.Block block) = None
+
+-- the end of a duty for which the desk gave no leave to send this
+abbrev pub barred : Unsent → DutyResult → Ended
+barred unsent by = record { result = by; unsent = None; aggregation = aggregation_of unsent }
 
 -- the end of a duty for which this was granted
 abbrev pub left_by : Unsent → DutyResult → Ended
-left_by unsent by = record { result = by; unsent = if is_repeated by then Some unsent else None }
+left_by unsent by = record { result = by; unsent = if is_repeated by then Some unsent else None; aggregation = aggregation_of unsent }
 
 abbrev pub results_of : List Ended → List DutyResult
 results_of ends = map (λ e. e.result) ends

@@ -12,3 +12,4 @@ pub mod Results
 pub mod Owning
 pub mod Slots
 pub mod Repeats
+pub mod Choices

@@ -1,16 +1,23 @@
--- What is signed and posted for a duty (consensus-specs, "Construct attestation", "Constructing the `BeaconBlock`").
+-- What is signed and posted for a duty (consensus-specs, "Construct attestation", "Constructing the `BeaconBlock`",
+-- "Attestation aggregation").
 use Rattle.std.specs.Prelude.{ℕ, ◌/◌, List, Some}
 use Rattle.edge_kit.specs.declared.bytes.Root.{Root}
 use Rattle.edge_kit.specs.declared.bytes.Sig.{Sig}
 use Rattle.slash_defs.specs.declared.message.Message.{Message}
 use Rattle.slash_defs.specs.declared.message.Message.TheVariants as message
+use Rattle.phase0_types.specs.Roots.{root_of}
+use Rattle.phase0_types.specs.Containers.{attestation_data}
+use Rattle.phase0_types.specs.Attestations.{attestation_data_value}
 use Rattle.phase0_types.specs.declared.attestation.AttestationData.{AttestationData}
+use Rattle.phase0_blocks.specs.declared.vote.Attestation.{Attestation}
+use Rattle.duty_types.specs.declared.aggregate.AggregateAndProof.{AggregateAndProof}
 use Rattle.altair_blocks.specs.AnyBlocks.{block_value, root_of_block, slot_of}
 use Rattle.altair_blocks.specs.declared.any_block.AnyBlock.{AnyBlock}
 use Rattle.sign_roots.specs.Domains.{domain_of}
 use Rattle.sign_roots.specs.SigningRoots.{attestation_root_of, signing_root_of, slots_per_epoch}
 use Rattle.sign_roots.specs.declared.domains.Domains.{Domains}
 use Rattle.sign_roots.specs.declared.kind.DomainKind.TheVariants as kind
+use Rattle.signer_link.specs.declared.aggregate.Aggregate.TheVariants as aggregated
 use Rattle.signer_link.specs.declared.request.SignObject.{SignObject}
 use Rattle.signer_link.specs.declared.request.SignObject.TheVariants as made_of
 use Rattle.signer_link.specs.declared.request.SignRequest.{SignRequest}
@@ -55,7 +62,22 @@ vote_post row details signature = post.Vote (record { aggregation_bits = aggrega
 abbrev pub block_post : AnyBlock → Sig → Post
 block_post block signature = post.Block (record { message = block; signature = signature })
 
--- the message of what is posted
-abbrev pub post_message : Domains → Post → Message
-post_message domains (post.Vote vote) = vote_message domains vote.details
-post_message domains (post.Block signed) = block_message domains signed.message
+-- ---- an aggregate
+
+-- the hash tree root of what is voted for, by which an aggregate is asked for
+unfoldable pub details_root : AttestationData → List ℕ
+details_root details = root_of attestation_data (attestation_data_value details)
+
+-- the validator signs the slot, which shows whether it is chosen (`get_slot_signature`)
+abbrev pub slot_request : SlotWork → PlainRequest
+slot_request work = record { fork = work.domains.fork; genesis = work.genesis; object = plain.AggregationSlot work.slot }
+
+-- the aggregate by the validator that this proof chooses (`get_aggregate_and_proof`)
+abbrev pub aggregate_message : AttesterRow → Sig → Attestation → AggregateAndProof
+aggregate_message row proof aggregate = record { aggregator_index = row.validator_index; aggregate = aggregate; selection_proof = proof }
+
+abbrev pub aggregate_request : SlotWork → AggregateAndProof → PlainRequest
+aggregate_request work message = record { fork = work.domains.fork; genesis = work.genesis; object = plain.Aggregate (aggregated.Unnamed message) }
+
+abbrev pub aggregate_post : AggregateAndProof → Sig → Post
+aggregate_post message signature = post.Aggregate (record { message = message; signature = signature })

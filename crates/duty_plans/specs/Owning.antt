@@ -1,9 +1,11 @@
--- What is signed and posted for a duty is that duty's.
+-- What is signed and posted of a task is that task's.
 use Rattle.std.specs.Prelude.{◌≡◌, List, [], ◌∷◌, Some, None}
 use Rattle.edge_kit.specs.declared.bytes.PubKey.{PubKey}
+use Rattle.edge_kit.specs.declared.bytes.Sig.{Sig}
 use Rattle.slash_defs.specs.declared.message.Message.{Message}
 use Rattle.phase0_types.specs.declared.attestation.AttestationData.{AttestationData}
 use Rattle.altair_blocks.specs.declared.any_block.AnyBlock.{AnyBlock}
+use Rattle.duty_types.specs.declared.aggregate.AggregateAndProof.{AggregateAndProof}
 use Rattle.desk_machine.specs.declared.open_grant.OpenGrant.{OpenGrant}
 use Rattle.signer_link.specs.declared.request.SignRequest.{SignRequest}
 use Rattle.signer_link.specs.declared.request.PlainRequest.{PlainRequest}
@@ -15,8 +17,10 @@ use Rattle.node_calls.specs.declared.post.Post.TheVariants as post
 use Rattle.duty_schedule.specs.Checking.{block_members, data_members, first_that_differs}
 use Rattle.duty_schedule.specs.declared.rows.Duty.{Duty}
 use Rattle.duty_schedule.specs.declared.rows.Duty.TheVariants as duty
+use Rattle.duty_plans.specs.declared.task.Task.{Task}
+use Rattle.duty_plans.specs.declared.task.Task.TheVariants as task
 use Rattle.duty_plans.specs.declared.work.SlotWork.{SlotWork}
-use Rattle.duty_plans.specs.Messages.{block_message, block_request, reveal_request, vote_message, vote_request}
+use Rattle.duty_plans.specs.Messages.{aggregate_request, block_message, block_request, details_root, reveal_request, slot_request, vote_message, vote_request}
 use Rattle.duty_plans.specs.Steps.{DutyCall, DutyStep, Signs, Reveals, Posts}
 
 -- the grant is of this key for this message
@@ -34,6 +38,19 @@ pub record IsOwnBlock (work : SlotWork) (row : ProposerRow) (grant : OpenGrant) 
   pub same : first_that_differs (block_members row.slot work.altair block) ≡ None
   pub leave : IsGrantOf grant row.pubkey (block_message work.domains block)
 
+-- the grant is of this key, and for no message
+pub record IsPlainGrantOf (grant : OpenGrant) (owner : PubKey) : Type 0 where
+  pub key : grant.key ≡ owner
+  pub message : grant.message ≡ None
+
+-- an aggregate is by this validator, with this proof, and of the votes for this data, by its root
+pub record IsOwnAggregate (row : AttesterRow) (details : AttestationData) (proof : Sig) (given : AggregateAndProof) : Type 0 where
+  pub index : given.aggregator_index ≡ row.validator_index
+  pub proof_is : given.selection_proof ≡ proof
+  pub root : details_root given.aggregate.details ≡ details_root details
+
+-- ---- of a duty
+
 -- what is signed
 abbrev pub SignsOwn : SlotWork → Duty → OpenGrant → SignRequest → Type 0
 SignsOwn work (duty.Vote row) grant q = (details : AttestationData) × (q ≡ vote_request work details) × IsOwnVote work row grant details
@@ -47,15 +64,46 @@ PostsOwn work d grant p = ⊥
 
 -- what is revealed: the randomness of the slot's epoch, for a block alone, under a grant of no message
 abbrev pub RevealsOwn : SlotWork → Duty → OpenGrant → PlainRequest → Type 0
-RevealsOwn work (duty.Block row) grant q = (q ≡ reveal_request work) × (grant.key ≡ row.pubkey) × (grant.message ≡ None)
+RevealsOwn work (duty.Block row) grant q = (q ≡ reveal_request work) × IsPlainGrantOf grant row.pubkey
 RevealsOwn work (duty.Vote row) grant q = ⊥
 
-abbrev pub IsOwn : SlotWork → Duty → DutyCall → Type 0
-IsOwn work d (Signs grant q) = SignsOwn work d grant q
-IsOwn work d (Posts grant p) = PostsOwn work d grant p
-IsOwn work d (Reveals grant q) = RevealsOwn work d grant q
-IsOwn work d c = Unit {0}
+abbrev pub IsOfDuty : SlotWork → Duty → DutyCall → Type 0
+IsOfDuty work d (Signs grant q) = SignsOwn work d grant q
+IsOfDuty work d (Posts grant p) = PostsOwn work d grant p
+IsOfDuty work d (Reveals grant q) = RevealsOwn work d grant q
+IsOfDuty work d c = Unit {0}
 
-abbrev pub AllOwn : SlotWork → Duty → List DutyStep → Type 0
-AllOwn work d [] = Unit {0}
-AllOwn work d (s ∷ steps) = IsOwn work d s.0 × AllOwn work d steps
+-- ---- of an aggregate
+
+-- of the choice of its aggregator only the slot is signed, and nothing is posted
+abbrev pub IsOfChoice : SlotWork → AttesterRow → DutyCall → Type 0
+IsOfChoice work row (Signs grant q) = ⊥
+IsOfChoice work row (Posts grant p) = ⊥
+IsOfChoice work row (Reveals grant q) = (q ≡ slot_request work) × IsPlainGrantOf grant row.pubkey
+IsOfChoice work row c = Unit {0}
+
+abbrev pub PostsAggregate : AttesterRow → AttestationData → Sig → OpenGrant → Post → Type 0
+PostsAggregate row details proof grant (post.Aggregate signed) = IsOwnAggregate row details proof signed.message × IsPlainGrantOf grant row.pubkey
+PostsAggregate row details proof grant p = ⊥
+
+-- the aggregate is signed and posted
+abbrev pub IsOfAggregate : SlotWork → AttesterRow → AttestationData → Sig → DutyCall → Type 0
+IsOfAggregate work row details proof (Signs grant q) = ⊥
+IsOfAggregate work row details proof (Posts grant p) = PostsAggregate row details proof grant p
+IsOfAggregate work row details proof (Reveals grant q) = (given : AggregateAndProof) × (q ≡ aggregate_request work given) × IsOwnAggregate row details proof given × IsPlainGrantOf grant row.pubkey
+IsOfAggregate work row details proof c = Unit {0}
+
+-- ---- of a task
+
+abbrev pub IsOwn : SlotWork → Task → DutyCall → Type 0
+IsOwn work (task.Fresh d) = IsOfDuty work d
+IsOwn work (task.Again d unsent) = IsOfDuty work d
+IsOwn work (task.Choose row details) = IsOfChoice work row
+IsOwn work (task.Aggregate row details proof) = IsOfAggregate work row details proof
+
+abbrev pub AllCall : (DutyCall → Type 0) → List DutyStep → Type 0
+AllCall P [] = Unit {0}
+AllCall P (s ∷ steps) = P s.0 × AllCall P steps
+
+abbrev pub AllOwn : SlotWork → Task → List DutyStep → Type 0
+AllOwn work t steps = AllCall (IsOwn work t) steps

@@ -1,11 +1,12 @@
 -- What is done for a duty. Each plan goes on by the reply to its call; where memory runs out it stops.
-use Rattle.std.specs.Prelude.{ℕ, List, [], ◌∷◌, Result, Err}
+use Rattle.std.specs.Prelude.{ℕ, if◌then◌else◌, List, [], ◌∷◌, Option, Some, None, Result, Err}
 use Rattle.edge_kit.specs.declared.bytes.PubKey.{PubKey}
 use Rattle.edge_kit.specs.declared.bytes.Root.{Root}
 use Rattle.edge_kit.specs.declared.bytes.Sig.{Sig}
 use Rattle.slash_defs.specs.declared.message.Message.{Message}
 use Rattle.phase0_types.specs.declared.attestation.AttestationData.{AttestationData}
 use Rattle.altair_blocks.specs.declared.any_block.AnyBlock.{AnyBlock}
+use Rattle.duty_types.specs.declared.aggregate.AggregateAndProof.{AggregateAndProof}
 use Rattle.sign_roots.specs.declared.domains.Domains.{Domains}
 use Rattle.desk_machine.specs.declared.open_grant.OpenGrant.{OpenGrant}
 use Rattle.desk_machine.specs.declared.call.DeskCall.{DeskCall}
@@ -26,11 +27,13 @@ use Rattle.node_calls.specs.declared.answer.ProposerRow.{ProposerRow}
 use Rattle.node_calls.specs.declared.post.Post.{Post}
 use Rattle.node_fallback.specs.declared.no_node.NoAnswer.{NoAnswer}
 use Rattle.node_fallback.specs.declared.no_node.NoAnswer.TheVariants as none
+use Rattle.duty_schedule.specs.Aggregators.{is_aggregator}
 use Rattle.duty_schedule.specs.declared.rows.Duty.{Duty}
 use Rattle.duty_schedule.specs.declared.rows.Duty.TheVariants as duty
 use Rattle.call_plans.specs.Plans.{Done, Stop, Ask as Step, each_plan}
 use Rattle.duty_plans.specs.declared.got.Got.{Got}
 use Rattle.duty_plans.specs.declared.got.Got.TheVariants as got
+use Rattle.duty_plans.specs.declared.ended.Aggregation.TheVariants as votes
 use Rattle.duty_plans.specs.declared.ended.Ended.{Ended}
 use Rattle.duty_plans.specs.declared.ended.Unsent.{Unsent}
 use Rattle.duty_plans.specs.declared.ended.Unsent.TheVariants as granted
@@ -40,9 +43,9 @@ use Rattle.duty_plans.specs.declared.setup.DutySetup.{DutySetup}
 use Rattle.duty_plans.specs.declared.task.Task.{Task}
 use Rattle.duty_plans.specs.declared.task.Task.TheVariants as task
 use Rattle.duty_plans.specs.declared.work.SlotWork.{SlotWork}
-use Rattle.duty_plans.specs.Ends.{left_by, over}
-use Rattle.duty_plans.specs.Messages.{block_message, block_post, block_request, reveal_request, vote_message, vote_post, vote_request}
-use Rattle.duty_plans.specs.Reading.{block_of, grant_of, posted_of, signature_of, vote_of}
+use Rattle.duty_plans.specs.Ends.{barred, left_by, over}
+use Rattle.duty_plans.specs.Messages.{aggregate_message, aggregate_post, aggregate_request, block_message, block_post, block_request, details_root, reveal_request, slot_request, vote_message, vote_post, vote_request}
+use Rattle.duty_plans.specs.Reading.{aggregate_of, block_of, grant_of, posted_of, signature_of, vote_of}
 use Rattle.duty_plans.specs.Steps.{DutyPlan, DutyReply, Calls, Signs, Reveals, Asks, Posts, Replies, Signed, Answered, Taken, came_of}
 
 -- ---- one call, and then by its reply; a reply that does not fit comes never
@@ -95,20 +98,20 @@ under ends grant got.Nothing next_by = settles grant outcome.Dropped Stop
 
 -- ---- what is to be sent; another try may send it, where it was granted and is not sent
 
-abbrev pub sent : Unsent → Unit {0} → DutyPlan Ended
-sent unsent done = Done (left_by unsent ended.Sent)
+abbrev pub sent : (DutyResult → Ended) → Unit {0} → DutyPlan Ended
+sent ends done = Done (ends ended.Sent)
 
 -- what was signed is posted, and its grant is settled as sent, whether or not a node took it
-abbrev pub post_plan : Unsent → OpenGrant → Post → DutyPlan Ended
-post_plan unsent grant p = posts grant p (λ taken. settles grant outcome.Sent (with_got (left_by unsent) (posted_of taken) (sent unsent)))
+abbrev pub post_plan : (DutyResult → Ended) → OpenGrant → Post → DutyPlan Ended
+post_plan ends grant p = posts grant p (λ taken. settles grant outcome.Sent (with_got ends (posted_of taken) (sent ends)))
 
 -- the grant's message is signed, and what is made with the signature is posted
 abbrev pub granted_plan : Unsent → SignRequest → (Sig → Post) → OpenGrant → DutyPlan Ended
-granted_plan unsent q made grant = signs grant q (λ s. under (left_by unsent) grant (signature_of s) (λ signature. post_plan unsent grant (made signature)))
+granted_plan unsent q made grant = signs grant q (λ s. under (left_by unsent) grant (signature_of s) (λ signature. post_plan (left_by unsent) grant (made signature)))
 
 -- leave is asked for a message first
 abbrev pub publish_plan : PubKey → Message → ℕ → Unsent → SignRequest → (Sig → Post) → DutyPlan Ended
-publish_plan key m now unsent q made = calls (call.Propose key m now) (λ r. with_got over (grant_of r) (λ grant. granted_plan unsent q made grant))
+publish_plan key m now unsent q made = calls (call.Propose key m now) (λ r. with_got (barred unsent) (grant_of r) (λ grant. granted_plan unsent q made grant))
 
 -- ---- a vote
 
@@ -136,6 +139,32 @@ allowed_plan work row grant = reveals grant (reveal_request work) (λ s. under (
 abbrev pub block_plan : SlotWork → ProposerRow → DutyPlan Ended
 block_plan work row = calls (call.Allow row.pubkey work.moment) (λ r. with_got over (grant_of r) (λ grant. allowed_plan work row grant))
 
+-- ---- an aggregate
+
+-- a validator that this signature of the slot chooses goes on with it
+abbrev pub chosen_by : AttesterRow → AttestationData → Sig → Ended
+chosen_by row details proof = record { result = ended.Sent; unsent = None; aggregation = if is_aggregator proof row.committee_length then Some (votes.Chosen details proof) else None }
+
+-- the slot is signed, and nothing is sent under the grant
+abbrev pub proof_plan : SlotWork → AttesterRow → AttestationData → OpenGrant → DutyPlan Ended
+proof_plan work row details grant = reveals grant (slot_request work) (λ s. settles grant outcome.Dropped (with_got over (signature_of s) (λ proof. Done (chosen_by row details proof))))
+
+-- leave is asked for that first
+abbrev pub choose_plan : SlotWork → AttesterRow → AttestationData → DutyPlan Ended
+choose_plan work row details = calls (call.Allow row.pubkey work.moment) (λ r. with_got over (grant_of r) (λ grant. proof_plan work row details grant))
+
+-- the aggregate is signed and posted
+abbrev pub aggregated_plan : SlotWork → AggregateAndProof → OpenGrant → DutyPlan Ended
+aggregated_plan work message grant = reveals grant (aggregate_request work message) (λ s. under over grant (signature_of s) (λ signature. post_plan over grant (aggregate_post message signature)))
+
+-- leave is asked for that first
+abbrev pub gathered_plan : SlotWork → AttesterRow → AggregateAndProof → DutyPlan Ended
+gathered_plan work row message = calls (call.Allow row.pubkey work.moment) (λ r. with_got over (grant_of r) (λ grant. aggregated_plan work message grant))
+
+-- an aggregate of the votes for this data is asked for
+abbrev pub aggregate_plan : SlotWork → AttesterRow → AttestationData → Sig → DutyPlan Ended
+aggregate_plan work row details proof = asks (ask.Aggregate (record { 0 = details_root details }) work.slot) (λ a. with_got over (aggregate_of details a) (λ aggregate. gathered_plan work row (aggregate_message row proof aggregate)))
+
 -- ---- the duties of a slot
 
 abbrev pub duty_plan : SlotWork → Duty → DutyPlan Ended
@@ -153,6 +182,8 @@ again_plan work d unsent = Stop
 abbrev pub task_plan : SlotWork → Task → DutyPlan Ended
 task_plan work (task.Fresh d) = duty_plan work d
 task_plan work (task.Again d unsent) = again_plan work d unsent
+task_plan work (task.Choose row details) = choose_plan work row details
+task_plan work (task.Aggregate row details proof) = aggregate_plan work row details proof
 
 -- one after another, with an end each
 abbrev pub slot_plan : SlotWork → List Task → DutyPlan (List Ended)

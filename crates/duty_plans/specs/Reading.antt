@@ -1,9 +1,12 @@
 -- What is read of the replies to a duty's calls.
-use Rattle.std.specs.Prelude.{ℕ, List, Option, Some, None, Result, Ok, Err}
+use Rattle.std.specs.Prelude.{ℕ, if◌then◌else◌, List, Option, Some, None, Result, Ok, Err}
+use Rattle.std.specs.Str.{bytes_eq}
+use Rattle.edge_kit.specs.declared.bytes.Root.{Root}
 use Rattle.edge_kit.specs.declared.bytes.Sig.{Sig}
 use Rattle.protect_record.specs.declared.verdict.Verdict.{Verdict}
 use Rattle.protect_record.specs.declared.verdict.Verdict.TheVariants as verdict
 use Rattle.phase0_types.specs.declared.attestation.AttestationData.{AttestationData}
+use Rattle.phase0_blocks.specs.declared.vote.Attestation.{Attestation}
 use Rattle.altair_blocks.specs.declared.any_block.AnyBlock.{AnyBlock}
 use Rattle.desk_machine.specs.declared.open_grant.OpenGrant.{OpenGrant}
 use Rattle.desk_machine.specs.declared.call.DeskReply.{DeskReply}
@@ -18,6 +21,8 @@ use Rattle.node_fallback.specs.declared.no_node.NoAnswer.{NoAnswer}
 use Rattle.node_fallback.specs.declared.no_node.NoAnswer.TheVariants as none
 use Rattle.duty_schedule.specs.Checking.{block_members, data_members, first_that_differs}
 use Rattle.duty_schedule.specs.declared.checks.DataDiffers.{DataDiffers}
+use Rattle.duty_plans.specs.Messages.{details_root}
+use Rattle.duty_plans.specs.declared.got.AggregateDiffers.{AggregateDiffers}
 use Rattle.duty_plans.specs.declared.got.Got.{Got}
 use Rattle.duty_plans.specs.declared.got.Got.TheVariants as got
 use Rattle.duty_plans.specs.declared.result.Refusal.TheVariants as refusal
@@ -79,6 +84,16 @@ abbrev pub block_of : Option ℕ → ProposerRow → Result Answer NoAnswer → 
 block_of altair row (Ok (answer.Block block)) = matching (first_that_differs (block_members row.slot altair block)) block
 block_of altair row (Ok a) = got.Nothing
 block_of altair row (Err why) = nothing_of why
+
+-- how the data of an aggregate differs from that of which one was asked for, by its root
+abbrev pub root_differs : Root → AttestationData → Option AggregateDiffers
+root_differs asked details = if bytes_eq (details_root details) asked.0 then None else Some (record { asked = asked; got = record { 0 = details_root details } })
+
+-- an aggregate, where it is of the votes for this data, by its root
+abbrev pub aggregate_of : AttestationData → Result Answer NoAnswer → Got Attestation
+aggregate_of details (Ok (answer.Aggregate aggregate)) = if bytes_eq (details_root aggregate.details) (details_root details) then got.Given aggregate else got.Failed ended.DataDiffers
+aggregate_of details (Ok a) = got.Nothing
+aggregate_of details (Err why) = nothing_of why
 
 -- whether a node took the post
 abbrev pub posted_of : Result (Unit {0}) NoAnswer → Got (Unit {0})

@@ -1,15 +1,26 @@
--- What another try proposes, and what is left of a duty.
-use Rattle.std.specs.Prelude.{◌≡◌, true, List, [], ◌∷◌, Contains, IfSome, Option, None, Some}
+-- What another try proposes, what is left of a duty, and what it goes on with.
+use Rattle.std.specs.Prelude.{◌≡◌, true, List, [], ◌∷◌, ◌++◌, Contains, IfSome, Option, None, Some}
 use Rattle.edge_kit.specs.declared.bytes.PubKey.{PubKey}
+use Rattle.edge_kit.specs.declared.bytes.Sig.{Sig}
 use Rattle.slash_defs.specs.declared.message.Message.{Message}
+use Rattle.desk_machine.specs.declared.open_grant.OpenGrant.{OpenGrant}
 use Rattle.desk_machine.specs.declared.call.DeskCall.{DeskCall}
 use Rattle.desk_machine.specs.declared.call.DeskCall.TheVariants as call
+use Rattle.signer_link.specs.declared.request.PlainRequest.{PlainRequest}
+use Rattle.signer_link.specs.declared.reply.SignReply.TheVariants as signing
+use Rattle.duty_schedule.specs.Aggregators.{is_aggregator}
+use Rattle.duty_schedule.specs.Checking.{data_members, first_that_differs}
+use Rattle.duty_schedule.specs.declared.rows.Duty.TheVariants as duty
+use Rattle.duty_plans.specs.declared.ended.Aggregation.{Aggregation}
+use Rattle.duty_plans.specs.declared.ended.Aggregation.TheVariants as votes
 use Rattle.duty_plans.specs.declared.ended.Ended.{Ended}
 use Rattle.duty_plans.specs.declared.task.Task.{Task}
+use Rattle.duty_plans.specs.declared.task.Task.TheVariants as task
 use Rattle.duty_plans.specs.declared.work.SlotWork.{SlotWork}
 use Rattle.duty_plans.specs.Ends.{is_repeated}
 use Rattle.duty_plans.specs.Guards.{granted_in}
-use Rattle.duty_plans.specs.Steps.{DutyCall, DutyStep, Calls, desk_calls}
+use Rattle.duty_plans.specs.Messages.{slot_request}
+use Rattle.duty_plans.specs.Steps.{DutyCall, DutyStep, Calls, Reveals, Signed, desk_calls}
 use Rattle.duty_plans.specs.Tasks.{IsOwnUnsent, duty_of, owner_of, unsent_message}
 
 -- where leave is asked for a message, it is this one, for this key
@@ -31,3 +42,24 @@ HadLeave so key (Some m) = Contains so (key, m)
 abbrev pub IsLeft : SlotWork → Task → List DutyStep → Ended → Type 0
 IsLeft work t steps e = IfSome e.unsent (λ unsent. (is_repeated e.result ≡ true) × IsOwnUnsent work.altair (duty_of t) unsent
     × HadLeave (granted_in (desk_calls steps)) (owner_of (duty_of t)) (unsent_message work.domains unsent))
+
+-- ---- what it goes on with
+
+-- in these steps the service gave this signature under a grant of the key for this
+pub record IsProvedIn (steps : List DutyStep) (owner : PubKey) (q : PlainRequest) (proof : Sig) : Type 0 where
+  pub grant : OpenGrant
+  pub owned : grant.key ≡ owner
+  pub front : List DutyStep
+  pub back : List DutyStep
+  pub are : steps ≡ front ++ (Reveals grant q, Signed (signing.Signed proof)) ∷ back
+
+-- of a vote: with data that is the duty's. Of a choice: with the same data and a proof that the service gave for the slot, and that chooses
+-- the validator.
+abbrev pub GoesOnWith : SlotWork → Task → List DutyStep → Aggregation → Type 0
+GoesOnWith work (task.Fresh (duty.Vote row)) steps (votes.Voted details) = first_that_differs (data_members row details) ≡ None
+GoesOnWith work (task.Again (duty.Vote row) unsent) steps (votes.Voted details) = first_that_differs (data_members row details) ≡ None
+GoesOnWith work (task.Choose row asked) steps (votes.Chosen details proof) = (details ≡ asked) × (is_aggregator proof row.committee_length ≡ true) × IsProvedIn steps row.pubkey (slot_request work) proof
+GoesOnWith work t steps x = ⊥
+
+abbrev pub GoesOn : SlotWork → Task → List DutyStep → Ended → Type 0
+GoesOn work t steps e = IfSome e.aggregation (GoesOnWith work t steps)

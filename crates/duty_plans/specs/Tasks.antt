@@ -1,8 +1,9 @@
 -- What is done of duties: all of each, or what was granted and not sent once more.
-use Rattle.std.specs.Prelude.{◌≡◌, ℕ, List, [], ◌∷◌, ◌++◌, map, Option, Some, None}
+use Rattle.std.specs.Prelude.{◌≡◌, ℕ, true, List, [], ◌∷◌, ◌++◌, map, Option, Some, None}
 use Rattle.edge_kit.specs.declared.bytes.PubKey.{PubKey}
 use Rattle.slash_defs.specs.declared.message.Message.{Message}
 use Rattle.sign_roots.specs.declared.domains.Domains.{Domains}
+use Rattle.duty_schedule.specs.Aggregators.{is_aggregator}
 use Rattle.duty_schedule.specs.Checking.{block_members, data_members, first_that_differs}
 use Rattle.duty_schedule.specs.declared.rows.Duty.{Duty}
 use Rattle.duty_schedule.specs.declared.rows.Duty.TheVariants as duty
@@ -23,16 +24,22 @@ again_by d (Some unsent) = task.Again d unsent ∷ []
 abbrev pub again_of : Duty → Ended → List Task
 again_of d e = again_by d e.unsent
 
+-- what follows of each of these, which ended so
+abbrev pub tasks_by : {A : Type 0} → (A → Ended → List Task) → List A → List Ended → List Task
+tasks_by next [] ends = []
+tasks_by next (x ∷ xs) [] = []
+tasks_by next (x ∷ xs) (e ∷ ends) = next x e ++ tasks_by next xs ends
+
 -- what is left of these duties, which ended so
 abbrev pub again_tasks : List Duty → List Ended → List Task
-again_tasks [] ends = []
-again_tasks (d ∷ ds) [] = []
-again_tasks (d ∷ ds) (e ∷ ends) = again_of d e ++ again_tasks ds ends
+again_tasks ds ends = tasks_by again_of ds ends
 
 -- whose it is
 abbrev pub duty_of : Task → Duty
 duty_of (task.Fresh d) = d
 duty_of (task.Again d unsent) = d
+duty_of (task.Choose row details) = duty.Vote row
+duty_of (task.Aggregate row details proof) = duty.Vote row
 
 abbrev pub owner_of : Duty → PubKey
 owner_of (duty.Block row) = row.pubkey
@@ -54,3 +61,5 @@ IsOwnUnsent altair d unsent = ⊥
 abbrev pub IsOwnTask : Option ℕ → Task → Type 0
 IsOwnTask altair (task.Fresh d) = Unit {0}
 IsOwnTask altair (task.Again d unsent) = IsOwnUnsent altair d unsent
+IsOwnTask altair (task.Choose row details) = first_that_differs (data_members row details) ≡ None
+IsOwnTask altair (task.Aggregate row details proof) = (first_that_differs (data_members row details) ≡ None) × (is_aggregator proof row.committee_length ≡ true)

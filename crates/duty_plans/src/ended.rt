@@ -1,10 +1,11 @@
 //! How a duty ended, and what of it can be done again.
 ghost use Rattle.std.specs.Prelude.{◌≡◌, ◌<◌, IfOk, drop};
-ghost use Rattle.duty_plans.specs.Ends.{is_repeated, last_result, left_by, merged, place_after, results_of};
+ghost use Rattle.duty_plans.specs.Ends.{aggregation_of, barred, is_repeated, last_result, left_by, merged, over, place_after, results_of};
 
 use crate::result::{DutyResult, Unsigned};
 use altair_blocks::AnyBlock;
 use block_copies::block_copy;
+use edge_kit::Sig;
 use phase0_types::AttestationData;
 use std::alloc::{AllocError, Global};
 
@@ -32,13 +33,25 @@ impl Unsent {
     }
 }
 
-/// How a duty ended, and what of it can be done again.
+/// What is known of the votes of a validator's committee, which it aggregates where it is chosen to.
+#[derive(Clone, Copy, PartialEq, Eq, Debug)]
+pub enum Aggregation {
+    /// What the committee is to vote, as a node said.
+    Voted(AttestationData),
+    /// The same, and the proof that the validator is chosen: its signature of the slot (consensus-specs,
+    /// `is_aggregator`).
+    Chosen(AttestationData, Sig),
+}
+
+/// How a duty ended, what of it can be done again, and what it goes on with.
 #[derive(Drop)]
 pub struct Ended {
     /// How it ended.
     pub result: DutyResult,
     /// What was granted and not sent, where another try may send it.
     pub unsent: Option<Unsent>,
+    /// What is known of the votes of its committee, for what is done of the duty after this.
+    pub aggregation: Option<Aggregation>,
 }
 
 impl Ended {
@@ -53,7 +66,30 @@ impl Ended {
         Ok(Ended {
             result: self.result,
             unsent,
+            aggregation: self.aggregation,
         })
+    }
+}
+
+/// The end of a duty for which nothing is left. Takes no memory.
+pub fn over(by: DutyResult) -> Ended
+    ensures { result ≡ over by }
+{
+    Ended {
+        result: by,
+        unsent: None,
+        aggregation: None,
+    }
+}
+
+/// The end of a duty for which the desk gave no leave to send this. Takes no memory.
+pub fn barred(unsent: Unsent, by: DutyResult) -> Ended
+    ensures { result ≡ barred unsent by }
+{
+    Ended {
+        result: by,
+        unsent: None,
+        aggregation: aggregation_of(&unsent),
     }
 }
 
@@ -62,16 +98,24 @@ impl Ended {
 pub fn left_by(unsent: Unsent, by: DutyResult) -> Ended
     ensures { result ≡ left_by unsent by }
 {
-    if is_repeated(&by) {
-        Ended {
-            result: by,
-            unsent: Some(unsent),
-        }
-    } else {
-        Ended {
-            result: by,
-            unsent: None,
-        }
+    if !is_repeated(&by) {
+        return barred(unsent, by);
+    }
+    let aggregation = aggregation_of(&unsent);
+    Ended {
+        result: by,
+        unsent: Some(unsent),
+        aggregation,
+    }
+}
+
+/// What is known of a committee's votes by what was to be sent.
+fn aggregation_of(unsent: &Unsent) -> Option<Aggregation>
+    ensures { result ≡ aggregation_of unsent.now }
+{
+    match unsent {
+        Unsent::Vote(details) => Some(Aggregation::Voted(*details)),
+        Unsent::Reveal | Unsent::Block(_) => None,
     }
 }
 

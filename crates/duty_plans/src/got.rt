@@ -1,18 +1,31 @@
 //! What is read of the replies to a duty's calls.
-ghost use Rattle.std.specs.Prelude.{◌≡◌};
-ghost use Rattle.duty_plans.specs.Reading.{block_of, grant_of, judged, matching, posted_of, signature_of, vote_of};
+ghost use Rattle.std.specs.Prelude.{◌≡◌, if◌then◌else◌};
+ghost use Rattle.std.specs.Result.{result_err};
+ghost use Rattle.std.specs.Str.{bytes_eq};
+ghost use Rattle.duty_plans.specs.Messages.{details_root};
+ghost use Rattle.duty_plans.specs.Reading.{aggregate_of, block_of, grant_of, judged, matching, posted_of, root_differs, signature_of, vote_of};
 ghost use Rattle.duty_schedule.specs.Checking.{block_members, data_members, first_that_differs};
 
 use crate::result::{DutyResult, Refusal, Unsigned};
 use altair_blocks::AnyBlock;
 use desk_machine::{DeskReply, Grant};
 use duty_schedule::{check_block, check_data};
-use edge_kit::Sig;
+use edge_kit::{Root, Sig};
 use node_calls::{Answer, AttesterRow, ProposerRow};
 use node_fallback::NoAnswer;
-use phase0_types::AttestationData;
+use phase0_blocks::Attestation;
+use phase0_types::{AttestationData, Shaped};
 use protect_record::Verdict;
 use signer_link::SignReply;
+use thiserror::Error;
+
+/// An aggregate is of the votes for other data than was asked for: the hash tree roots of both.
+#[derive(Clone, Copy, PartialEq, Eq, Debug, Error)]
+#[error("the aggregate is of the votes for other data")]
+pub struct AggregateDiffers {
+    pub asked: Root,
+    pub got: Root,
+}
 
 /// What came of a call.
 #[derive(Drop)]
@@ -144,6 +157,49 @@ fn matching_block(altair: Option<u64>, row: &ProposerRow, block: AnyBlock) -> Go
         Ok(()) => Got::Given(block),
         Err(_) => Got::Failed(DutyResult::DataDiffers),
     }
+}
+
+/// The aggregate of the votes for this data, or why there is none: an answer is that where its data has the same root.
+pub fn aggregate_in(details: &AttestationData, answer: Result<Answer, NoAnswer>) -> Got<Attestation>
+    ensures { result ≡ aggregate_of details.now answer }
+{
+    match answer {
+        Ok(Answer::Aggregate(aggregate)) => matching_aggregate(details, aggregate),
+        Ok(_) => Got::Nothing,
+        Err(NoAnswer::NoNode(_)) => Got::Failed(DutyResult::NoData),
+        Err(NoAnswer::OutOfMemory) => Got::Nothing,
+    }
+}
+
+/// The aggregate, where it is of the votes for this data.
+fn matching_aggregate(details: &AttestationData, aggregate: Attestation) -> Got<Attestation>
+    ensures { result ≡ if bytes_eq (details_root aggregate.details) (details_root details.now) then Got.Given aggregate else Got.Failed DutyResult.DataDiffers }
+{
+    match check_aggregate(&details_root(details), &aggregate.details) {
+        Ok(()) => Got::Given(aggregate),
+        Err(_) => Got::Failed(DutyResult::DataDiffers),
+    }
+}
+
+/// Whether an aggregate's data is that of which an aggregate was asked for, by its hash tree root. The error has both
+/// roots. Takes no memory.
+pub fn check_aggregate(asked: &Root, details: &AttestationData) -> Result<(), AggregateDiffers>
+    ensures { result_err result ≡ root_differs asked.now details.now }
+{
+    let got = details_root(details);
+    if got == *asked {
+        Ok(())
+    } else {
+        Err(AggregateDiffers { asked: *asked, got })
+    }
+}
+
+/// The hash tree root of what is voted for, by which an aggregate is asked for. Takes no memory.
+#[tactic(auto, unfolding(crate::specs::Messages::details_root))]
+pub fn details_root(details: &AttestationData) -> Root
+    ensures { result.0 ≡ details_root details.now }
+{
+    details.root()
 }
 
 /// Whether a node took what was posted.

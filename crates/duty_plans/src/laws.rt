@@ -13,7 +13,7 @@ ghost use Rattle.duty_plans.specs.Guards.{PostedGranted};
 ghost use Rattle.duty_plans.specs.Hands.{Free};
 ghost use Rattle.duty_plans.specs.Owning.{AllOwn};
 ghost use Rattle.duty_plans.specs.Plans.{slot_plan, task_plan};
-ghost use Rattle.duty_plans.specs.Repeats.{AllPropose, IsLeft};
+ghost use Rattle.duty_plans.specs.Repeats.{AllPropose, GoesOn, IsLeft};
 ghost use Rattle.duty_plans.specs.Results.{result_by};
 ghost use Rattle.duty_plans.specs.Seats.{Does, Ran, Seat};
 ghost use Rattle.duty_plans.specs.Slots.{EachDone};
@@ -30,12 +30,12 @@ pub fn lane_law<K: DeskCalls, X>()
     ensures ran { (plan : DutyPlan X) (a b : Seat K) (v : Option X) → a.hand ≡ Free → b.hand ≡ Free → Carries Fits (Does K.leads) plan a b v → Ran K.leads plan a b v }
 {}
 
-/// What is signed and posted for a duty is that duty's, under a grant of its key for just that, where what is done once more
-/// is the duty's; a duty ends by the first of its calls that failed, and is sent where none did. The steps of a slot's
+/// What is signed and posted for a task is that task's, under a grant of its key for just that, where what is done once more
+/// is the duty's; a task ends by the first of its calls that failed, and is sent where none did. The steps of a slot's
 /// tasks are those of each, one after another, with one end each.
 pub fn duty_law()
-    ensures own { (work : SlotWork) (task : Task) (steps : List DutyStep) (v : Option Ended) → IsOwnTask work.altair task → Follows Fits (task_plan work task) steps v → AllOwn work (duty_of task) steps }
-    ensures result { (work : SlotWork) (task : Task) (steps : List DutyStep) (e : Ended) → Follows Fits (task_plan work task) steps (Some e) → e.result ≡ result_by work.altair (duty_of task) steps }
+    ensures own { (work : SlotWork) (task : Task) (steps : List DutyStep) (v : Option Ended) → IsOwnTask work.altair task → Follows Fits (task_plan work task) steps v → AllOwn work task steps }
+    ensures result { (work : SlotWork) (task : Task) (steps : List DutyStep) (e : Ended) → Follows Fits (task_plan work task) steps (Some e) → e.result ≡ result_by work.altair task steps }
     ensures each { (work : SlotWork) (tasks : List Task) (steps : List DutyStep) (ends : List Ended) → Follows Fits (slot_plan work tasks) steps (Some ends) → EachDone work tasks steps ends }
 {}
 
@@ -47,4 +47,11 @@ pub fn repeat_law()
     ensures same { (work : SlotWork) (duty : Duty) (unsent : Unsent) (m : Message) (steps : List DutyStep) (v : Option Ended) → unsent_message work.domains unsent ≡ Some m
         → Follows Fits (task_plan work (Task.Again duty unsent)) steps v → AllPropose (owner_of duty) m steps }
     ensures left { (work : SlotWork) (task : Task) (steps : List DutyStep) (e : Ended) → IsOwnTask work.altair task → Follows Fits (task_plan work task) steps (Some e) → IsLeft work task steps e }
+{}
+
+/// What a duty goes on with. Of a vote it is data that is the duty's. Of the choice of an aggregator it is the same data, and
+/// a signature that the service gave, in the steps of the choice and under a grant of the duty's key, for the slot, where that
+/// chooses the validator. Of all else it is nothing.
+pub fn aggregate_law()
+    ensures goes_on { (work : SlotWork) (task : Task) (steps : List DutyStep) (e : Ended) → IsOwnTask work.altair task → Follows Fits (task_plan work task) steps (Some e) → GoesOn work task steps e }
 {}

@@ -15,6 +15,9 @@ pub struct DutySetup {
     pub altair: Option<u64>,
     /// Whether keys are watched before they sign.
     pub watch: bool,
+    /// Whether validators that are chosen to aggregate the votes of their committee do so (consensus-specs, "Attestation
+    /// aggregation").
+    pub aggregate: bool,
     /// How many turns are taken, one for each slot that is reached.
     pub slots: u64,
     /// Of how many epochs before the one of a turn all is kept that a key signed; of what is older the newest stands

@@ -4,6 +4,9 @@ ghost use Rattle.duty_plans.specs.Tasks.{again_of, again_tasks, fresh};
 
 use crate::ended::{Ended, Unsent};
 use duty_schedule::Duty;
+use edge_kit::Sig;
+use node_calls::AttesterRow;
+use phase0_types::AttestationData;
 use std::alloc::{AllocError, Global};
 
 /// What is done of a duty.
@@ -13,6 +16,10 @@ pub enum Task {
     Fresh(Duty),
     /// What was granted for it and not sent, once more.
     Again(Duty, Unsent),
+    /// Whether the validator of this vote aggregates the votes of its committee, which are for this data.
+    Choose(AttesterRow, AttestationData),
+    /// The aggregate of the votes for this data, by a validator that this proof chooses.
+    Aggregate(AttesterRow, AttestationData, Sig),
 }
 
 impl Task {
@@ -23,6 +30,8 @@ impl Task {
         match self {
             Task::Fresh(duty) => Ok(Task::Fresh(*duty)),
             Task::Again(duty, unsent) => Ok(Task::Again(*duty, unsent.copy(alloc)?)),
+            Task::Choose(row, details) => Ok(Task::Choose(*row, *details)),
+            Task::Aggregate(row, details, proof) => Ok(Task::Aggregate(*row, *details, *proof)),
         }
     }
 }

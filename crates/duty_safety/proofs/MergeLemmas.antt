@@ -24,15 +24,16 @@ use Rattle.duty_plans.specs.Steps.{Asks, Calls, Replies}
 use Rattle.duty_plans.specs.declared.ended.Ended.{Ended}
 use Rattle.duty_plans.specs.declared.result.DutyResult.{DutyResult}
 use Rattle.duty_plans.specs.declared.task.Task.{Task}
+use Rattle.duty_plans.specs.Choices.{aggregate_tasks, reports}
 use Rattle.duty_plans.specs.Ends.{merged, results_of}
 use Rattle.duty_plans.specs.Tasks.{again_tasks, fresh}
 use Rattle.duty_plans.specs.declared.setup.DutySetup.{DutySetup}
 use Rattle.duty_plans.specs.declared.work.SlotWork.{SlotWork}
-use Rattle.duty_turns.specs.Lines.{duty_lines, none_line}
+use Rattle.duty_turns.specs.Lines.{aggregate_lines, duty_lines, none_line}
 use Rattle.duty_turns.specs.Standing.{Standing, indices_of, with_attesters, with_fork, with_indices, with_proposers}
-use Rattle.duty_turns.specs.Times.{again_start, epoch_of, is_first_slot, is_missed, next_slot, slot_start, votes_start}
+use Rattle.duty_turns.specs.Times.{again_start, aggregates_start, epoch_of, is_first_slot, is_missed, next_slot, slot_start, votes_start}
 use Rattle.duty_turns.specs.TurnSteps.{TurnCall, TurnPlan, TurnReply, TurnStep, Fits, Due, LanesRefreshed, LooksUp, Own, Owned, Refreshed, Refreshes, RefreshesLanes, Waits, Woke, Worked, Works, Writes, Wrote}
-use Rattle.duty_turns.specs.Turns.{NextPlan, PartPlan, active_of, after_works, again_plan, left_plan, tried_plan, answered_plan, ask_plan, asked_plan, asks, at_moment, at_slot, attesters_plan, blocks_in, by_32, calls, close_plan, closed_plan, due_plan, duties_plan, epoch_plan, epochs_plan, exported, exports, failed_plan, found, index_plan, is_worth_compacting, keys_of_turn, lanes_refreshed, listed_plan, lived_plan, liveness_plan, looks_up, merges, missing_epochs, missing_keys, noted, notes_of, notes_plan, on_standing, own_answer, own_reply, prunes, ready_plan, refreshed, refreshes, refreshes_lanes, renew_plan, renewed_now, renewed_plan, renews, shortens, sized, then_on, to_renew, turn_plan, unless_short, voters_plan, votes_in, votes_plan, waits, watch_plan, with_active, woken, woken_plan, work_of, worked, works, writes, written}
+use Rattle.duty_turns.specs.Turns.{NextPlan, PartPlan, active_of, after_wait, again_plan, aggregates_plan, left_plan, tried_plan, answered_plan, ask_plan, asked_plan, asks, at_moment, at_slot, attesters_plan, blocks_in, by_32, calls, choices_of, chooses_plan, close_plan, due_plan, duties_plan, epoch_plan, epochs_plan, exported, exports, failed_plan, finish_plan, found, gathers_plan, index_plan, is_worth_compacting, keys_of_turn, lanes_refreshed, listed_plan, lived_plan, liveness_plan, looks_up, merges, missing_epochs, missing_keys, noted, notes_of, notes_plan, on_standing, own_answer, own_reply, prunes, puts, ready_plan, refreshed, refreshes, refreshes_lanes, renew_plan, renewed_now, renewed_plan, renews, report_plan, shortens, sized, then_on, to_renew, told_plan, turn_plan, unless_short, voters_plan, votes_in, votes_plan, waits, watch_plan, with_active, woken, woken_plan, work_of, worked, works, writes, written, wrote}
 use Rattle.duty_turns.specs.declared.held.DutyEnd.{DutyEnd}
 use Rattle.duty_turns.specs.declared.held.DutyEnd.TheVariants as end
 use Rattle.duty_safety.proofs.AskedLemmas.{At, asked_stays}
@@ -253,25 +254,58 @@ prunes_quiet (Some keep) slot (Some active) next h = exports_quiet keep (epoch_o
 
 -- ---- a turn
 
-closed_quiet : (setup : DutySetup) (slot : ℕ) (s : Standing) (r : TurnReply) → Quiet setup.keep_epochs (epoch_of slot) (closed_plan setup slot s r)
-closed_quiet setup slot s (Wrote true piece) =
+finish_quiet : (setup : DutySetup) (slot : ℕ) (s : Standing) → Quiet setup.keep_epochs (epoch_of slot) (finish_plan setup slot s)
+finish_quiet setup slot s =
     prunes_quiet setup.keep_epochs slot s.active (calls call.HasFailed (failed_plan s))
     (calls_quiet setup.keep_epochs (epoch_of slot) call.HasFailed (failed_plan s) (λ from. tt) (failed_quiet setup.keep_epochs (epoch_of slot) s))
-closed_quiet setup slot s r = done_quiet setup.keep_epochs (epoch_of slot) (Err end.Write)
+
+wrote_quiet : (keep_epochs : Option ℕ) (epoch : ℕ) (next : NextPlan) → Quiet keep_epochs epoch next → (r : TurnReply) → Quiet keep_epochs epoch (wrote r next)
+wrote_quiet keep_epochs epoch next h (Wrote true piece) = h
+wrote_quiet keep_epochs epoch next h r = done_quiet keep_epochs epoch (Err end.Write)
+
+puts_quiet : (keep_epochs : Option ℕ) (epoch : ℕ) (text : List ℕ) (next : NextPlan) → Quiet keep_epochs epoch next → Quiet keep_epochs epoch (puts text next)
+puts_quiet keep_epochs epoch text next h = ask_quiet keep_epochs epoch (Writes text) (λ r. wrote r next) (λ from. tt) (wrote_quiet keep_epochs epoch next h)
 
 close_quiet : (setup : DutySetup) (slot : ℕ) (ds : List Duty) (results : List DutyResult) (s : Standing) → Quiet setup.keep_epochs (epoch_of slot) (close_plan setup slot ds results s)
-close_quiet setup slot ds results s = ask_quiet setup.keep_epochs (epoch_of slot) (Writes (duty_lines slot ds results)) (closed_plan setup slot s) (λ from. tt) (closed_quiet setup slot s)
+close_quiet setup slot ds results s = puts_quiet setup.keep_epochs (epoch_of slot) (duty_lines slot ds results) (finish_plan setup slot s) (finish_quiet setup slot s)
+
+report_quiet : (setup : DutySetup) (slot : ℕ) (choices : List Task) (found : List (Option DutyResult)) (s : Standing) → Quiet setup.keep_epochs (epoch_of slot) (report_plan setup slot choices found s)
+report_quiet setup slot choices found s = puts_quiet setup.keep_epochs (epoch_of slot) (aggregate_lines slot choices found) (finish_plan setup slot s) (finish_quiet setup slot s)
+
+aggregates_quiet : (setup : DutySetup) (s : Standing) (choices : List Task) (chosen : List Ended) (tasks : List Task) (reached : ℕ) → Quiet setup.keep_epochs (epoch_of s.slot) (aggregates_plan setup s choices chosen tasks reached)
+aggregates_quiet setup s choices chosen tasks reached =
+    let moment = aggregates_start setup.genesis_time s.slot in
+    let next = after_wait setup.genesis_time moment reached s in
+    let last = at_slot (next_slot s.slot) s in
+    let after : List Ended → NextPlan = λ ends. report_plan setup s.slot choices (reports chosen ends) last in
+    if_quiet setup.keep_epochs (epoch_of s.slot) (is_missed setup.genesis_time s.slot moment reached) (report_plan setup s.slot choices (reports chosen []) next) (works (work_of setup s) 0 tasks after)
+    (report_quiet setup s.slot choices (reports chosen []) next)
+    (works_quiet setup.keep_epochs (epoch_of s.slot) (work_of setup s) 0 tasks after (λ ends. report_quiet setup s.slot choices (reports chosen ends) last))
+
+gathers_quiet : (setup : DutySetup) (s : Standing) (choices : List Task) (chosen : List Ended) (tasks : List Task) → Quiet setup.keep_epochs (epoch_of s.slot) (gathers_plan setup s choices chosen tasks)
+gathers_quiet setup s choices chosen [] = report_quiet setup s.slot choices (reports chosen []) (at_slot (next_slot s.slot) s)
+gathers_quiet setup s choices chosen (t ∷ tasks) = waits_quiet setup.keep_epochs (epoch_of s.slot) (aggregates_start setup.genesis_time s.slot) (aggregates_plan setup s choices chosen (t ∷ tasks)) (aggregates_quiet setup s choices chosen (t ∷ tasks))
+
+chooses_quiet : (setup : DutySetup) (s : Standing) (choices : List Task) → Quiet setup.keep_epochs (epoch_of s.slot) (chooses_plan setup s choices)
+chooses_quiet setup s [] = finish_quiet setup s.slot (at_slot (next_slot s.slot) s)
+chooses_quiet setup s (t ∷ choices) =
+    works_quiet setup.keep_epochs (epoch_of s.slot) (work_of setup s) 0 (t ∷ choices) (λ chosen. gathers_plan setup s (t ∷ choices) chosen (aggregate_tasks (t ∷ choices) chosen))
+    (λ chosen. gathers_quiet setup s (t ∷ choices) chosen (aggregate_tasks (t ∷ choices) chosen))
+
+told_quiet : (setup : DutySetup) (s : Standing) (ds : List Duty) (ends : List Ended) (results : List DutyResult) → Quiet setup.keep_epochs (epoch_of s.slot) (told_plan setup s ds ends results)
+told_quiet setup s ds ends results = puts_quiet setup.keep_epochs (epoch_of s.slot) (duty_lines s.slot ds results) (chooses_plan setup s (choices_of setup ds ends)) (chooses_quiet setup s (choices_of setup ds ends))
 
 tried_quiet : (setup : DutySetup) (s : Standing) (ds : List Duty) (ends : List Ended) (tasks : List Task) (reached : ℕ) → Quiet setup.keep_epochs (epoch_of s.slot) (tried_plan setup s ds ends tasks reached)
 tried_quiet setup s ds ends tasks reached =
-    let next = after_works setup.genesis_time reached s in
-    let after : List Ended → NextPlan = λ again. close_plan setup s.slot ds (merged ends again) (at_slot (next_slot s.slot) s) in
-    if_quiet setup.keep_epochs (epoch_of s.slot) (is_missed setup.genesis_time s.slot (again_start setup.genesis_time s.slot) reached) (close_plan setup s.slot ds (results_of ends) next) (works (work_of setup s) 0 tasks after)
+    let moment = again_start setup.genesis_time s.slot in
+    let next = after_wait setup.genesis_time moment reached s in
+    let after : List Ended → NextPlan = λ again. told_plan setup s ds ends (merged ends again) in
+    if_quiet setup.keep_epochs (epoch_of s.slot) (is_missed setup.genesis_time s.slot moment reached) (close_plan setup s.slot ds (results_of ends) next) (works (work_of setup s) 0 tasks after)
     (close_quiet setup s.slot ds (results_of ends) next)
-    (works_quiet setup.keep_epochs (epoch_of s.slot) (work_of setup s) 0 tasks after (λ again. close_quiet setup s.slot ds (merged ends again) (at_slot (next_slot s.slot) s)))
+    (works_quiet setup.keep_epochs (epoch_of s.slot) (work_of setup s) 0 tasks after (λ again. told_quiet setup s ds ends (merged ends again)))
 
 left_quiet : (setup : DutySetup) (s : Standing) (ds : List Duty) (ends : List Ended) (tasks : List Task) → Quiet setup.keep_epochs (epoch_of s.slot) (left_plan setup s ds ends tasks)
-left_quiet setup s ds ends [] = close_quiet setup s.slot ds (results_of ends) (at_slot (next_slot s.slot) s)
+left_quiet setup s ds ends [] = told_quiet setup s ds ends (results_of ends)
 left_quiet setup s ds ends (t ∷ tasks) = waits_quiet setup.keep_epochs (epoch_of s.slot) (again_start setup.genesis_time s.slot) (tried_plan setup s ds ends (t ∷ tasks)) (tried_quiet setup s ds ends (t ∷ tasks))
 
 votes_quiet : (setup : DutySetup) (s : Standing) (ds : List Duty) (proposed : List Ended) (reached : ℕ) → Quiet setup.keep_epochs (epoch_of s.slot) (votes_plan setup s ds proposed reached)

@@ -17,23 +17,23 @@ use Rattle.call_plans.proofs.PlanLemmas.{follows_split}
 use Rattle.duty_plans.proofs.SlotLemmas.{each_done}
 use Rattle.duty_plans.specs.Steps.{Calls, DutyStep}
 use Rattle.duty_plans.specs.declared.ended.Ended.{Ended}
-use Rattle.duty_plans.specs.declared.ended.Unsent.{Unsent}
 use Rattle.duty_plans.specs.declared.result.DutyResult.{DutyResult}
 use Rattle.duty_plans.specs.declared.task.Task.{Task}
 use Rattle.duty_plans.specs.declared.task.Task.TheVariants as task
-use Rattle.duty_plans.specs.Ends.{last_by, left_after, merged, results_of}
+use Rattle.duty_plans.specs.Choices.{aggregate_tasks, reports}
+use Rattle.duty_plans.specs.Ends.{left_after, merged, results_of}
 use Rattle.duty_plans.specs.Tasks.{again_tasks, fresh}
 use Rattle.duty_plans.specs.declared.setup.DutySetup.{DutySetup}
 use Rattle.duty_plans.specs.declared.work.SlotWork.{SlotWork}
 use Rattle.duty_turns.specs.declared.held.DutyEnd.TheVariants as end
 use Rattle.duty_turns.specs.Lanes.{DidShares, HasEach, dealt}
-use Rattle.duty_turns.specs.Lines.{duty_lines}
+use Rattle.duty_turns.specs.Lines.{aggregate_lines, duty_lines}
 use Rattle.duty_turns.specs.Standing.{Standing}
-use Rattle.duty_turns.specs.Times.{again_start, is_first_slot, next_slot, slot_start, votes_start}
+use Rattle.duty_turns.specs.Times.{again_start, aggregates_start, is_first_slot, next_slot, slot_start, votes_start}
 use Rattle.duty_turns.specs.TurnSteps.{Fits, TurnCall, TurnPlan, TurnReply, TurnStep, LooksUp, Own, Refreshes, RefreshesLanes, Waits, Works, Writes, Due, Refreshed, LanesRefreshed, Woke, Worked, Wrote}
-use Rattle.duty_turns.specs.Turns.{Next, NextPlan, active_of, asked_plan, at_slot, blocks_in, calls, close_plan, lanes_refreshed, own_reply, refreshed, refreshes, refreshes_lanes, is_worth_compacting, shortens, sized, unless_short, votes_in, waits, with_active, woken, work_of, works}
-use Rattle.duty_safety.specs.OnTime.{AllWaits, IsWait, Wait, again_on_time, cast_plan, done_plan, left_on_time, listed_on_time, on_time_turn, ready_on_time, tried_on_time}
-use Rattle.duty_safety.specs.Told.{AllDone, AllTold, AreTried, EachDoneIn, ToldIfNext}
+use Rattle.duty_turns.specs.Turns.{Next, NextPlan, active_of, asked_plan, at_slot, blocks_in, calls, choices_of, finish_plan, lanes_refreshed, own_reply, puts, refreshed, refreshes, refreshes_lanes, is_worth_compacting, report_plan, shortens, sized, unless_short, votes_in, waits, with_active, woken, work_of, works}
+use Rattle.duty_safety.specs.OnTime.{AllWaits, IsWait, Wait, again_on_time, aggregates_on_time, cast_plan, chooses_on_time, done_plan, gathers_on_time, left_on_time, listed_on_time, on_time_turn, ready_on_time, told_on_time, tried_on_time}
+use Rattle.duty_safety.specs.Told.{AllDone, AllTold, AreGathered, ArePublished, AreTried, EachDoneIn, ToldIfNext}
 use Rattle.duty_safety.proofs.AskedLemmas.{At, asked_stays}
 
 -- ---- what follows a call
@@ -68,13 +68,13 @@ not_next : (steps : List TurnStep) (t : Standing) → Follows Fits (Done (Err en
 not_next [] t h = cc
 not_next (s ∷ steps) t h = h
 
-close_so : (setup : DutySetup) (slot : ℕ) (ds : List Duty) (results : List DutyResult) (s : Standing) (steps : List TurnStep) (t : Standing) → Follows Fits (close_plan setup slot ds results s) steps (Some (Ok t))
-    → (rest : List TurnStep) × (steps ≡ (Writes (duty_lines slot ds results), Wrote true (duty_lines slot ds results)) ∷ rest)
-close_so setup slot ds results s [] t h = absurd h
-close_so setup slot ds results s ((c, Wrote true piece) ∷ rest) t h =
-    let text = duty_lines slot ds results in
-    (rest, ap (λ (d : TurnCall). (d, Wrote true piece) ∷ rest) h.0 ∙ ap (λ (p : List ℕ). (Writes text, Wrote true p) ∷ rest) h.1)
-close_so setup slot ds results s ((c, r) ∷ rest) t h = absurd (not_next rest t h.2)
+-- a text was written whole, and it went on
+puts_so : (text : List ℕ) (next : NextPlan) (steps : List TurnStep) (t : Standing) → Follows Fits (puts text next) steps (Some (Ok t))
+    → (rest : List TurnStep) × (steps ≡ (Writes text, Wrote true text) ∷ rest) × Follows Fits next rest (Some (Ok t))
+puts_so text next [] t h = absurd h
+puts_so text next ((c, Wrote true piece) ∷ rest) t h =
+    (rest, ap (λ (d : TurnCall). (d, Wrote true piece) ∷ rest) h.0 ∙ ap (λ (p : List ℕ). (Writes text, Wrote true p) ∷ rest) h.1, h.2)
+puts_so text next ((c, r) ∷ rest) t h = absurd (not_next rest t h.2)
 
 -- ---- blocks and votes are all that is due
 
@@ -115,38 +115,117 @@ tried_count : (setup : DutySetup) (slot : ℕ) (work : SlotWork) (ends : List En
 tried_count setup slot work ends [] steps results h = ap (λ (l : List DutyResult). length l) h.1 ∙ length-map ends (λ e. e.result)
 tried_count setup slot work ends (t ∷ tasks) steps results h = ap (λ (l : List DutyResult). length l) h.6 ∙ count_merged ends h.2
 
+-- ---- aggregates
+
+-- what was published of these tasks, and that a line of each choice was written; more may follow
+record Reported (setup : DutySetup) (s : Standing) (choices : List Task) (chosen : List Ended) (tasks : List Task) (steps : List TurnStep) : Type 0 where
+  published : List TurnStep
+  ends : List Ended
+  behind : List TurnStep
+  are : steps ≡ published ++ (Writes (aggregate_lines s.slot choices (reports chosen ends)), Wrote true (aggregate_lines s.slot choices (reports chosen ends))) ∷ behind
+  done : ArePublished setup s.slot (work_of setup s) tasks published ends
+
+two_steps : (a b : TurnStep) (p q r : List TurnStep) → p ≡ a ∷ q → q ≡ b ∷ r → p ≡ (a ∷ b ∷ []) ++ r
+two_steps a b p q r e f = e ∙ ap (λ (l : List TurnStep). a ∷ l) f
+
+reported_so : (setup : DutySetup) (s : Standing) (choices : List Task) (chosen : List Ended) (tasks : List Task) (steps : List TurnStep) (t : Standing) → Follows Fits (gathers_on_time setup s choices chosen tasks) steps (Some (Ok t))
+    → Reported setup s choices chosen tasks steps
+reported_so setup s choices chosen [] steps t f =
+    let last = at_slot (next_slot s.slot) s in
+    let text = aggregate_lines s.slot choices (reports chosen []) in
+    let put = puts_so text (finish_plan setup s.slot last) steps t f in
+    record { published = []; ends = []; behind = put.0; are = put.1; done = (refl, refl) }
+reported_so setup s choices chosen (k ∷ tasks) steps t f =
+    let moment = aggregates_start setup.genesis_time s.slot in
+    let work = work_of setup s in
+    let last = at_slot (next_slot s.slot) s in
+    let woke = waits_so moment (λ reached. aggregates_on_time setup s choices chosen (k ∷ tasks)) steps (Ok t) f in
+    let ended = works_so work 0 (k ∷ tasks) (λ ends. report_plan setup s.slot choices (reports chosen ends) last) woke.1 (Ok t) woke.3 in
+    let text = aggregate_lines s.slot choices (reports chosen ended.1) in
+    let put = puts_so text (finish_plan setup s.slot last) ended.2 t ended.6 in
+    let first : TurnStep = (Waits moment, Woke woke.0) in
+    let second : TurnStep = (Works work 0 (k ∷ tasks), Worked ended.0 (Some ended.1)) in
+    record {
+      published = first ∷ second ∷ [];
+      ends = ended.1;
+      behind = put.0;
+      are = two_steps first second steps woke.1 ((Writes text, Wrote true text) ∷ put.0) woke.2 (ended.3 ∙ ap (λ (l : List TurnStep). second ∷ l) put.1);
+      done = (woke.0, ended.0, refl, ended.4, ended.5);
+    }
+
+record Gathered (setup : DutySetup) (s : Standing) (choices : List Task) (steps : List TurnStep) : Type 0 where
+  gathers : List TurnStep
+  behind : List TurnStep
+  are : steps ≡ gathers ++ behind
+  gathered : AreGathered setup s.slot (work_of setup s) choices gathers
+
+-- a step, then some, a last one, and more
+one_more : (a b : TurnStep) (p q xs r : List TurnStep) → p ≡ a ∷ q → q ≡ xs ++ b ∷ r → p ≡ (a ∷ (xs ++ b ∷ [])) ++ r
+one_more a b p q xs r e f = e ∙ ap (λ (l : List TurnStep). a ∷ l) (f ∙ sym (append_assoc xs (b ∷ []) r))
+
+gathered_so : (setup : DutySetup) (s : Standing) (choices : List Task) (steps : List TurnStep) (t : Standing) → Follows Fits (chooses_on_time setup s choices) steps (Some (Ok t)) → Gathered setup s choices steps
+gathered_so setup s [] steps t f = record { gathers = []; behind = steps; are = refl; gathered = refl }
+gathered_so setup s (c ∷ choices) steps t f =
+    let work = work_of setup s in
+    let made = works_so work 0 (c ∷ choices) (λ chosen. gathers_on_time setup s (c ∷ choices) chosen (aggregate_tasks (c ∷ choices) chosen)) steps (Ok t) f in
+    let told = reported_so setup s (c ∷ choices) made.1 (aggregate_tasks (c ∷ choices) made.1) made.2 t made.6 in
+    let text = aggregate_lines s.slot (c ∷ choices) (reports made.1 told.ends) in
+    let first : TurnStep = (Works work 0 (c ∷ choices), Worked made.0 (Some made.1)) in
+    let last : TurnStep = (Writes text, Wrote true text) in
+    record {
+      gathers = first ∷ (told.published ++ last ∷ []);
+      behind = told.behind;
+      are = one_more first last steps made.2 told.published told.behind made.3 told.are;
+      gathered = (made.0, made.1, told.published, told.ends, text, refl, made.4, made.5, told.done, refl);
+    }
+
 -- ---- what was left
 
 record Closed (setup : DutySetup) (s : Standing) (ds : List Duty) (ends : List Ended) (tasks : List Task) (steps : List TurnStep) : Type 0 where
   tries : List TurnStep
   results : List DutyResult
+  gathers : List TurnStep
   behind : List TurnStep
-  are : steps ≡ tries ++ (Writes (duty_lines s.slot ds results), Wrote true (duty_lines s.slot ds results)) ∷ behind
+  are : steps ≡ tries ++ (Writes (duty_lines s.slot ds results), Wrote true (duty_lines s.slot ds results)) ∷ (gathers ++ behind)
   tried : AreTried setup s.slot (work_of setup s) ends tasks tries results
+  gathered : AreGathered setup s.slot (work_of setup s) (choices_of setup ds ends) gathers
 
-two_steps : (a b : TurnStep) (p q r : List TurnStep) → p ≡ a ∷ q → q ≡ b ∷ r → p ≡ (a ∷ b ∷ []) ++ r
-two_steps a b p q r e f = e ∙ ap (λ (l : List TurnStep). a ∷ l) f
+-- a line of each duty was written, and aggregates followed
+record Lined (setup : DutySetup) (s : Standing) (ds : List Duty) (ends : List Ended) (results : List DutyResult) (steps : List TurnStep) : Type 0 where
+  gathers : List TurnStep
+  behind : List TurnStep
+  are : steps ≡ (Writes (duty_lines s.slot ds results), Wrote true (duty_lines s.slot ds results)) ∷ (gathers ++ behind)
+  gathered : AreGathered setup s.slot (work_of setup s) (choices_of setup ds ends) gathers
+
+lined_so : (setup : DutySetup) (s : Standing) (ds : List Duty) (ends : List Ended) (results : List DutyResult) (steps : List TurnStep) (t : Standing) → Follows Fits (told_on_time setup s ds ends results) steps (Some (Ok t)) → Lined setup s ds ends results steps
+lined_so setup s ds ends results steps t f =
+    let text = duty_lines s.slot ds results in
+    let choices = choices_of setup ds ends in
+    let put = puts_so text (chooses_on_time setup s choices) steps t f in
+    let all = gathered_so setup s choices put.0 t put.2 in
+    record { gathers = all.gathers; behind = all.behind; are = put.1 ∙ ap (λ (l : List TurnStep). (Writes text, Wrote true text) ∷ l) all.are; gathered = all.gathered }
 
 closed_so : (setup : DutySetup) (s : Standing) (ds : List Duty) (ends : List Ended) (tasks : List Task) (steps : List TurnStep) (t : Standing) → Follows Fits (left_on_time setup s ds ends tasks) steps (Some (Ok t)) → Closed setup s ds ends tasks steps
 closed_so setup s ds ends [] steps t f =
-    let close = close_so setup s.slot ds (results_of ends) (at_slot (next_slot s.slot) s) steps t f in
-    record { tries = []; results = results_of ends; behind = close.0; are = close.1; tried = (refl, refl) }
+    let lined = lined_so setup s ds ends (results_of ends) steps t f in
+    record { tries = []; results = results_of ends; gathers = lined.gathers; behind = lined.behind; are = lined.are; tried = (refl, refl); gathered = lined.gathered }
 closed_so setup s ds ends (k ∷ tasks) steps t f =
     let moment = again_start setup.genesis_time s.slot in
     let work = work_of setup s in
-    let next = at_slot (next_slot s.slot) s in
     let woke = waits_so moment (λ reached. tried_on_time setup s ds ends (k ∷ tasks)) steps (Ok t) f in
-    let again = works_so work 0 (k ∷ tasks) (λ a. close_plan setup s.slot ds (merged ends a) next) woke.1 (Ok t) woke.3 in
-    let close = close_so setup s.slot ds (merged ends again.1) next again.2 t again.6 in
+    let again = works_so work 0 (k ∷ tasks) (λ a. told_on_time setup s ds ends (merged ends a)) woke.1 (Ok t) woke.3 in
+    let lined = lined_so setup s ds ends (merged ends again.1) again.2 t again.6 in
     let text = duty_lines s.slot ds (merged ends again.1) in
     let first : TurnStep = (Waits moment, Woke woke.0) in
     let second : TurnStep = (Works work 0 (k ∷ tasks), Worked again.0 (Some again.1)) in
     record {
       tries = first ∷ second ∷ [];
       results = merged ends again.1;
-      behind = close.0;
-      are = two_steps first second steps woke.1 ((Writes text, Wrote true text) ∷ close.0) woke.2 (again.3 ∙ ap (λ (l : List TurnStep). second ∷ l) close.1);
+      gathers = lined.gathers;
+      behind = lined.behind;
+      are = two_steps first second steps woke.1 ((Writes text, Wrote true text) ∷ (lined.gathers ++ lined.behind)) woke.2 (again.3 ∙ ap (λ (l : List TurnStep). second ∷ l) lined.are);
       tried = (woke.0, again.0, again.1, refl, again.4, again.5, refl);
+      gathered = lined.gathered;
     }
 
 -- ---- from the look-up on
@@ -170,6 +249,7 @@ told_due setup s active ds steps t due f =
     let text = duty_lines s.slot both close.results in
     let all = all_due s.answers s.slot active ds due in
     let tried = subst (λ (l : List Duty). AreTried setup s.slot work ends (again_tasks l ends) close.tries close.results) all close.tried in
+    let gathered = subst (λ (l : List Duty). AreGathered setup s.slot work (choices_of setup l ends) close.gathers) all close.gathered in
     let looked : TurnStep = (LooksUp s.answers s.slot active, Due ds) in
     let first : TurnStep = (Works work 0 (fresh (blocks_in ds)), Worked blocks.0 (Some blocks.1)) in
     let second : TurnStep = (Waits moment, Woke woke.0) in
@@ -188,14 +268,16 @@ told_due setup s active ds steps t due f =
       tries = close.tries;
       results = close.results;
       text = text;
+      gathers = close.gathers;
       behind = close.behind;
-      are = in_order looked first second third steps blocks.2 woke.1 votes.2 (close.tries ++ (Writes text, Wrote true text) ∷ close.behind) blocks.3 woke.2 votes.3 close.are;
+      are = in_order looked first second third steps blocks.2 woke.1 votes.2 (close.tries ++ (Writes text, Wrote true text) ∷ (close.gathers ++ close.behind)) blocks.3 woke.2 votes.3 close.are;
       found = due;
       work_slot = refl;
       blocks = blocks.4;
       votes = votes.4;
       tried = tried;
       lines = ap (λ (l : List Duty). duty_lines s.slot l close.results) all;
+      gathered = gathered;
       each = tried_count setup s.slot work ends (again_tasks ds ends) close.tries close.results tried ∙ as_many ds blocks.1 votes.1 blocks.5 votes.5 all;
     }
 
@@ -221,6 +303,7 @@ more_told setup slot xs ys (Ok t) h = record {
   tries = h.tries;
   results = h.results;
   text = h.text;
+  gathers = h.gathers;
   behind = h.behind;
   are = ap (λ (l : List TurnStep). xs ++ l) h.are ∙ sym (append_assoc xs h.front _);
   found = h.found;
@@ -229,6 +312,7 @@ more_told setup slot xs ys (Ok t) h = record {
   votes = h.votes;
   tried = h.tried;
   lines = h.lines;
+  gathered = h.gathered;
   each = h.each;
 }
 

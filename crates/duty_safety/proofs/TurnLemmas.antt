@@ -17,18 +17,19 @@ use Rattle.duty_plans.specs.Steps.{Calls}
 use Rattle.duty_plans.specs.declared.ended.Ended.{Ended}
 use Rattle.duty_plans.specs.declared.result.DutyResult.{DutyResult}
 use Rattle.duty_plans.specs.declared.task.Task.{Task}
+use Rattle.duty_plans.specs.Choices.{aggregate_tasks, reports}
 use Rattle.duty_plans.specs.Ends.{merged, results_of}
 use Rattle.duty_plans.specs.Tasks.{again_tasks, fresh}
 use Rattle.duty_plans.specs.declared.setup.DutySetup.{DutySetup}
 use Rattle.duty_turns.specs.declared.held.DutyEnd.{DutyEnd}
 use Rattle.duty_turns.specs.declared.held.DutyEnd.TheVariants as end
-use Rattle.duty_turns.specs.Lines.{duty_lines}
+use Rattle.duty_turns.specs.Lines.{aggregate_lines, duty_lines}
 use Rattle.duty_turns.specs.Standing.{Standing}
 use Rattle.duty_pruning.specs.Pruning.{pruning_file}
-use Rattle.duty_turns.specs.Times.{again_start, epoch_of, is_first_slot, is_missed, next_slot, slot_of, slot_start, votes_start}
+use Rattle.duty_turns.specs.Times.{again_start, aggregates_start, epoch_of, is_first_slot, is_missed, next_slot, slot_of, slot_start, votes_start}
 use Rattle.duty_turns.specs.TurnSteps.{Does, Fits, House, TurnCall, TurnPlan, TurnReply, TurnStep, LooksUp, Own, Refreshes, RefreshesLanes, Waits, Works, Writes, Woke, Wrote}
-use Rattle.duty_turns.specs.Turns.{Next, NextPlan, active_of, after_works, again_plan, left_plan, tried_plan, asked_plan, at_moment, at_slot, blocks_in, calls, close_plan, closed_plan, due_plan, exported, exports, failed_plan, found, keys_of_turn, lanes_refreshed, listed_plan, merges, next_turn, own_reply, prunes, ready_plan, refreshed, refreshes, refreshes_lanes, is_worth_compacting, shortens, sized, turn_plan, turns_plan, unless_short, votes_in, votes_plan, waits, with_active, woken, woken_plan, work_of, worked, works}
-use Rattle.duty_safety.specs.OnTime.{AllWaits, AreOnTime, IsWait, Wait, WakesInSlot, again_on_time, cast_plan, done_plan, left_on_time, listed_on_time, on_time_turn, on_time_turns, ready_on_time, tried_on_time}
+use Rattle.duty_turns.specs.Turns.{Next, NextPlan, active_of, after_wait, again_plan, aggregates_plan, left_plan, tried_plan, asked_plan, at_moment, at_slot, blocks_in, calls, choices_of, chooses_plan, close_plan, due_plan, exported, exports, failed_plan, finish_plan, found, gathers_plan, keys_of_turn, lanes_refreshed, listed_plan, merges, next_turn, own_reply, prunes, puts, ready_plan, refreshed, refreshes, refreshes_lanes, is_worth_compacting, report_plan, shortens, sized, told_plan, turn_plan, turns_plan, unless_short, votes_in, votes_plan, waits, with_active, woken, woken_plan, work_of, worked, works, wrote}
+use Rattle.duty_safety.specs.OnTime.{AllWaits, AreOnTime, IsWait, Wait, WakesInSlot, again_on_time, aggregates_on_time, cast_plan, chooses_on_time, done_plan, gathers_on_time, left_on_time, listed_on_time, on_time_turn, on_time_turns, ready_on_time, told_on_time, tried_on_time}
 use Rattle.duty_safety.proofs.KeepLemmas.{Keeps, found_keeps, keeps_ask, keeps_bind, keeps_done, keeps_else, keeps_if, keeps_stop, lanes_refreshed_keeps, refreshed_keeps, woken_keeps, worked_keeps}
 use Rattle.duty_safety.proofs.AskedLemmas.{At, asked_stays}
 
@@ -42,6 +43,9 @@ votes_slot genesis slot = omega arith
 
 again_slot : (genesis slot : ℕ) → slot_of genesis (again_start genesis slot) ≤ slot
 again_slot genesis slot = omega arith
+
+aggregates_slot : (genesis slot : ℕ) → slot_of genesis (aggregates_start genesis slot) ≤ slot
+aggregates_slot genesis slot = omega arith
 
 slot_behind : (first slot : ℕ) → first < 2 ^ 64 → first ≤ slot → first ≤ next_slot slot
 slot_behind first slot cap below = omega arith
@@ -90,15 +94,21 @@ prunes_keeps W first None slot active p q h = h
 prunes_keeps W first (Some keep) slot None p q h = h
 prunes_keeps W first (Some keep) slot (Some active) p q h = exports_keeps W first keep (epoch_of slot) (keys_of_turn slot active) p q h
 
-closed_keeps : (W : Wait) (first : ℕ) (setup : DutySetup) (slot : ℕ) (s : Standing) (r : TurnReply) → first ≤ s.slot → Keeps W (From first) (closed_plan setup slot s r) (closed_plan setup slot s r)
-closed_keeps W first setup slot s (Wrote true piece) h =
+finish_keeps : (W : Wait) (first : ℕ) (setup : DutySetup) (slot : ℕ) (s : Standing) → first ≤ s.slot → Keeps W (From first) (finish_plan setup slot s) (finish_plan setup slot s)
+finish_keeps W first setup slot s h =
     let asks : NextPlan = calls call.HasFailed (failed_plan s) in
     prunes_keeps W first setup.keep_epochs slot s.active asks asks
     (keeps_ask W (From first) (Own (Calls call.HasFailed)) (λ r. failed_plan s (own_reply r)) (λ r. failed_plan s (own_reply r)) (λ r w. failed_keeps W first s (own_reply r) h))
-closed_keeps W first setup slot s r h = keeps_done W (From first) (Err end.Write) tt
 
-close_keeps : (W : Wait) (first : ℕ) (setup : DutySetup) (slot : ℕ) (ds : List Duty) (results : List DutyResult) (s : Standing) → first ≤ s.slot → Keeps W (From first) (close_plan setup slot ds results s) (close_plan setup slot ds results s)
-close_keeps W first setup slot ds results s h = keeps_ask W (From first) (Writes (duty_lines slot ds results)) (closed_plan setup slot s) (closed_plan setup slot s) (λ r w. closed_keeps W first setup slot s r h)
+wrote_keeps : (W : Wait) (first : ℕ) (r : TurnReply) (p q : NextPlan) → Keeps W (From first) p q → Keeps W (From first) (wrote r p) (wrote r q)
+wrote_keeps W first (Wrote true piece) p q h = h
+wrote_keeps W first r p q h = keeps_done W (From first) (Err end.Write) tt
+
+puts_keeps : (W : Wait) (first : ℕ) (text : List ℕ) (p q : NextPlan) → Keeps W (From first) p q → Keeps W (From first) (puts text p) (puts text q)
+puts_keeps W first text p q h = keeps_ask W (From first) (Writes text) (λ r. wrote r p) (λ r. wrote r q) (λ r w. wrote_keeps W first r p q h)
+
+report_keeps : (W : Wait) (first : ℕ) (setup : DutySetup) (slot : ℕ) (choices : List Task) (found : List (Option DutyResult)) (s : Standing) → first ≤ s.slot → Keeps W (From first) (report_plan setup slot choices found s) (report_plan setup slot choices found s)
+report_keeps W first setup slot choices found s h = puts_keeps W first (aggregate_lines slot choices found) (finish_plan setup slot s) (finish_plan setup slot s) (finish_keeps W first setup slot s h)
 
 -- ---- what stands between
 
@@ -116,20 +126,52 @@ shortens_keeps W first s p q h =
 -- ---- a turn
 
 module _ (setup : DutySetup) (W : Wait) (first : ℕ) (cap : first < 2 ^ 64) (bounds : Bounds setup W first) where
+  aggregates_keep : (s : Standing) (choices : List Task) (chosen : List Ended) (tasks : List Task) (reached : ℕ) → first ≤ s.slot → W (aggregates_start setup.genesis_time s.slot) reached
+      → Keeps W (From first) (aggregates_plan setup s choices chosen tasks reached) (aggregates_on_time setup s choices chosen tasks)
+  aggregates_keep s choices chosen tasks reached h w =
+      let moment = aggregates_start setup.genesis_time s.slot in
+      let next = at_slot (next_slot s.slot) s in
+      let after : List Ended → NextPlan = λ ends. report_plan setup s.slot choices (reports chosen ends) next in
+      let all = aggregates_on_time setup s choices chosen tasks in
+      keeps_else W (From first) (is_missed setup.genesis_time s.slot moment reached) (report_plan setup s.slot choices (reports chosen []) (after_wait setup.genesis_time moment reached s)) all all
+      (bounds s.slot moment reached h (aggregates_slot setup.genesis_time s.slot) w)
+      (keeps_ask W (From first) (Works (work_of setup s) 0 tasks) (λ r. worked r after) (λ r. worked r after)
+      (λ r is. worked_keeps W (From first) r after after (λ ends. report_keeps W first setup s.slot choices (reports chosen ends) next (slot_behind first s.slot cap h))))
+
+  gathers_keep : (s : Standing) (choices : List Task) (chosen : List Ended) (tasks : List Task) → first ≤ s.slot → Keeps W (From first) (gathers_plan setup s choices chosen tasks) (gathers_on_time setup s choices chosen tasks)
+  gathers_keep s choices chosen [] h = report_keeps W first setup s.slot choices (reports chosen []) (at_slot (next_slot s.slot) s) (slot_behind first s.slot cap h)
+  gathers_keep s choices chosen (t ∷ tasks) h =
+      let moment = aggregates_start setup.genesis_time s.slot in
+      let old : ℕ → NextPlan = aggregates_plan setup s choices chosen (t ∷ tasks) in
+      let new : ℕ → NextPlan = λ reached. aggregates_on_time setup s choices chosen (t ∷ tasks) in
+      keeps_ask W (From first) (Waits moment) (λ x. woken x old) (λ x. woken x new) (λ x is. woken_keeps W (From first) moment x old new is (λ reached on. aggregates_keep s choices chosen (t ∷ tasks) reached h on))
+
+  chooses_keep : (s : Standing) (choices : List Task) → first ≤ s.slot → Keeps W (From first) (chooses_plan setup s choices) (chooses_on_time setup s choices)
+  chooses_keep s [] h = finish_keeps W first setup s.slot (at_slot (next_slot s.slot) s) (slot_behind first s.slot cap h)
+  chooses_keep s (t ∷ choices) h =
+      let old : List Ended → NextPlan = λ chosen. gathers_plan setup s (t ∷ choices) chosen (aggregate_tasks (t ∷ choices) chosen) in
+      let new : List Ended → NextPlan = λ chosen. gathers_on_time setup s (t ∷ choices) chosen (aggregate_tasks (t ∷ choices) chosen) in
+      keeps_ask W (From first) (Works (work_of setup s) 0 (t ∷ choices)) (λ r. worked r old) (λ r. worked r new)
+      (λ r is. worked_keeps W (From first) r old new (λ chosen. gathers_keep s (t ∷ choices) chosen (aggregate_tasks (t ∷ choices) chosen) h))
+
+  told_keep : (s : Standing) (ds : List Duty) (ends : List Ended) (results : List DutyResult) → first ≤ s.slot → Keeps W (From first) (told_plan setup s ds ends results) (told_on_time setup s ds ends results)
+  told_keep s ds ends results h =
+      let choices = choices_of setup ds ends in
+      puts_keeps W first (duty_lines s.slot ds results) (chooses_plan setup s choices) (chooses_on_time setup s choices) (chooses_keep s choices h)
+
   tried_keep : (s : Standing) (ds : List Duty) (ends : List Ended) (tasks : List Task) (reached : ℕ) → first ≤ s.slot → W (again_start setup.genesis_time s.slot) reached
       → Keeps W (From first) (tried_plan setup s ds ends tasks reached) (tried_on_time setup s ds ends tasks)
   tried_keep s ds ends tasks reached h w =
       let moment = again_start setup.genesis_time s.slot in
-      let next = at_slot (next_slot s.slot) s in
-      let after : List Ended → NextPlan = λ again. close_plan setup s.slot ds (merged ends again) next in
-      let tries = tried_on_time setup s ds ends tasks in
-      keeps_else W (From first) (is_missed setup.genesis_time s.slot moment reached) (close_plan setup s.slot ds (results_of ends) (after_works setup.genesis_time reached s)) tries tries
+      let old : List Ended → NextPlan = λ again. told_plan setup s ds ends (merged ends again) in
+      let new : List Ended → NextPlan = λ again. told_on_time setup s ds ends (merged ends again) in
+      keeps_else W (From first) (is_missed setup.genesis_time s.slot moment reached) (close_plan setup s.slot ds (results_of ends) (after_wait setup.genesis_time moment reached s)) (works (work_of setup s) 0 tasks old) (tried_on_time setup s ds ends tasks)
       (bounds s.slot moment reached h (again_slot setup.genesis_time s.slot) w)
-      (keeps_ask W (From first) (Works (work_of setup s) 0 tasks) (λ r. worked r after) (λ r. worked r after)
-      (λ r is. worked_keeps W (From first) r after after (λ again. close_keeps W first setup s.slot ds (merged ends again) next (slot_behind first s.slot cap h))))
+      (keeps_ask W (From first) (Works (work_of setup s) 0 tasks) (λ r. worked r old) (λ r. worked r new)
+      (λ r is. worked_keeps W (From first) r old new (λ again. told_keep s ds ends (merged ends again) h)))
 
   left_keep : (s : Standing) (ds : List Duty) (ends : List Ended) (tasks : List Task) → first ≤ s.slot → Keeps W (From first) (left_plan setup s ds ends tasks) (left_on_time setup s ds ends tasks)
-  left_keep s ds ends [] h = close_keeps W first setup s.slot ds (results_of ends) (at_slot (next_slot s.slot) s) (slot_behind first s.slot cap h)
+  left_keep s ds ends [] h = told_keep s ds ends (results_of ends) h
   left_keep s ds ends (t ∷ tasks) h =
       let moment = again_start setup.genesis_time s.slot in
       let old : ℕ → NextPlan = tried_plan setup s ds ends (t ∷ tasks) in

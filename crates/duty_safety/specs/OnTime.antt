@@ -8,15 +8,18 @@ use Rattle.duty_schedule.specs.declared.rows.Duty.{Duty}
 use Rattle.call_plans.specs.Plans.{Done, Stop, bind}
 use Rattle.duty_plans.specs.declared.ended.Ended.{Ended}
 use Rattle.duty_plans.specs.declared.task.Task.{Task}
+use Rattle.duty_plans.specs.declared.result.DutyResult.{DutyResult}
+use Rattle.duty_plans.specs.Choices.{aggregate_tasks, reports}
 use Rattle.duty_plans.specs.Ends.{merged, results_of}
 use Rattle.duty_plans.specs.Tasks.{again_tasks, fresh}
 use Rattle.duty_plans.specs.declared.setup.DutySetup.{DutySetup}
 use Rattle.duty_turns.specs.declared.held.DutyEnd.{DutyEnd}
 use Rattle.duty_turns.specs.declared.held.DutyEnd.TheVariants as end
+use Rattle.duty_turns.specs.Lines.{duty_lines}
 use Rattle.duty_turns.specs.Standing.{Standing}
-use Rattle.duty_turns.specs.Times.{again_start, next_slot, slot_of, slot_start, votes_start}
+use Rattle.duty_turns.specs.Times.{again_start, aggregates_start, next_slot, slot_of, slot_start, votes_start}
 use Rattle.duty_turns.specs.TurnSteps.{TurnPlan, TurnStep, Waits, Woke}
-use Rattle.duty_turns.specs.Turns.{NextPlan, active_of, asked_plan, at_slot, blocks_in, calls, close_plan, looks_up, next_turn, refreshes, refreshes_lanes, shortens, votes_in, waits, with_active, work_of, works}
+use Rattle.duty_turns.specs.Turns.{NextPlan, active_of, asked_plan, at_slot, blocks_in, calls, choices_of, finish_plan, looks_up, next_turn, puts, refreshes, refreshes_lanes, report_plan, shortens, votes_in, waits, with_active, work_of, works}
 
 -- what is said of a wait: of the moment that was waited for and the moment that was reached
 abbrev pub Wait : Type 1
@@ -41,12 +44,28 @@ AreOnTime setup steps = AllWaits (WakesInSlot setup) steps
 
 -- ---- turns that drop nothing, whatever moment is reached
 
+-- the aggregates are published, and a line is written of each choice that has something to report
+abbrev pub aggregates_on_time : DutySetup → Standing → List Task → List Ended → List Task → NextPlan
+aggregates_on_time setup s choices chosen tasks = works (work_of setup s) 0 tasks (λ ends. report_plan setup s.slot choices (reports chosen ends) (at_slot (next_slot s.slot) s))
+
+abbrev pub gathers_on_time : DutySetup → Standing → List Task → List Ended → List Task → NextPlan
+gathers_on_time setup s choices chosen [] = report_plan setup s.slot choices (reports chosen []) (at_slot (next_slot s.slot) s)
+gathers_on_time setup s choices chosen (t ∷ tasks) = waits (aggregates_start setup.genesis_time s.slot) (λ reached. aggregates_on_time setup s choices chosen (t ∷ tasks))
+
+abbrev pub chooses_on_time : DutySetup → Standing → List Task → NextPlan
+chooses_on_time setup s [] = finish_plan setup s.slot (at_slot (next_slot s.slot) s)
+chooses_on_time setup s (t ∷ choices) = works (work_of setup s) 0 (t ∷ choices) (λ chosen. gathers_on_time setup s (t ∷ choices) chosen (aggregate_tasks (t ∷ choices) chosen))
+
+-- a line is written of each duty, and aggregates follow
+abbrev pub told_on_time : DutySetup → Standing → List Duty → List Ended → List DutyResult → NextPlan
+told_on_time setup s ds ends results = puts (duty_lines s.slot ds results) (chooses_on_time setup s (choices_of setup ds ends))
+
 -- what was granted and not sent is tried once more, and a line is written of each duty
 abbrev pub tried_on_time : DutySetup → Standing → List Duty → List Ended → List Task → NextPlan
-tried_on_time setup s ds ends tasks = works (work_of setup s) 0 tasks (λ again. close_plan setup s.slot ds (merged ends again) (at_slot (next_slot s.slot) s))
+tried_on_time setup s ds ends tasks = works (work_of setup s) 0 tasks (λ again. told_on_time setup s ds ends (merged ends again))
 
 abbrev pub left_on_time : DutySetup → Standing → List Duty → List Ended → List Task → NextPlan
-left_on_time setup s ds ends [] = close_plan setup s.slot ds (results_of ends) (at_slot (next_slot s.slot) s)
+left_on_time setup s ds ends [] = told_on_time setup s ds ends (results_of ends)
 left_on_time setup s ds ends (t ∷ tasks) = waits (again_start setup.genesis_time s.slot) (λ reached. tried_on_time setup s ds ends (t ∷ tasks))
 
 abbrev pub again_on_time : DutySetup → Standing → List Duty → List Ended → NextPlan

@@ -7,6 +7,7 @@ use Rattle.duty_schedule.specs.declared.rows.Duty.{Duty}
 use Rattle.duty_plans.specs.declared.ended.Ended.{Ended}
 use Rattle.duty_plans.specs.declared.result.DutyResult.{DutyResult}
 use Rattle.duty_plans.specs.declared.task.Task.{Task}
+use Rattle.duty_plans.specs.Choices.{aggregate_tasks, reports}
 use Rattle.duty_plans.specs.Ends.{merged, results_of}
 use Rattle.duty_plans.specs.Tasks.{again_tasks, fresh}
 use Rattle.duty_plans.specs.declared.setup.DutySetup.{DutySetup}
@@ -14,10 +15,10 @@ use Rattle.duty_plans.specs.declared.work.SlotWork.{SlotWork}
 use Rattle.duty_plans.specs.Slots.{EachDone}
 use Rattle.duty_plans.specs.Steps.{DutyStep}
 use Rattle.duty_turns.specs.Lanes.{dealt}
-use Rattle.duty_turns.specs.Lines.{duty_lines}
-use Rattle.duty_turns.specs.Times.{again_start, votes_start}
+use Rattle.duty_turns.specs.Lines.{aggregate_lines, duty_lines}
+use Rattle.duty_turns.specs.Times.{again_start, aggregates_start, votes_start}
 use Rattle.duty_turns.specs.TurnSteps.{TurnStep, LooksUp, Waits, Works, Writes, Due, Woke, Worked, Wrote}
-use Rattle.duty_turns.specs.Turns.{Next, blocks_in, votes_in}
+use Rattle.duty_turns.specs.Turns.{Next, blocks_in, choices_of, votes_in}
 
 -- each lane, from one on, did the tasks that are dealt to it, one after another, each with the end that is dealt to the lane with it,
 -- which is that of its own steps
@@ -39,8 +40,26 @@ AreTried setup slot work ends (t ∷ tasks) steps results = (reached : ℕ) × (
     × (steps ≡ (Waits (again_start setup.genesis_time slot), Woke reached) ∷ (Works work 0 (t ∷ tasks), Worked made (Some again)) ∷ [])
     × AllDone work 0 (t ∷ tasks) made again × (length again ≡ length (t ∷ tasks)) × (results ≡ merged ends again)
 
+-- Validators were chosen so, and these steps followed, by which their aggregates ended so: none where none is chosen; else all of them were
+-- published in lanes, after a wait for two thirds of the slot.
+abbrev pub ArePublished : DutySetup → ℕ → SlotWork → List Task → List TurnStep → List Ended → Type 0
+ArePublished setup slot work [] steps ends = (steps ≡ []) × (ends ≡ [])
+ArePublished setup slot work (t ∷ tasks) steps ends = (reached : ℕ) × (made : List (List DutyStep))
+    × (steps ≡ (Waits (aggregates_start setup.genesis_time slot), Woke reached) ∷ (Works work 0 (t ∷ tasks), Worked made (Some ends)) ∷ [])
+    × AllDone work 0 (t ∷ tasks) made ends × (length ends ≡ length (t ∷ tasks))
+
+-- These choices of aggregators were made in lanes, each with an end of its own steps; the aggregates of the validators that are chosen were
+-- published; and a line was written of each choice that has something to report. Nothing where there is no choice.
+abbrev pub AreGathered : DutySetup → ℕ → SlotWork → List Task → List TurnStep → Type 0
+AreGathered setup slot work [] steps = steps ≡ []
+AreGathered setup slot work (t ∷ choices) steps = (made : List (List DutyStep)) × (chosen : List Ended) × (published : List TurnStep) × (ends : List Ended) × (text : List ℕ)
+    × (steps ≡ (Works work 0 (t ∷ choices), Worked made (Some chosen)) ∷ (published ++ (Writes text, Wrote true text) ∷ []))
+    × AllDone work 0 (t ∷ choices) made chosen × (length chosen ≡ length (t ∷ choices))
+    × ArePublished setup slot work (aggregate_tasks (t ∷ choices) chosen) published ends × (text ≡ aggregate_lines slot (t ∷ choices) (reports chosen ends))
+
 -- The duties that are due at the slot were looked up. Blocks were done at once, and votes a third into the slot, in lanes, each duty with
--- an end of its own steps; what was left of them was tried once more; and then a line was written of each, blocks before votes.
+-- an end of its own steps; what was left of them was tried once more; then a line was written of each, blocks before votes; and then
+-- aggregates of the votes were published.
 pub record AllTold (setup : DutySetup) (slot : ℕ) (steps : List TurnStep) : Type 0 where
   pub front : List TurnStep
   pub answers : List TakenAnswer
@@ -55,15 +74,17 @@ pub record AllTold (setup : DutySetup) (slot : ℕ) (steps : List TurnStep) : Ty
   pub tries : List TurnStep
   pub results : List DutyResult
   pub text : List ℕ
+  pub gathers : List TurnStep
   pub behind : List TurnStep
   pub are : steps ≡ front ++ (LooksUp answers slot active, Due due) ∷ (Works work 0 (fresh (blocks_in due)), Worked made (Some proposed)) ∷ (Waits (votes_start setup.genesis_time slot), Woke reached)
-      ∷ (Works work (length (blocks_in due)) (fresh (votes_in due)), Worked voted (Some cast)) ∷ (tries ++ (Writes text, Wrote true text) ∷ behind)
+      ∷ (Works work (length (blocks_in due)) (fresh (votes_in due)), Worked voted (Some cast)) ∷ (tries ++ (Writes text, Wrote true text) ∷ (gathers ++ behind))
   pub found : IsDue answers slot active due
   pub work_slot : work.slot ≡ slot
   pub blocks : AllDone work 0 (fresh (blocks_in due)) made proposed
   pub votes : AllDone work (length (blocks_in due)) (fresh (votes_in due)) voted cast
   pub tried : AreTried setup slot work (proposed ++ cast) (again_tasks due (proposed ++ cast)) tries results
   pub lines : text ≡ duty_lines slot due results
+  pub gathered : AreGathered setup slot work (choices_of setup due (proposed ++ cast)) gathers
   pub each : length results ≡ length due
 
 -- where the turn went on to the next

@@ -4,3 +4,4 @@ pub mod Standing
 pub mod Due
 pub mod Law
 pub mod Checking
+pub mod Aggregators

@@ -1,6 +1,7 @@
 //! What a validator client is to do in a slot, from the duty answers of beacon nodes.
 #![tactic(auto)]
 
+mod aggregators;
 mod answer;
 mod checks;
 mod due;
@@ -10,6 +11,7 @@ mod rows;
 mod schedule;
 mod slots;
 
+pub use aggregators::is_aggregator;
 pub use checks::{DataDiffers, DataMember, check_block, check_data};
 pub use law::schedule_law;
 pub use rows::{Duty, DutyRows, Taken};

@@ -128,13 +128,13 @@ module _ {K : Type 0} (leads : Leads K) (none : NoneLed leads) where
   ends_as p a b v w e run = subst (λ x. Carries Fits (Does leads) p a b x) (sym e) run
 
   -- what was signed is posted, and its grant settled
-  pub runs_sent : (unsent : Unsent) (d e : K) (s : SignerSeen) (ns ms : List Seen) (grant : OpenGrant) (p : Post) (result : Result (Unit {0}) NoAnswer) (x : Got (Unit {0})) (v : Option Ended)
+  pub runs_sent : (ends : DutyResult → Ended) (d e : K) (s : SignerSeen) (ns ms : List Seen) (grant : OpenGrant) (p : Post) (result : Result (Unit {0}) NoAnswer) (x : Got (Unit {0})) (v : Option Ended)
       → Tries (told_post (posted grant.key grant.message p)) ns ms result
       → (r : DeskReply) × IsKind (call.Settle grant outcome.Sent) r × IsGrantFor (call.Settle grant outcome.Sent) r × leads d ((call.Settle grant outcome.Sent, r) ∷ []) e
-      → x ≡ posted_of result → Follows Fits (with_got (left_by unsent) x (sent unsent)) [] v
-      → Carries Fits (Does leads) (post_plan unsent grant p) (at_seat d (Holds grant) s ns) (at_seat e Free s ms) v
-  runs_sent unsent d e s ns ms grant p result x v tries led is f =
-      let next = λ (y : Got (Unit {0})). with_got (left_by unsent) y (sent unsent) in
+      → x ≡ posted_of result → Follows Fits (with_got ends x (sent ends)) [] v
+      → Carries Fits (Does leads) (post_plan ends grant p) (at_seat d (Holds grant) s ns) (at_seat e Free s ms) v
+  runs_sent ends d e s ns ms grant p result x v tries led is f =
+      let next = λ (y : Got (Unit {0})). with_got ends y (sent ends) in
       runs_post d s ns ms (at_seat e Free s ms) grant p result (λ t. settles grant outcome.Sent (next (posted_of t))) v tries
       (runs_spent d e s ms grant outcome.Sent (next (posted_of result)) v refl led (subst (λ y. Follows Fits (next y) [] v) is f))
 
@@ -143,10 +143,10 @@ module _ {K : Type 0} (leads : Leads K) (none : NoneLed leads) where
   block_same work block b q e h = cc
 
   pub block_is : (work : SlotWork) (grant : OpenGrant) (block b : AnyBlock) (q : SignRequest) (x : Got Sig) (a c : Seat K) (v : Option Ended) → q ≡ block_request work block → q.object ≡ Some (made_of.Block b)
-      → Carries Fits (Does leads) (under (left_by (granted.Block b)) grant x (λ s. post_plan (granted.Block b) grant (block_post b s))) a c v
-      → Carries Fits (Does leads) (under (left_by (granted.Block block)) grant x (λ s. post_plan (granted.Block block) grant (block_post block s))) a c v
+      → Carries Fits (Does leads) (under (left_by (granted.Block b)) grant x (λ s. post_plan (left_by (granted.Block b)) grant (block_post b s))) a c v
+      → Carries Fits (Does leads) (under (left_by (granted.Block block)) grant x (λ s. post_plan (left_by (granted.Block block)) grant (block_post block s))) a c v
   block_is work grant block b q x a c v e h run =
-      subst (λ (y : AnyBlock). Carries Fits (Does leads) (under (left_by (granted.Block y)) grant x (λ s. post_plan (granted.Block y) grant (block_post y s))) a c v) (block_same work block b q e h) run
+      subst (λ (y : AnyBlock). Carries Fits (Does leads) (under (left_by (granted.Block y)) grant x (λ s. post_plan (left_by (granted.Block y)) grant (block_post y s))) a c v) (block_same work block b q e h) run
 
   -- nothing was got under a grant
   pub runs_dropped : (d e : K) (s : SignerSeen) (ns : List Seen) (grant : OpenGrant) (next : DutyPlan Ended) (v : Option Ended)
@@ -247,12 +247,12 @@ pub has_message : (key : PubKey) (m : Message) (now : ℕ) (r : DeskReply) (g : 
 has_message key m now r g e h = subst (λ (x : Got OpenGrant). HasMessage x) (sym e) (has_message_of key m now r h)
 
 -- a call that asks for leave
-pub runs_leave : {K : Type 0} (leads : Leads K) (none : NoneLed leads) (d e : K) (s : SignerSeen) (ns : List Seen) (now : Seat K) (c : DeskCall) (r : DeskReply) (g : Got OpenGrant) (k : OpenGrant → DutyPlan Ended) (v : Option Ended)
+pub runs_leave : {K : Type 0} (leads : Leads K) (none : NoneLed leads) (d e : K) (s : SignerSeen) (ns : List Seen) (now : Seat K) (ends : DutyResult → Ended) (c : DeskCall) (r : DeskReply) (g : Got OpenGrant) (k : OpenGrant → DutyPlan Ended) (v : Option Ended)
     → leads d ((c, r) ∷ []) e → MayDo Free (Calls c) → hand_called Free c r ≡ hand_given Free r → IsKind c r → IsGrantFor c r → g ≡ grant_of r
-    → Carries Fits (Does leads) (with_got over g k) (at_seat e (given_hand g) s ns) now v
-    → Carries Fits (Does leads) (calls c (λ x. with_got over (grant_of x) k)) (at_seat d Free s ns) now v
-runs_leave leads none d e s ns now c r g k v led may called kind for is rest =
-    let at : Carries Fits (Does leads) (with_got over (grant_of r) k) (at_seat e (given_hand (grant_of r)) s ns) now v =
-    subst (λ (x : Got OpenGrant). Carries Fits (Does leads) (with_got over x k) (at_seat e (given_hand x) s ns) now v) is rest in
-    runs_call leads none d e Free s ns now c r (λ x. with_got over (grant_of x) k) v led may kind for
-    (subst (λ (h : Hand). Carries Fits (Does leads) (with_got over (grant_of r) k) (at_seat e h s ns) now v) (given_leave r ∙ sym called) at)
+    → Carries Fits (Does leads) (with_got ends g k) (at_seat e (given_hand g) s ns) now v
+    → Carries Fits (Does leads) (calls c (λ x. with_got ends (grant_of x) k)) (at_seat d Free s ns) now v
+runs_leave leads none d e s ns now ends c r g k v led may called kind for is rest =
+    let at : Carries Fits (Does leads) (with_got ends (grant_of r) k) (at_seat e (given_hand (grant_of r)) s ns) now v =
+    subst (λ (x : Got OpenGrant). Carries Fits (Does leads) (with_got ends x k) (at_seat e (given_hand x) s ns) now v) is rest in
+    runs_call leads none d e Free s ns now c r (λ x. with_got ends (grant_of x) k) v led may kind for
+    (subst (λ (h : Hand). Carries Fits (Does leads) (with_got ends (grant_of r) k) (at_seat e h s ns) now v) (given_leave r ∙ sym called) at)

@@ -8,14 +8,14 @@ ghost use Rattle.desk_machine.specs.declared.call.Outcome.{Outcome};
 ghost use Rattle.client_calls.specs.Seats.{SignerSeen};
 ghost use Rattle.call_plans.specs.Paths.{Carries};
 ghost use Rattle.call_plans.specs.Plans.{Follows};
-ghost use Rattle.duty_plans.specs.Ends.{left_by};
+ghost use Rattle.duty_plans.specs.declared.ended.Ended.{Ended};
 ghost use Rattle.duty_plans.specs.Hands.{Free, Holds};
 ghost use Rattle.duty_plans.specs.Plans.{post_plan, sent, with_got};
 ghost use Rattle.duty_plans.specs.Seats.{Does, at_seat, nodes_seen};
 ghost use Rattle.duty_plans.specs.Steps.{Fits};
 
 use desk_machine::{DeskCall, DeskCalls, DeskReply, Grant, Outcome};
-use duty_plans::{DutyResult, Got, Unsent, posted_in};
+use duty_plans::{DutyResult, Got, posted_in};
 use node_calls::{Node, Post};
 use node_fallback::Nodes;
 use std::alloc::AllocError;
@@ -35,9 +35,9 @@ pub fn send<K: DeskCalls, N: Node + Drop>(
     requires ready { K.ready desk.old }
     requires settles { (o : Outcome) → K.allows desk.old (DeskCall.Settle grant o) }
     ensures ready { K.ready desk.new }
-    ensures runs { (s : SignerSeen) (unsent : Unsent) → Carries Fits (Does K.leads) (post_plan unsent grant post.now)
+    ensures runs { (s : SignerSeen) (ends : DutyResult → Ended) → Carries Fits (Does K.leads) (post_plan ends grant post.now)
         (at_seat desk.old (Holds grant) s (nodes_seen N.told N.faults nodes.old))
-        (at_seat desk.new Free s (nodes_seen N.told N.faults nodes.new)) (option_map (λ by. left_by unsent by) (result_ok result)) }
+        (at_seat desk.new Free s (nodes_seen N.told N.faults nodes.new)) (option_map ends (result_ok result)) }
 {
     let taken = nodes.post(&grant, post);
     settle(desk, grant, Outcome::Sent);
@@ -46,7 +46,7 @@ pub fn send<K: DeskCalls, N: Node + Drop>(
 
 /// How a duty ends after its post.
 fn end_of(posted: Got<()>) -> Result<DutyResult, AllocError>
-    ensures { (unsent : Unsent) → Follows Fits (with_got (left_by unsent) posted (sent unsent)) [] (option_map (λ by. left_by unsent by) (result_ok result)) }
+    ensures { (ends : DutyResult → Ended) → Follows Fits (with_got ends posted (sent ends)) [] (option_map ends (result_ok result)) }
 {
     match posted {
         Got::Given(()) => Ok(DutyResult::Sent),

@@ -1,10 +1,8 @@
--- Lines of duties up to a place.
+-- Lines up to a place.
 use Rattle.std.proofs.Common.{◌≡◌, ℕ, zero, suc, ◌+◌, ◌<◌, ◌≤◌, List, [], ◌∷◌, ◌++◌, length, drop, get_or, Option, Some, None, add-one, append_assoc, refl, sym, ◌∙◌, ap, subst, arith, Bor}
 use Rattle.std.specs.Option.{IfSome, MatchOption, option_copied}
 use Rattle.std.proofs.lemmas.List.{append-nil, drop_all}
-use Rattle.duty_schedule.specs.declared.rows.Duty.{Duty}
-use Rattle.duty_plans.specs.declared.result.DutyResult.{DutyResult}
-use Rattle.duty_turns.specs.Lines.{duty_line, duty_lines}
+use Rattle.duty_turns.specs.Lines.{lines_by}
 
 -- ---- what a lookup gave
 
@@ -22,36 +20,37 @@ some_at {T} rs i (Some x) e h m = (let same : x.now ≡ e = cc in subst (λ (y :
 
 -- ---- lines
 
-lines_nil : (slot : ℕ) (ds : List Duty) → duty_lines slot ds [] ≡ []
-lines_nil slot [] = refl
-lines_nil slot (d ∷ ds) = refl
+module _ {A R : Type 0} (line : A → R → List ℕ) where
+  lines_nil : (xs : List A) → lines_by line xs [] ≡ []
+  lines_nil [] = refl
+  lines_nil (x ∷ xs) = refl
 
-lines_from : (slot : ℕ) (ds : List Duty) (rs : List DutyResult) (i : ℕ) (d : Duty) (e : DutyResult) → i < length ds → i < length rs → e ≡ get_or rs i e
-    → duty_lines slot (drop i ds) (drop i rs) ≡ duty_line slot (get_or ds i d) e ++ duty_lines slot (drop (suc i) ds) (drop (suc i) rs)
-lines_from slot [] rs i d e l h at = absurd (omega arith)
-lines_from slot (x ∷ ds) [] i d e l h at = absurd (omega arith)
-lines_from slot (x ∷ ds) (r ∷ rs) zero d e l h at = ap (λ (y : DutyResult). duty_line slot x y ++ duty_lines slot ds rs) (sym at)
-lines_from slot (x ∷ ds) (r ∷ rs) (suc i) d e l h at = lines_from slot ds rs i d e (omega arith) (omega arith) at
+  lines_from : (xs : List A) (rs : List R) (i : ℕ) (x : A) (e : R) → i < length xs → i < length rs → e ≡ get_or rs i e
+      → lines_by line (drop i xs) (drop i rs) ≡ line (get_or xs i x) e ++ lines_by line (drop (suc i) xs) (drop (suc i) rs)
+  lines_from [] rs i x e l h at = absurd (omega arith)
+  lines_from (y ∷ xs) [] i x e l h at = absurd (omega arith)
+  lines_from (y ∷ xs) (r ∷ rs) zero x e l h at = ap (λ (z : R). line y z ++ lines_by line xs rs) (sym at)
+  lines_from (y ∷ xs) (r ∷ rs) (suc i) x e l h at = lines_from xs rs i x e (omega arith) (omega arith) at
 
-lines_short : (slot : ℕ) (ds : List Duty) (rs : List DutyResult) (i : ℕ) → length rs ≤ i → duty_lines slot (drop i ds) (drop i rs) ≡ []
-lines_short slot ds rs i h = ap (λ (x : List DutyResult). duty_lines slot (drop i ds) x) (drop_all i rs h) ∙ lines_nil slot (drop i ds)
+  lines_short : (xs : List A) (rs : List R) (i : ℕ) → length rs ≤ i → lines_by line (drop i xs) (drop i rs) ≡ []
+  lines_short xs rs i h = ap (λ (x : List R). lines_by line (drop i xs) x) (drop_all i rs h) ∙ lines_nil (drop i xs)
 
--- one line more
-pub lines_push : (slot : ℕ) (ds : List Duty) (rs : List DutyResult) (i : ℕ) (d : Duty) (e : DutyResult) (new old line all : List ℕ) → i < length ds → i < length rs → e ≡ get_or rs i e
-    → new ≡ old ++ line → line ≡ duty_line slot (get_or ds i d) e
-    → old ++ duty_lines slot (drop i ds) (drop i rs) ≡ all → new ++ duty_lines slot (drop (i + 1) ds) (drop (i + 1) rs) ≡ all
-lines_push slot ds rs i d e new old line all l h at pushed is so =
-    ap (λ x. x ++ duty_lines slot (drop (i + 1) ds) (drop (i + 1) rs)) (pushed ∙ ap (λ x. old ++ x) is)
-    ∙ append_assoc old (duty_line slot (get_or ds i d) e) (duty_lines slot (drop (i + 1) ds) (drop (i + 1) rs))
-    ∙ ap (λ n. old ++ (duty_line slot (get_or ds i d) e ++ duty_lines slot (drop n ds) (drop n rs))) (add-one i)
-    ∙ ap (λ x. old ++ x) (sym (lines_from slot ds rs i d e l h at)) ∙ so
+  -- one line more
+  pub lines_push : (xs : List A) (rs : List R) (i : ℕ) (x : A) (e : R) (new old text all : List ℕ) → i < length xs → i < length rs → e ≡ get_or rs i e
+      → new ≡ old ++ text → text ≡ line (get_or xs i x) e
+      → old ++ lines_by line (drop i xs) (drop i rs) ≡ all → new ++ lines_by line (drop (i + 1) xs) (drop (i + 1) rs) ≡ all
+  lines_push xs rs i x e new old text all l h at pushed is so =
+      ap (λ t. t ++ lines_by line (drop (i + 1) xs) (drop (i + 1) rs)) (pushed ∙ ap (λ t. old ++ t) is)
+      ∙ append_assoc old (line (get_or xs i x) e) (lines_by line (drop (i + 1) xs) (drop (i + 1) rs))
+      ∙ ap (λ n. old ++ (line (get_or xs i x) e ++ lines_by line (drop n xs) (drop n rs))) (add-one i)
+      ∙ ap (λ t. old ++ t) (sym (lines_from xs rs i x e l h at)) ∙ so
 
--- the results are over
-pub lines_end : (slot : ℕ) (ds : List Duty) (rs : List DutyResult) (i : ℕ) (text all : List ℕ) → length rs ≤ i
-    → text ++ duty_lines slot (drop i ds) (drop i rs) ≡ all → text ≡ all
-lines_end slot ds rs i text all h so = sym (append-nil text) ∙ ap (λ x. text ++ x) (sym (lines_short slot ds rs i h)) ∙ so
+  -- the results are over
+  pub lines_end : (xs : List A) (rs : List R) (i : ℕ) (text all : List ℕ) → length rs ≤ i
+      → text ++ lines_by line (drop i xs) (drop i rs) ≡ all → text ≡ all
+  lines_end xs rs i text all h so = sym (append-nil text) ∙ ap (λ t. text ++ t) (sym (lines_short xs rs i h)) ∙ so
 
--- the duties are over
-pub lines_over : (slot : ℕ) (ds : List Duty) (rs : List DutyResult) (i : ℕ) (text all : List ℕ) → length ds ≤ i
-    → text ++ duty_lines slot (drop i ds) (drop i rs) ≡ all → text ≡ all
-lines_over slot ds rs i text all h so = sym (append-nil text) ∙ ap (λ (x : List Duty). text ++ duty_lines slot x (drop i rs)) (sym (drop_all i ds h)) ∙ so
+  -- the others are over
+  pub lines_over : (xs : List A) (rs : List R) (i : ℕ) (text all : List ℕ) → length xs ≤ i
+      → text ++ lines_by line (drop i xs) (drop i rs) ≡ all → text ≡ all
+  lines_over xs rs i text all h so = sym (append-nil text) ∙ ap (λ (x : List A). text ++ lines_by line x (drop i rs)) (sym (drop_all i xs h)) ∙ so

@@ -21,6 +21,10 @@ votes_start genesis_time slot = capped (slot_start genesis_time slot + 4)
 abbrev pub again_start : ℕ → ℕ → ℕ
 again_start genesis_time slot = capped (slot_start genesis_time slot + 7)
 
+-- when aggregates of its votes are asked for: two thirds into it
+abbrev pub aggregates_start : ℕ → ℕ → ℕ
+aggregates_start genesis_time slot = capped (slot_start genesis_time slot + 8)
+
 abbrev pub next_slot : ℕ → ℕ
 next_slot slot = capped (slot + 1)
 

@@ -29,6 +29,7 @@ use Rattle.duty_plans.specs.declared.result.DutyResult.{DutyResult}
 use Rattle.duty_plans.specs.declared.task.Task.{Task}
 use Rattle.duty_plans.specs.declared.setup.DutySetup.{DutySetup}
 use Rattle.duty_plans.specs.declared.work.SlotWork.{SlotWork}
+use Rattle.duty_plans.specs.Choices.{aggregate_tasks, choose_tasks, reports}
 use Rattle.duty_plans.specs.Ends.{merged, results_of}
 use Rattle.duty_plans.specs.Plans.{answer_reply, desk_reply, slot_work}
 use Rattle.duty_plans.specs.Steps.{Calls, Asks}
@@ -38,11 +39,11 @@ use Rattle.duty_turns.specs.declared.held.DutyEnd.TheVariants as end
 use Rattle.slash_defs.specs.declared.book.Book.{Book}
 use Rattle.slash_defs.specs.declared.book.File.{File}
 use Rattle.record_join.specs.Keys.{kept_of}
-use Rattle.duty_turns.specs.Lines.{duty_lines, none_line}
+use Rattle.duty_turns.specs.Lines.{aggregate_lines, duty_lines, none_line}
 use Rattle.duty_pruning.specs.Pruning.{pruning_file}
 use Rattle.duty_turns.specs.Lanes.{dealt}
 use Rattle.duty_turns.specs.Standing.{Standing, indices_of, with_attesters, with_fork, with_indices, with_proposers}
-use Rattle.duty_turns.specs.Times.{again_start, epoch_of, is_first_slot, is_missed, next_slot, slot_of, slot_start, votes_start}
+use Rattle.duty_turns.specs.Times.{again_start, aggregates_start, epoch_of, is_first_slot, is_missed, next_slot, slot_of, slot_start, votes_start}
 use Rattle.duty_turns.specs.TurnSteps.{TurnPlan, TurnReply, Waits, Refreshes, RefreshesLanes, Own, LooksUp, Works, Writes, Woke, Refreshed, LanesRefreshed, Owned, Due, Worked, Wrote}
 
 -- what stands after a part of a turn; None: the output failed
@@ -286,13 +287,21 @@ prunes None slot active next = next
 prunes (Some keep) slot None next = next
 prunes (Some keep) slot (Some active) next = exports keep (epoch_of slot) (keys_of_turn slot active) next
 
-abbrev pub closed_plan : DutySetup → ℕ → Standing → TurnReply → NextPlan
-closed_plan setup slot s (Wrote true piece) = prunes setup.keep_epochs slot s.active (calls call.HasFailed (failed_plan s))
-closed_plan setup slot s r = Done (Err end.Write)
+-- what is old is forgotten, and the desk is asked whether its disk failed
+abbrev pub finish_plan : DutySetup → ℕ → Standing → NextPlan
+finish_plan setup slot s = prunes setup.keep_epochs slot s.active (calls call.HasFailed (failed_plan s))
 
--- the lines are written, what is old is forgotten, and the desk is asked whether its disk failed
+-- a text that was not written whole ends the loop
+abbrev pub wrote : TurnReply → NextPlan → NextPlan
+wrote (Wrote true piece) next = next
+wrote r next = Done (Err end.Write)
+
+abbrev pub puts : List ℕ → NextPlan → NextPlan
+puts text next = Step (Writes text) (λ r. wrote r next)
+
+-- the lines are written, and the slot is closed
 abbrev pub close_plan : DutySetup → ℕ → List Duty → List DutyResult → Standing → NextPlan
-close_plan setup slot ds results s = Step (Writes (duty_lines slot ds results)) (closed_plan setup slot s)
+close_plan setup slot ds results s = puts (duty_lines slot ds results) (finish_plan setup slot s)
 
 abbrev pub is_block : Duty → Bool
 is_block (duty.Block row) = true
@@ -316,22 +325,55 @@ work_of setup s = slot_work setup (record { fork = s.fork; genesis = setup.genes
 abbrev pub at_moment : ℕ → ℕ → ℕ → Standing → Standing
 at_moment genesis_time moment reached s = at_slot (slot_of genesis_time reached) (record s { answers = if nat_lt reached moment then [] else s.answers })
 
--- what stands where a slot's duties were done: the next turn is of the next slot, but where the clock was set back meanwhile
-abbrev pub after_works : ℕ → ℕ → Standing → Standing
-after_works genesis_time reached s =
-    if nat_lt reached (again_start genesis_time s.slot) then at_moment genesis_time (again_start genesis_time s.slot) reached s else at_slot (next_slot s.slot) s
+-- what stands where a slot's duties were done: the next turn is of the next slot, but where the clock was set back meanwhile, and a wait for
+-- this moment was over before it
+abbrev pub after_wait : ℕ → ℕ → ℕ → Standing → Standing
+after_wait genesis_time moment reached s = if nat_lt reached moment then at_moment genesis_time moment reached s else at_slot (next_slot s.slot) s
 
--- while the slot lasts, what was granted and not sent is tried once more, and the slot is closed with how each duty ended at last; at another
--- moment it is closed with how each ended at first
+-- ---- aggregates
+
+-- the slot is closed with a line of each choice that has something to report
+abbrev pub report_plan : DutySetup → ℕ → List Task → List (Option DutyResult) → Standing → NextPlan
+report_plan setup slot choices found s = puts (aggregate_lines slot choices found) (finish_plan setup slot s)
+
+-- two thirds into the slot the aggregates are published; at another moment they are dropped
+abbrev pub aggregates_plan : DutySetup → Standing → List Task → List Ended → List Task → ℕ → NextPlan
+aggregates_plan setup s choices chosen tasks reached =
+    if is_missed setup.genesis_time s.slot (aggregates_start setup.genesis_time s.slot) reached
+    then report_plan setup s.slot choices (reports chosen []) (after_wait setup.genesis_time (aggregates_start setup.genesis_time s.slot) reached s)
+    else works (work_of setup s) 0 tasks (λ ends. report_plan setup s.slot choices (reports chosen ends) (at_slot (next_slot s.slot) s))
+
+-- their time is waited for, where a validator is chosen
+abbrev pub gathers_plan : DutySetup → Standing → List Task → List Ended → List Task → NextPlan
+gathers_plan setup s choices chosen [] = report_plan setup s.slot choices (reports chosen []) (at_slot (next_slot s.slot) s)
+gathers_plan setup s choices chosen (t ∷ tasks) = waits (aggregates_start setup.genesis_time s.slot) (aggregates_plan setup s choices chosen (t ∷ tasks))
+
+-- these choices are made
+abbrev pub chooses_plan : DutySetup → Standing → List Task → NextPlan
+chooses_plan setup s [] = finish_plan setup s.slot (at_slot (next_slot s.slot) s)
+chooses_plan setup s (t ∷ choices) = works (work_of setup s) 0 (t ∷ choices) (λ chosen. gathers_plan setup s (t ∷ choices) chosen (aggregate_tasks (t ∷ choices) chosen))
+
+-- where nothing is aggregated there are none
+abbrev pub choices_of : DutySetup → List Duty → List Ended → List Task
+choices_of setup ds ends = if setup.aggregate then choose_tasks ds ends else []
+
+-- a line of each duty is written, and then aggregates of the votes are published
+abbrev pub told_plan : DutySetup → Standing → List Duty → List Ended → List DutyResult → NextPlan
+told_plan setup s ds ends results = puts (duty_lines s.slot ds results) (chooses_plan setup s (choices_of setup ds ends))
+
+-- ---- duties
+
+-- while the slot lasts, what was granted and not sent is tried once more, and then it is reported how each duty ended at last; at another
+-- moment the slot is closed with how each ended at first
 abbrev pub tried_plan : DutySetup → Standing → List Duty → List Ended → List Task → ℕ → NextPlan
 tried_plan setup s ds ends tasks reached =
     if is_missed setup.genesis_time s.slot (again_start setup.genesis_time s.slot) reached
-    then close_plan setup s.slot ds (results_of ends) (after_works setup.genesis_time reached s)
-    else works (work_of setup s) 0 tasks (λ again. close_plan setup s.slot ds (merged ends again) (at_slot (next_slot s.slot) s))
+    then close_plan setup s.slot ds (results_of ends) (after_wait setup.genesis_time (again_start setup.genesis_time s.slot) reached s)
+    else works (work_of setup s) 0 tasks (λ again. told_plan setup s ds ends (merged ends again))
 
--- the slot's duties were done and ended so: where nothing is left to be tried once more, the slot is closed; else its time is waited for
+-- the slot's duties were done and ended so: where nothing is left to be tried once more, that is reported; else its time is waited for
 abbrev pub left_plan : DutySetup → Standing → List Duty → List Ended → List Task → NextPlan
-left_plan setup s ds ends [] = close_plan setup s.slot ds (results_of ends) (at_slot (next_slot s.slot) s)
+left_plan setup s ds ends [] = told_plan setup s ds ends (results_of ends)
 left_plan setup s ds ends (t ∷ tasks) = waits (again_start setup.genesis_time s.slot) (tried_plan setup s ds ends (t ∷ tasks))
 
 abbrev pub again_plan : DutySetup → Standing → List Duty → List Ended → NextPlan

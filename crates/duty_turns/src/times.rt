@@ -2,7 +2,7 @@
 //! and so does a slot.
 ghost use Rattle.std.specs.Prelude.{◌≡◌, ◌≤◌};
 ghost use Rattle.desk_machine.specs.Machine.{moment_limit};
-ghost use Rattle.duty_turns.specs.Times.{again_start, epoch_of, is_first_slot, is_missed, next_slot, slot_of, slot_start, votes_start};
+ghost use Rattle.duty_turns.specs.Times.{again_start, aggregates_start, epoch_of, is_first_slot, is_missed, next_slot, slot_of, slot_start, votes_start};
 
 /// How many seconds a slot has (consensus-specs, `SECONDS_PER_SLOT`).
 const SECONDS_PER_SLOT: u64 = 12;
@@ -12,6 +12,10 @@ const SECONDS_TO_VOTE: u64 = 4;
 
 /// How many seconds into its slot what was granted and not sent is tried once more.
 const SECONDS_TO_TRY_AGAIN: u64 = 7;
+
+/// How many seconds into its slot aggregates of its votes are asked for: two thirds of it (consensus-specs, "Broadcast
+/// aggregate").
+const SECONDS_TO_AGGREGATE: u64 = 8;
 
 /// How many slots an epoch has (consensus-specs, `SLOTS_PER_EPOCH`).
 const SLOTS_PER_EPOCH: u64 = 32;
@@ -43,6 +47,13 @@ pub fn again_start(genesis_time: u64, slot: u64) -> u64
     ensures { result ≡ again_start genesis_time slot }
 {
     slot_start(genesis_time, slot).saturating_add(SECONDS_TO_TRY_AGAIN)
+}
+
+/// When aggregates of a slot's votes are asked for. Takes no memory.
+pub fn aggregates_start(genesis_time: u64, slot: u64) -> u64
+    ensures { result ≡ aggregates_start genesis_time slot }
+{
+    slot_start(genesis_time, slot).saturating_add(SECONDS_TO_AGGREGATE)
 }
 
 /// The slot after a slot. Takes no memory.

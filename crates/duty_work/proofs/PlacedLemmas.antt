@@ -1,6 +1,6 @@
 -- What is due has its places, where each vote duty of the answers that were taken has.
 use Rattle.std.proofs.Common.{◌≡◌, ℕ, ◌/◌, ◌⊎◌, inl, inr, Bool, true, false, cond, ◌&&◌, List, [], ◌∷◌, ◌++◌, filter, map, Option, Some, None, refl, sym, ◌∙◌, ap, append_assoc, subst}
-use Rattle.std.specs.Prelude.{◌||◌, not, nat_eq, nat_le, nat_lt}
+use Rattle.std.specs.Prelude.{◌||◌, if◌then◌else◌, not, nat_eq, nat_le, nat_lt}
 use Rattle.std.specs.List.{list_all, list_any}
 use Rattle.std.specs.List.Sorted.{IsPermutation}
 use Rattle.std.proofs.lemmas.Bool.{and_parts, cases_eq}
@@ -19,10 +19,16 @@ use Rattle.duty_schedule.specs.declared.rows.Duty.TheVariants as duty
 use Rattle.duty_schedule.specs.declared.rows.DutyRows.{DutyRows}
 use Rattle.duty_schedule.specs.declared.rows.DutyRows.TheVariants as kind
 use Rattle.duty_schedule.proofs.HeldLemmas.{answer_at, attesters_elsewhere, attesters_here, attesters_none, attesters_of_proposers, held-append, one_kind}
+use Rattle.duty_plans.specs.declared.ended.Aggregation.{Aggregation}
+use Rattle.duty_plans.specs.declared.ended.Aggregation.TheVariants as votes
 use Rattle.duty_plans.specs.declared.ended.Ended.{Ended}
 use Rattle.duty_plans.specs.declared.ended.Unsent.{Unsent}
+use Rattle.duty_plans.specs.declared.setup.DutySetup.{DutySetup}
+use Rattle.duty_plans.specs.declared.task.Task.{Task}
+use Rattle.duty_plans.specs.declared.task.Task.TheVariants as task
+use Rattle.duty_plans.specs.Choices.{aggregate_by, aggregate_of, aggregate_tasks, choice_by, choice_of, choose_tasks}
 use Rattle.duty_plans.specs.Tasks.{again_by, again_of, again_tasks, fresh}
-use Rattle.duty_turns.specs.Turns.{blocks_in, is_block, votes_in}
+use Rattle.duty_turns.specs.Turns.{blocks_in, choices_of, is_block, votes_in}
 use Rattle.duty_workers.specs.Places as workers
 use Rattle.duty_asks.specs.Placed.{are_placed, has_place, have_places}
 use Rattle.duty_asks.proofs.PlaceLemmas.{both_true}
@@ -153,3 +159,37 @@ both_placed ds blocks votes first second h =
     all_joined workers.is_placed blocks votes
     (subst (λ (l : List Duty). workers.are_placed l ≡ true) (sym first) (kind_placed is_block ds h))
     (subst (λ (l : List Duty). workers.are_placed l ≡ true) (sym second) (kind_placed (λ d. not (is_block d)) ds h))
+
+choice_placed : (d : Duty) (o : Option Aggregation) → workers.is_placed d ≡ true → workers.are_placed_tasks (choice_by d o) ≡ true
+choice_placed (duty.Vote row) (Some (votes.Voted details)) h = both_true (workers.has_place row) true h refl
+choice_placed (duty.Vote row) (Some (votes.Chosen details proof)) h = refl
+choice_placed (duty.Vote row) None h = refl
+choice_placed (duty.Block row) o h = refl
+
+choices_placed : (ds : List Duty) (ends : List Ended) → workers.are_placed ds ≡ true → workers.are_placed_tasks (choose_tasks ds ends) ≡ true
+choices_placed [] ends h = refl
+choices_placed (d ∷ ds) [] h = refl
+choices_placed (d ∷ ds) (e ∷ ends) h =
+    let q = and_parts (workers.is_placed d) (workers.are_placed ds) h in
+    all_joined workers.is_placed_task (choice_of d e) (choose_tasks ds ends) (choice_placed d e.aggregation q.0) (choices_placed ds ends q.1)
+
+pub made_placed : (setup : DutySetup) (ds : List Duty) (ends : List Ended) → workers.are_placed ds ≡ true → workers.are_placed_tasks (choices_of setup ds ends) ≡ true
+made_placed setup ds ends h = at setup.aggregate where
+  at : (b : Bool) → workers.are_placed_tasks (if b then choose_tasks ds ends else []) ≡ true
+  at true = choices_placed ds ends h
+  at false = refl
+
+aggregate_placed : (t : Task) (o : Option Aggregation) → workers.is_placed_task t ≡ true → workers.are_placed_tasks (aggregate_by t o) ≡ true
+aggregate_placed (task.Choose row details) (Some (votes.Chosen asked proof)) h = both_true (workers.has_place row) true h refl
+aggregate_placed (task.Choose row details) (Some (votes.Voted asked)) h = refl
+aggregate_placed (task.Choose row details) None h = refl
+aggregate_placed (task.Fresh d) o h = refl
+aggregate_placed (task.Again d unsent) o h = refl
+aggregate_placed (task.Aggregate row details proof) o h = refl
+
+pub aggregates_placed : (ts : List Task) (ends : List Ended) → workers.are_placed_tasks ts ≡ true → workers.are_placed_tasks (aggregate_tasks ts ends) ≡ true
+aggregates_placed [] ends h = refl
+aggregates_placed (t ∷ ts) [] h = refl
+aggregates_placed (t ∷ ts) (e ∷ ends) h =
+    let q = and_parts (workers.is_placed_task t) (workers.are_placed_tasks ts) h in
+    all_joined workers.is_placed_task (aggregate_of t e) (aggregate_tasks ts ends) (aggregate_placed t e.aggregation q.0) (aggregates_placed ts ends q.1)

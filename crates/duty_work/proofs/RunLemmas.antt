@@ -29,14 +29,12 @@ use Rattle.duty_plans.specs.Seats.{Seat}
 use Rattle.duty_plans.specs.declared.ended.Ended.{Ended}
 use Rattle.duty_plans.specs.declared.result.DutyResult.{DutyResult}
 use Rattle.duty_plans.specs.declared.task.Task.{Task}
-use Rattle.duty_plans.specs.Ends.{merged}
 use Rattle.duty_plans.specs.Tasks.{fresh}
 use Rattle.duty_plans.specs.declared.setup.DutySetup.{DutySetup}
 use Rattle.duty_plans.specs.declared.work.SlotWork.{SlotWork}
-use Rattle.duty_turns.specs.Lines.{duty_lines}
 use Rattle.duty_turns.specs.Standing.{Standing}
-use Rattle.duty_turns.specs.Times.{epoch_of, is_missed, next_slot, slot_start, votes_start}
-use Rattle.duty_turns.specs.Turns.{NextPlan, PartPlan, active_of, again_plan, asked_plan, at_slot, blocks_in, calls, close_plan, closed_plan, due_plan, failed_plan, listed_plan, prunes, ready_plan, refreshes, refreshes_lanes, shortens, tried_plan, turn_plan, votes_in, votes_plan, waits, with_active, woken_plan, work_of, works}
+use Rattle.duty_turns.specs.Times.{epoch_of, slot_start, votes_start}
+use Rattle.duty_turns.specs.Turns.{Next, NextPlan, PartPlan, active_of, again_plan, asked_plan, at_slot, blocks_in, calls, close_plan, due_plan, failed_plan, finish_plan, listed_plan, prunes, puts, ready_plan, refreshes, refreshes_lanes, report_plan, shortens, told_plan, turn_plan, votes_in, votes_plan, waits, with_active, woken_plan, work_of, works, wrote}
 use Rattle.duty_turns.specs.TurnSteps.{Does, Fits, House, SinkSeen}
 use Rattle.duty_turns.specs.declared.held.DutyEnd.{DutyEnd}
 use Rattle.duty_turns.specs.declared.held.DutyEnd.TheVariants as end
@@ -99,30 +97,49 @@ module _ {K : Type 0} (leads : Leads K) (start : Option ℕ) where
       subst (λ (x : Result (Unit {0}) DutyEnd). Carries Fits (Does leads start) (calls call.HasFailed (failed_plan s)) (house d ls nodes out) (house e ls nodes out) (next_value s x)) (sym is)
       (turn_calls leads start d e ls nodes out (house e ls nodes out) call.HasFailed r (failed_plan s) (next_value s (end_by r)) refl (failed_hand r (kind_failed r kind)) led kind for (failed_by s r (house e ls nodes out) (kind_failed r kind)))
 
-  pub closed : (setup : DutySetup) (d e : K) (ls : List (Seat K)) (nodes : List Seen) (o p : SinkSeen) (s : Standing) (slot : ℕ) (ds : List Duty) (rs : List DutyResult) (text bytes : List ℕ) (wrote : Result (Unit {0}) Stop) (result : Result (Unit {0}) DutyEnd)
-      → text ≡ duty_lines slot ds rs → bytes ≡ text → wrote ≡ Ok tt → WritesText o p bytes wrote
-      → Carries Fits (Does leads start) (prunes setup.keep_epochs slot s.active (calls call.HasFailed (failed_plan s))) (house d ls nodes p) (house e ls nodes p) (next_value s result)
-      → Carries Fits (Does leads start) (close_plan setup slot ds rs s) (house d ls nodes o) (house e ls nodes p) (next_value s result)
-  closed setup d e ls nodes o p s slot ds rs text bytes wrote result of same ok writes run =
-      let all : bytes ≡ duty_lines slot ds rs = same ∙ of in
+  -- a text was written, and it goes on; or the output failed
+  pub put_on : (d : K) (ls : List (Seat K)) (nodes : List Seen) (o p : SinkSeen) (b : House K) (text bytes wanted : List ℕ) (done : Result (Unit {0}) Stop) (next : NextPlan) (v : Option (Result Standing DutyEnd))
+      → text ≡ wanted → bytes ≡ text → done ≡ Ok tt → WritesText o p bytes done
+      → Carries Fits (Does leads start) next (house d ls nodes p) b v → Carries Fits (Does leads start) (puts wanted next) (house d ls nodes o) b v
+  put_on d ls nodes o p b text bytes wanted done next v of same ok writes run =
+      let all : bytes ≡ wanted = same ∙ of in
       let taken = subst (λ (w : Result (Unit {0}) Stop). WritesText o p bytes w) ok writes in
-      turn_writes leads start d ls nodes o p (house e ls nodes p) (duty_lines slot ds rs) (closed_plan setup slot s) (next_value s result) (subst (λ (l : List ℕ). WritesText o p l (Ok tt)) all taken) run
+      turn_writes leads start d ls nodes o p b wanted (λ r. wrote r next) v (subst (λ (l : List ℕ). WritesText o p l (Ok tt)) all taken) run
 
-  pub close_fails : (setup : DutySetup) (d : K) (ls : List (Seat K)) (nodes : List Seen) (o p : SinkSeen) (s : Standing) (slot : ℕ) (ds : List Duty) (rs : List DutyResult) (text bytes : List ℕ) (wrote : Result (Unit {0}) Stop) (why : Stop)
-      → text ≡ duty_lines slot ds rs → bytes ≡ text → wrote ≡ Err why → WritesText o p bytes wrote
-      → Carries Fits (Does leads start) (close_plan setup slot ds rs s) (house d ls nodes o) (house d ls nodes p) (Some (Err end.Write))
-  close_fails setup d ls nodes o p s slot ds rs text bytes wrote stop.Write of same err writes =
-      let all : bytes ≡ duty_lines slot ds rs = same ∙ of in
+  pub put_fails : (d : K) (ls : List (Seat K)) (nodes : List Seen) (o p : SinkSeen) (text bytes wanted : List ℕ) (done : Result (Unit {0}) Stop) (why : Stop) (next : NextPlan)
+      → text ≡ wanted → bytes ≡ text → done ≡ Err why → WritesText o p bytes done
+      → Carries Fits (Does leads start) (puts wanted next) (house d ls nodes o) (house d ls nodes p) (Some (Err end.Write))
+  put_fails d ls nodes o p text bytes wanted done stop.Write next of same err writes =
+      let all : bytes ≡ wanted = same ∙ of in
       let failed = subst (λ (w : Result (Unit {0}) Stop). WritesText o p bytes w) err writes in
       let cut = subst (λ (l : List ℕ). WritesText o p l (Err stop.Write)) all failed in
-      turn_write_fails leads start d ls nodes o p (house d ls nodes p) (duty_lines slot ds rs) cut.0 (closed_plan setup slot s) (Some (Err end.Write)) cut.1 cut.2 (carries_end Fits (Does leads start) (Done (Err end.Write)) (house d ls nodes p) (Some (Err end.Write)) refl)
-  close_fails setup d ls nodes o p s slot ds rs text bytes wrote stop.OutOfMemory of same err writes =
+      turn_write_fails leads start d ls nodes o p (house d ls nodes p) wanted cut.0 (λ r. wrote r next) (Some (Err end.Write)) cut.1 cut.2 (carries_end Fits (Does leads start) (Done (Err end.Write)) (house d ls nodes p) (Some (Err end.Write)) refl)
+  put_fails d ls nodes o p text bytes wanted done stop.OutOfMemory next of same err writes =
       absurd (subst (λ (w : Result (Unit {0}) Stop). WritesText o p bytes w) err writes)
+
+  pub told_on : (Holds : Standing → Type 0) (d : K) (ls : List (Seat K)) (nodes : List Seen) (o p : SinkSeen) (b : House K) (text bytes wanted : List ℕ) (done : Result (Unit {0}) Stop) (next : NextPlan) (result : Result (Unit {0}) DutyEnd)
+      → text ≡ wanted → bytes ≡ text → done ≡ Ok tt → WritesText o p bytes done
+      → Turns leads start Holds next (house d ls nodes p) b result → Turns leads start Holds (puts wanted next) (house d ls nodes o) b result
+  told_on Holds d ls nodes o p b text bytes wanted done next result of same ok writes t =
+      record { after = t.after; held = t.held; runs = put_on d ls nodes o p b text bytes wanted done next (next_value t.after result) of same ok writes t.runs }
+
+  pub told_fails : (Holds : Standing → Type 0) (s : Standing) (d : K) (ls : List (Seat K)) (nodes : List Seen) (o p : SinkSeen) (text bytes wanted : List ℕ) (done : Result (Unit {0}) Stop) (why : Stop) (next : NextPlan)
+      → text ≡ wanted → bytes ≡ text → done ≡ Err why → WritesText o p bytes done
+      → Turns leads start Holds (puts wanted next) (house d ls nodes o) (house d ls nodes p) (Err end.Write)
+  told_fails Holds s d ls nodes o p text bytes wanted done why next of same err writes =
+      record { after = s; held = tt; runs = put_fails d ls nodes o p text bytes wanted done why next of same err writes }
+
+  -- memory ran out after a text was written
+  pub told_short : (Holds : Standing → Type 0) (s : Standing) (d : K) (ls : List (Seat K)) (nodes : List Seen) (o p : SinkSeen) (text bytes wanted : List ℕ) (done : Result (Unit {0}) Stop) (next : NextPlan)
+      → text ≡ wanted → bytes ≡ text → done ≡ Ok tt → WritesText o p bytes done
+      → Turns leads start Holds (puts wanted next) (house d ls nodes o) (house d ls nodes p) (Err end.OutOfMemory)
+  told_short Holds s d ls nodes o p text bytes wanted done next of same ok writes =
+      told_on Holds d ls nodes o p (house d ls nodes p) text bytes wanted done next (Err end.OutOfMemory) of same ok writes (record { after = s; held = tt; runs = carries_cut Fits (Does leads start) next (house d ls nodes p) })
 
   pub pruned_goes : (setup : DutySetup) (s : Standing) (slot : ℕ) (active : Option (List PubKey)) (a b c : House K) (result : Result (Unit {0}) DutyEnd) → active ≡ s.active
       → Comes Fits (Does leads start) (prunes setup.keep_epochs slot active (calls call.HasFailed (failed_plan s))) (calls call.HasFailed (failed_plan s)) a b
       → Carries Fits (Does leads start) (calls call.HasFailed (failed_plan s)) b c (next_value s result)
-      → Carries Fits (Does leads start) (prunes setup.keep_epochs slot s.active (calls call.HasFailed (failed_plan s))) a c (next_value s result)
+      → Carries Fits (Does leads start) (finish_plan setup slot s) a c (next_value s result)
   pruned_goes setup s slot active a b c result of called run =
       let asks : NextPlan = calls call.HasFailed (failed_plan s) in
       subst (λ (l : Option (List PubKey)). Carries Fits (Does leads start) (prunes setup.keep_epochs slot l asks) a c (next_value s result)) of
@@ -130,7 +147,7 @@ module _ {K : Type 0} (leads : Leads K) (start : Option ℕ) where
 
   pub pruned_short : (setup : DutySetup) (s : Standing) (slot : ℕ) (active : Option (List PubKey)) (a b : House K) → active ≡ s.active
       → Carries Fits (Does leads start) (prunes setup.keep_epochs slot active (calls call.HasFailed (failed_plan s))) a b None
-      → Carries Fits (Does leads start) (prunes setup.keep_epochs slot s.active (calls call.HasFailed (failed_plan s))) a b None
+      → Carries Fits (Does leads start) (finish_plan setup slot s) a b None
   pruned_short setup s slot active a b of called =
       subst (λ (l : Option (List PubKey)). Carries Fits (Does leads start) (prunes setup.keep_epochs slot l (calls call.HasFailed (failed_plan s))) a b None) of called
 
@@ -142,6 +159,13 @@ module _ {K : Type 0} (leads : Leads K) (start : Option ℕ) where
       let of_run = subst (λ (l : List Duty). Carries Fits (Does leads start) (close_plan setup s.slot l rs t) a b (next_value t result)) of at_slot_run in
       let by_run = subst (λ (l : List DutyResult). Carries Fits (Does leads start) (close_plan setup s.slot es l t) a b (next_value t result)) by of_run in
       record { after = t; held = kept result h; runs = subst (λ (q : NextPlan). Carries Fits (Does leads start) q a b (next_value t result)) (sym is) by_run }
+
+  -- the slot is the one that was meant
+  pub ends_as : (Holds : Standing → Type 0) (plan : NextPlan) (ends : ℕ → NextPlan) (s t : Standing) (a b : House K) (slot : ℕ) (result : Result (Unit {0}) DutyEnd)
+      → plan ≡ ends s.slot → slot ≡ s.slot → Holds t → Carries Fits (Does leads start) (ends slot) a b (next_value t result) → Turns leads start Holds plan a b result
+  ends_as Holds plan ends s t a b slot result is at h run =
+      let there = subst (λ (n : ℕ). Carries Fits (Does leads start) (ends n) a b (next_value t result)) at run in
+      record { after = t; held = kept result h; runs = subst (λ (q : NextPlan). Carries Fits (Does leads start) q a b (next_value t result)) (sym is) there }
 
   pub closing : (setup : DutySetup) (s : Standing) (a b : House K) (slot : ℕ) (ds es : List Duty) (rs qs : List DutyResult) (v : Option (Result Standing DutyEnd)) → ds ≡ es → rs ≡ qs
       → Carries Fits (Does leads start) (close_plan setup slot ds rs s) a b v → Carries Fits (Does leads start) (close_plan setup slot es qs s) a b v
@@ -329,6 +353,11 @@ module _ {K : Type 0} (leads : Leads K) (start : Option ℕ) where
   ended_as Holds setup s a b ds es ends fs result of by t =
       subst (λ (l : List Ended). Turns leads start Holds (again_plan setup s es l) a b result) by (subst (λ (l : List Duty). Turns leads start Holds (again_plan setup s l ends) a b result) of t)
 
+  -- and what was written of them
+  pub results_as : (Holds : Standing → Type 0) (setup : DutySetup) (s : Standing) (a b : House K) (ds : List Duty) (ends : List Ended) (rs qs : List DutyResult) (result : Result (Unit {0}) DutyEnd) → rs ≡ qs
+      → Turns leads start Holds (told_plan setup s ds ends rs) a b result → Turns leads start Holds (told_plan setup s ds ends qs) a b result
+  results_as Holds setup s a b ds ends rs qs result of t = subst (λ (l : List DutyResult). Turns leads start Holds (told_plan setup s ds ends l) a b result) of t
+
   pub works_done : (setup : DutySetup) (held : Held) (s : Standing) (ls ks : List (Seat K)) (domains : Domains) (moment place : ℕ) (tasks : List Task) (v : Option (List Ended)) → HoldsPlaced held s → domains ≡ record { fork = held.fork; genesis = setup.genesis } → moment ≡ epoch_of held.slot
       → WorksDone leads (slot_work setup domains held.slot moment) place tasks ls ks v → WorksDone leads (work_of setup s) place tasks ls ks v
   works_done setup held s ls ks domains moment place tasks v h by epoch work =
@@ -371,3 +400,8 @@ module _ {K : Type 0} (leads : Leads K) (start : Option ℕ) where
 
   pub fresh_done : (work : SlotWork) (place : ℕ) (tasks fs : List Task) (ls ks : List (Seat K)) (v : Option (List Ended)) → tasks ≡ fs → WorksDone leads work place tasks ls ks v → WorksDone leads work place fs ls ks v
   fresh_done work place tasks fs ls ks v is work_done = subst (λ (l : List Task). WorksDone leads work place l ls ks v) is work_done
+
+-- lines are written of results by whatever name
+pub reports_as : {K : Type 0} (leads : Leads K) (start : Option ℕ) (setup : DutySetup) (slot : ℕ) (choices : List Task) (s : Standing) (found results : List (Option DutyResult)) (before after : House K) (next : Option Next) → found ≡ results
+    → Carries Fits (Does leads start) (report_plan setup slot choices found s) before after next → Carries Fits (Does leads start) (report_plan setup slot choices results s) before after next
+reports_as {K} leads start setup slot choices s found results before after next e c = subst (λ (l : List (Option DutyResult)). Carries Fits (Does leads start) (report_plan setup slot choices l s) before after next) e c

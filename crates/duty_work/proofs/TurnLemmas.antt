@@ -11,12 +11,13 @@ use Rattle.call_plans.proofs.PathLemmas.{comes_on, comes_cut, comes_end, comes_n
 use Rattle.duty_schedule.specs.declared.rows.Duty.{Duty}
 use Rattle.duty_plans.specs.declared.ended.Ended.{Ended}
 use Rattle.duty_plans.specs.declared.task.Task.{Task}
+use Rattle.duty_plans.specs.Choices.{aggregate_tasks, reports}
 use Rattle.duty_plans.specs.Ends.{merged, results_of}
 use Rattle.duty_plans.specs.Tasks.{again_tasks, fresh}
 use Rattle.duty_plans.specs.declared.setup.DutySetup.{DutySetup}
 use Rattle.duty_turns.specs.Standing.{Standing}
-use Rattle.duty_turns.specs.Times.{again_start, is_missed, next_slot, slot_start, votes_start}
-use Rattle.duty_turns.specs.Turns.{after_works, again_plan, at_moment, at_slot, blocks_in, calls, close_plan, first_standing, left_plan, listed_plan, next_turn, refreshes, refreshes_lanes, shortens, tried_plan, turn_plan, turns_plan, votes_in, votes_plan, waits, woken_plan, work_of, works}
+use Rattle.duty_turns.specs.Times.{again_start, aggregates_start, is_missed, next_slot, slot_start, votes_start}
+use Rattle.duty_turns.specs.Turns.{after_wait, again_plan, aggregates_plan, at_moment, at_slot, blocks_in, calls, chooses_plan, close_plan, finish_plan, first_standing, gathers_plan, left_plan, listed_plan, next_turn, refreshes, refreshes_lanes, report_plan, shortens, told_plan, tried_plan, turn_plan, turns_plan, votes_in, votes_plan, waits, woken_plan, work_of, works}
 use Rattle.duty_turns.specs.TurnSteps.{Does, Fits, House, TurnPlan}
 use Rattle.duty_turns.specs.declared.held.DutyEnd.{DutyEnd}
 use Rattle.duty_turns.specs.declared.held.DutyEnd.TheVariants as end
@@ -50,7 +51,7 @@ votes_now setup s ds ends reached now = rw now refl
 
 -- nothing is left of the duties, or something
 pub left_none : (setup : DutySetup) (s : Standing) (ds : List Duty) (ends : List Ended) (tasks : List Task) → tasks ≡ again_tasks ds ends → length tasks ≡ 0
-    → again_plan setup s ds ends ≡ close_plan setup s.slot ds (results_of ends) (at_slot (next_slot s.slot) s)
+    → again_plan setup s ds ends ≡ told_plan setup s ds ends (results_of ends)
 left_none setup s ds ends [] is none = ap (λ (l : List Task). left_plan setup s ds ends l) (sym is)
 left_none setup s ds ends (t ∷ tasks) is none = absurd (omega arith)
 
@@ -60,25 +61,57 @@ left_some setup s ds ends [] is some = absurd (some refl)
 left_some setup s ds ends (t ∷ tasks) is some = ap (λ (l : List Task). left_plan setup s ds ends l) (sym is)
 
 pub tried_late : (setup : DutySetup) (s : Standing) (ds : List Duty) (ends : List Ended) (tasks : List Task) (reached : ℕ) → is_missed setup.genesis_time s.slot (again_start setup.genesis_time s.slot) reached ≡ true
-    → tried_plan setup s ds ends tasks reached ≡ close_plan setup s.slot ds (results_of ends) (after_works setup.genesis_time reached s)
+    → tried_plan setup s ds ends tasks reached ≡ close_plan setup s.slot ds (results_of ends) (after_wait setup.genesis_time (again_start setup.genesis_time s.slot) reached s)
 tried_late setup s ds ends tasks reached late = rw late refl
 
 pub tried_now : (setup : DutySetup) (s : Standing) (ds : List Duty) (ends : List Ended) (tasks : List Task) (reached : ℕ) → is_missed setup.genesis_time s.slot (again_start setup.genesis_time s.slot) reached ≡ false
-    → tried_plan setup s ds ends tasks reached ≡ works (work_of setup s) 0 tasks (λ again. close_plan setup s.slot ds (merged ends again) (at_slot (next_slot s.slot) s))
+    → tried_plan setup s ds ends tasks reached ≡ works (work_of setup s) 0 tasks (λ again. told_plan setup s ds ends (merged ends again))
 tried_now setup s ds ends tasks reached now = rw now refl
 
--- what stands after the duties, by a moment that was looked at
-pub after_next : (genesis moment held reached : ℕ) (s : Standing) → moment ≡ again_start genesis held → held ≡ s.slot → moment ≤ reached → after_works genesis reached s ≡ at_slot (next_slot s.slot) s
-after_next genesis moment held reached s is at past =
-    let same : moment ≡ again_start genesis s.slot = is ∙ ap (λ n. again_start genesis n) at in
-    let on : nat_lt reached (again_start genesis s.slot) ≡ false = le-ltb reached (again_start genesis s.slot) (subst (λ n. n ≤ reached) same past) in
+-- what stands after a wait, by the moment that was waited for
+pub after_next : (genesis moment reached : ℕ) (s : Standing) → moment ≤ reached → after_wait genesis moment reached s ≡ at_slot (next_slot s.slot) s
+after_next genesis moment reached s past =
+    let on : nat_lt reached moment ≡ false = le-ltb reached moment past in
     rw on refl
 
-pub after_back : (genesis moment held reached : ℕ) (s : Standing) → moment ≡ again_start genesis held → held ≡ s.slot → reached < moment → after_works genesis reached s ≡ at_moment genesis (again_start genesis s.slot) reached s
-after_back genesis moment held reached s is at before =
-    let same : moment ≡ again_start genesis s.slot = is ∙ ap (λ n. again_start genesis n) at in
-    let back : nat_lt reached (again_start genesis s.slot) ≡ true = lt-ltb reached (again_start genesis s.slot) (subst (λ n. reached < n) same before) in
+pub after_back : (genesis moment reached : ℕ) (s : Standing) → reached < moment → after_wait genesis moment reached s ≡ at_moment genesis moment reached s
+after_back genesis moment reached s before =
+    let back : nat_lt reached moment ≡ true = lt-ltb reached moment before in
     rw back refl
+
+-- that is said of the slot that is held
+pub after_so : (Holds : Standing → Type 0) (genesis slot moment reached : ℕ) (s : Standing) (start : ℕ → ℕ → ℕ) → moment ≡ start genesis slot → slot ≡ s.slot → Holds (after_wait genesis moment reached s) → Holds (after_wait genesis (start genesis s.slot) reached s)
+after_so Holds genesis slot moment reached s start of at h =
+    subst (λ n. Holds (after_wait genesis (start genesis n) reached s)) at (subst (λ m. Holds (after_wait genesis m reached s)) of h)
+
+-- ---- aggregates
+
+pub choices_none : (setup : DutySetup) (s : Standing) (choices : List Task) → length choices ≡ 0 → chooses_plan setup s choices ≡ finish_plan setup s.slot (at_slot (next_slot s.slot) s)
+choices_none setup s [] none = refl
+choices_none setup s (t ∷ choices) none = absurd (omega arith)
+
+pub choices_some : (setup : DutySetup) (s : Standing) (choices : List Task) → (length choices ≡ 0 → ⊥)
+    → chooses_plan setup s choices ≡ works (work_of setup s) 0 choices (λ chosen. gathers_plan setup s choices chosen (aggregate_tasks choices chosen))
+choices_some setup s [] some = absurd (some refl)
+choices_some setup s (t ∷ choices) some = refl
+
+pub gathers_none : (setup : DutySetup) (s : Standing) (choices : List Task) (chosen : List Ended) (tasks wanted : List Task) → tasks ≡ wanted → length tasks ≡ 0
+    → gathers_plan setup s choices chosen wanted ≡ report_plan setup s.slot choices (reports chosen []) (at_slot (next_slot s.slot) s)
+gathers_none setup s choices chosen [] wanted is none = ap (λ (l : List Task). gathers_plan setup s choices chosen l) (sym is)
+gathers_none setup s choices chosen (t ∷ tasks) wanted is none = absurd (omega arith)
+
+pub gathers_some : (setup : DutySetup) (s : Standing) (choices : List Task) (chosen : List Ended) (tasks wanted : List Task) → tasks ≡ wanted → (length tasks ≡ 0 → ⊥)
+    → gathers_plan setup s choices chosen wanted ≡ waits (aggregates_start setup.genesis_time s.slot) (aggregates_plan setup s choices chosen tasks)
+gathers_some setup s choices chosen [] wanted is some = absurd (some refl)
+gathers_some setup s choices chosen (t ∷ tasks) wanted is some = ap (λ (l : List Task). gathers_plan setup s choices chosen l) (sym is)
+
+pub aggregates_late : (setup : DutySetup) (s : Standing) (choices : List Task) (chosen : List Ended) (tasks : List Task) (reached : ℕ) → is_missed setup.genesis_time s.slot (aggregates_start setup.genesis_time s.slot) reached ≡ true
+    → aggregates_plan setup s choices chosen tasks reached ≡ report_plan setup s.slot choices (reports chosen []) (after_wait setup.genesis_time (aggregates_start setup.genesis_time s.slot) reached s)
+aggregates_late setup s choices chosen tasks reached late = rw late refl
+
+pub aggregates_now : (setup : DutySetup) (s : Standing) (choices : List Task) (chosen : List Ended) (tasks : List Task) (reached : ℕ) → is_missed setup.genesis_time s.slot (aggregates_start setup.genesis_time s.slot) reached ≡ false
+    → aggregates_plan setup s choices chosen tasks reached ≡ works (work_of setup s) 0 tasks (λ ends. report_plan setup s.slot choices (reports chosen ends) (at_slot (next_slot s.slot) s))
+aggregates_now setup s choices chosen tasks reached now = rw now refl
 
 -- ---- turn after turn
 

@@ -1,27 +1,23 @@
 //! What is due in a slot is done: blocks at once, votes a third into it.
 ghost use Rattle.std.specs.Prelude.{◌≡◌, ◌++◌, ◌<◌, ℕ, All, List, IfOk, Option, length, option_map, true};
 ghost use Rattle.std.specs.Result.{result_ok};
-ghost use Rattle.call_plans.specs.Paths.{Carries};
 ghost use Rattle.node_fallback.specs.Seen.{Seen};
-ghost use Rattle.duty_plans.specs.Ends.{merged, results_of};
-ghost use Rattle.duty_plans.specs.Seats.{Seat};
 ghost use Rattle.duty_plans.specs.Tasks.{fresh};
 ghost use Rattle.duty_workers.specs.Working.{IsReady, WorksDone, lanes_seen};
 ghost use Rattle.duty_workers.specs.Places.{are_placed, are_placed_tasks};
 ghost use Rattle.duty_turns.specs.Standing.{Standing};
-ghost use Rattle.duty_turns.specs.Turns.{after_works, again_plan, at_moment, blocks_in, calls, close_plan, due_plan, failed_plan, is_block, tried_plan, votes_in, votes_plan, work_of, works};
-ghost use Rattle.duty_turns.specs.TurnSteps.{Does, Fits, SinkSeen, sink_seen};
+ghost use Rattle.duty_turns.specs.Turns.{after_wait, again_plan, at_moment, blocks_in, due_plan, is_block, tried_plan, votes_in, votes_plan, work_of, works};
+ghost use Rattle.duty_turns.specs.TurnSteps.{sink_seen};
 ghost use Rattle.duty_asks.specs.Placed.{HoldsPlaced};
-ghost use Rattle.desk_machine.specs.declared.call.DeskCall.TheVariants as call;
-ghost use Rattle.duty_work.specs.Houses.{IsFailed, Turns, end_by, house, next_value};
+ghost use Rattle.duty_work.specs.Houses.{Turns, house};
 
-use crate::prune::prune_old;
-use desk_machine::{DeskCall, DeskCalls, DeskReply};
-use duty_asks::write_text;
-use duty_plans::{DutyResult, DutySetup, Ended, Task, again_tasks, fresh, merged, results_of};
+use crate::aggregate::{report_ended, report_merged};
+use crate::closing::close_ended;
+use desk_machine::DeskCalls;
+use duty_plans::{DutySetup, Ended, Task, again_tasks, fresh};
 use duty_schedule::{Duty, Schedule};
 use duty_turns::{
-    DutyEnd, Held, again_start, duty_lines, epoch_of, is_missed, next_slot, slot_of, votes_start,
+    DutyEnd, Held, again_start, epoch_of, is_missed, next_slot, slot_of, votes_start,
 };
 use duty_workers::{Lane, run_lanes};
 use edge_clock::Clock;
@@ -100,7 +96,12 @@ fn do_duties<T: Threads + Sync, K: DeskCalls + Send, S: Signer + Send, N: Node +
 }
 
 /// Has these tasks done in the lanes, of which the first has this place in the slot.
-fn do_tasks<T: Threads + Sync, K: DeskCalls + Send, S: Signer + Send, N: Node + Drop + Send>(
+pub(crate) fn do_tasks<
+    T: Threads + Sync,
+    K: DeskCalls + Send,
+    S: Signer + Send,
+    N: Node + Drop + Send,
+>(
     rt: &T,
     alloc: Global,
     setup: &DutySetup,
@@ -312,30 +313,31 @@ fn end_slot<
         return Err(DutyEnd::OutOfMemory);
     };
     let tasks = tasks.as_slice();
-    let slot = held.slot;
     if tasks.is_empty() {
-        held.slot = next_slot(slot);
-        return close_ended(alloc, setup, slot, duties, ends, held, desk, out);
+        return report_ended(
+            rt, alloc, setup, clock, duties, ends, held, desk, lanes, out,
+        );
     }
-    let moment = again_start(setup.genesis_time, slot);
-    let reached = clock.wait_until(rt, moment);
+    let reached = clock.wait_until(rt, again_start(setup.genesis_time, held.slot));
     try_again(
-        rt, alloc, setup, reached, duties, ends, tasks, held, desk, lanes, out,
+        rt, alloc, setup, clock, reached, duties, ends, tasks, held, desk, lanes, out,
     )
 }
 
 /// Tries once more what was granted and not sent, unless the moment that was reached is of a later slot, or before that which
-/// was waited for, since the clock was set back; and closes the slot.
+/// was waited for, since the clock was set back.
 fn try_again<
-    T: Threads + Sync,
+    T: Threads + Wait + Sync,
     K: DeskCalls + Send,
     S: Signer + Send,
     N: Node + Drop + Send,
+    C: Clock,
     O: Sink,
 >(
     rt: &T,
     alloc: Global,
     setup: &DutySetup,
+    clock: &C,
     reached: u64,
     duties: &[Duty],
     ends: &[Ended],
@@ -349,9 +351,10 @@ fn try_again<
     requires ready { K.ready desk.old }
     requires lanes { All (IsReady K.ready) lanes.old }
     requires places { are_placed_tasks tasks.now ≡ true }
+    requires duties { are_placed duties.now ≡ true }
     ensures ready { K.ready desk.new }
     ensures lanes { All (IsReady K.ready) lanes.new }
-    ensures runs { (start : Option ℕ) (nodes : List Seen) (s : Standing) → HoldsPlaced held.old s → Turns K.leads start (HoldsPlaced held.new)
+    ensures runs { (nodes : List Seen) (s : Standing) → HoldsPlaced held.old s → Turns K.leads (C.start clock.now) (HoldsPlaced held.new)
         (tried_plan setup.now s duties.now ends.now tasks.now reached)
         (house desk.old (lanes_seen S.told S.faults S.denials N.told N.faults lanes.old) nodes (sink_seen O.held O.faults out.old))
         (house desk.new (lanes_seen S.told S.faults S.denials N.told N.faults lanes.new) nodes (sink_seen O.held O.faults out.new)) result }
@@ -359,23 +362,23 @@ fn try_again<
     let slot = held.slot;
     let start = again_start(setup.genesis_time, slot);
     if is_missed(setup.genesis_time, slot, start, reached) {
-        go_after(alloc, setup.genesis_time, reached, held);
+        go_after(alloc, setup.genesis_time, start, reached, held);
         return close_ended(alloc, setup, slot, duties, ends, held, desk, out);
     }
     let Ok(again) = do_tasks(rt, alloc, setup, 0, tasks, held, lanes) else {
         return Err(DutyEnd::OutOfMemory);
     };
     let again = again.as_slice();
-    held.slot = next_slot(slot);
-    close_merged(alloc, setup, slot, duties, ends, again, held, desk, out)
+    report_merged(
+        rt, alloc, setup, clock, duties, ends, again, held, desk, lanes, out,
+    )
 }
 
-/// Has the next turn be of the next slot, or of the slot of this moment, where that is before the one at which what is left
-/// is tried once more, since the clock was set back. Takes no memory.
-fn go_after(alloc: Global, genesis_time: u64, reached: u64, held: &mut Held)
-    ensures { (s : Standing) → HoldsPlaced held.old s → HoldsPlaced held.new (after_works genesis_time reached s) }
+/// Has the next turn be of the next slot, or of the slot of the moment that was reached, where that is before the one that was
+/// waited for, since the clock was set back. Takes no memory.
+pub(crate) fn go_after(alloc: Global, genesis_time: u64, moment: u64, reached: u64, held: &mut Held)
+    ensures { (s : Standing) → HoldsPlaced held.old s → HoldsPlaced held.new (after_wait genesis_time moment reached s) }
 {
-    let moment = again_start(genesis_time, held.slot);
     if moment <= reached {
         held.slot = next_slot(held.slot);
         return;
@@ -392,105 +395,6 @@ pub fn go_to(alloc: Global, genesis_time: u64, moment: u64, reached: u64, held: 
         held.schedule = Schedule::new(alloc);
     }
     held.slot = slot_of(genesis_time, reached);
-}
-
-/// Closes a slot whose duties ended so.
-fn close_ended<K: DeskCalls, O: Sink>(
-    alloc: Global,
-    setup: &DutySetup,
-    slot: u64,
-    duties: &[Duty],
-    ends: &[Ended],
-    held: &Held,
-    desk: &mut K,
-    out: &mut O,
-) -> Result<(), DutyEnd>
-    requires ready { K.ready desk.old }
-    ensures ready { K.ready desk.new }
-    ensures runs { (start : Option ℕ) (lanes : List (Seat K)) (nodes : List Seen) (s : Standing) → held.now.active ≡ s.active → Carries Fits (Does K.leads start) (close_plan setup.now slot duties.now (results_of ends.now) s)
-        (house desk.old lanes nodes (sink_seen O.held O.faults out.old)) (house desk.new lanes nodes (sink_seen O.held O.faults out.new)) (next_value s result) }
-{
-    let Ok(results) = results_of(alloc, ends) else {
-        return Err(DutyEnd::OutOfMemory);
-    };
-    let results = results.as_slice();
-    close(alloc, setup, slot, duties, results, held, desk, out)
-}
-
-/// Closes a slot whose duties ended so, where what was left of them was tried once more and ended so.
-fn close_merged<K: DeskCalls, O: Sink>(
-    alloc: Global,
-    setup: &DutySetup,
-    slot: u64,
-    duties: &[Duty],
-    ends: &[Ended],
-    again: &[Ended],
-    held: &Held,
-    desk: &mut K,
-    out: &mut O,
-) -> Result<(), DutyEnd>
-    requires ready { K.ready desk.old }
-    ensures ready { K.ready desk.new }
-    ensures runs { (start : Option ℕ) (lanes : List (Seat K)) (nodes : List Seen) (s : Standing) → held.now.active ≡ s.active → Carries Fits (Does K.leads start) (close_plan setup.now slot duties.now (merged ends.now again.now) s)
-        (house desk.old lanes nodes (sink_seen O.held O.faults out.old)) (house desk.new lanes nodes (sink_seen O.held O.faults out.new)) (next_value s result) }
-{
-    let Ok(results) = merged(alloc, ends, again) else {
-        return Err(DutyEnd::OutOfMemory);
-    };
-    let results = results.as_slice();
-    close(alloc, setup, slot, duties, results, held, desk, out)
-}
-
-/// Writes a line for each of these duties of a slot that has a result, has what is old of the active keys forgotten whose
-/// turn it is, and asks the desk whether its disk failed.
-pub fn close<K: DeskCalls, O: Sink>(
-    alloc: Global,
-    setup: &DutySetup,
-    slot: u64,
-    duties: &[Duty],
-    results: &[DutyResult],
-    held: &Held,
-    desk: &mut K,
-    out: &mut O,
-) -> Result<(), DutyEnd>
-    requires ready { K.ready desk.old }
-    ensures ready { K.ready desk.new }
-    ensures runs { (start : Option ℕ) (lanes : List (Seat K)) (nodes : List Seen) (s : Standing) → held.now.active ≡ s.active → Carries Fits (Does K.leads start) (close_plan setup.now slot duties.now results.now s)
-        (house desk.old lanes nodes (sink_seen O.held O.faults out.old)) (house desk.new lanes nodes (sink_seen O.held O.faults out.new)) (next_value s result) }
-{
-    let Ok(lines) = duty_lines(alloc, slot, duties, results) else {
-        return Err(DutyEnd::OutOfMemory);
-    };
-    match write_text(out, lines.as_bytes()) {
-        Ok(()) => {}
-        Err(_) => return Err(DutyEnd::Write),
-    }
-    let Ok(()) = prune_old(alloc, setup.keep_epochs, slot, held, desk) else {
-        return Err(DutyEnd::OutOfMemory);
-    };
-    ask_failed(desk)
-}
-
-/// Asks the desk whether its disk failed, which ends the loop.
-fn ask_failed<K: DeskCalls>(desk: &mut K) -> Result<(), DutyEnd>
-    requires ready { K.ready desk.old }
-    ensures ready { K.ready desk.new }
-    ensures runs { (start : Option ℕ) (lanes : List (Seat K)) (nodes : List Seen) (out : SinkSeen) (s : Standing) → Carries Fits (Does K.leads start) (calls call.HasFailed (failed_plan s))
-        (house desk.old lanes nodes out) (house desk.new lanes nodes out) (next_value s result) }
-{
-    let reply = desk.call(DeskCall::HasFailed);
-    end_by(reply)
-}
-
-fn end_by(reply: DeskReply) -> Result<(), DutyEnd>
-    requires { IsFailed reply }
-    ensures { result ≡ end_by reply }
-{
-    match reply {
-        DeskReply::HasFailed(true) => Err(DutyEnd::Disk),
-        DeskReply::HasFailed(false) => Ok(()),
-        _ => unreachable!(),
-    }
 }
 
 /// The blocks of these duties. The error is want of memory.

@@ -7,3 +7,4 @@ use Rattle.node_calls.specs.declared.post.Post.TheVariants as post
 abbrev pub HasBlock : Post → AnyBlock → Type 0
 HasBlock (post.Block signed) block = signed.message ≡ block
 HasBlock (post.Vote vote) block = ⊥
+HasBlock (post.Aggregate aggregate) block = ⊥

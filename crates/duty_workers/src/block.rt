@@ -6,7 +6,7 @@ ghost use Rattle.desk_machine.specs.declared.call.Outcome.{Outcome};
 ghost use Rattle.altair_blocks.specs.declared.any_block.AnyBlock.{AnyBlock};
 ghost use Rattle.client_calls.specs.Seats.{SignerSeen, signer_seen};
 ghost use Rattle.call_plans.specs.Paths.{Carries};
-ghost use Rattle.duty_plans.specs.Ends.{left_by, over};
+ghost use Rattle.duty_plans.specs.Ends.{barred, left_by, over};
 ghost use Rattle.duty_plans.specs.Hands.{Free, Holds};
 ghost use Rattle.duty_plans.specs.Messages.{block_message, block_post, block_request, reveal_request};
 ghost use Rattle.duty_plans.specs.Plans.{allowed_plan, block_plan, granted_plan, made_plan, post_plan, revealed_plan, under, with_got};
@@ -18,7 +18,8 @@ ghost use Rattle.duty_workers.specs.Posts.{HasBlock};
 use altair_blocks::AnyBlock;
 use desk_machine::{DeskCall, DeskCalls, Grant, Outcome};
 use duty_plans::{
-    DutyResult, Ended, Got, SlotWork, Unsent, block_in, grant_in, left_by, signature_in,
+    DutyResult, Ended, Got, SlotWork, Unsent, barred, block_in, grant_in, left_by, over,
+    signature_in,
 };
 use duty_sends::{send, settle};
 use edge_kit::Sig;
@@ -90,10 +91,7 @@ fn reveal<K: DeskCalls, S: Signer, N: Node + Drop>(
             let reply = signer.sign_plain(&reveal_request(work), &grant);
             ask(work, row, signature_in(reply), grant, desk, signer, nodes)
         }
-        Got::Failed(result) => Ok(Ended {
-            result,
-            unsent: None,
-        }),
+        Got::Failed(result) => Ok(over(result)),
         Got::Nothing => Err(AllocError),
     }
 }
@@ -161,10 +159,7 @@ fn publish<K: DeskCalls, S: Signer, N: Node + Drop>(
 {
     match block {
         Got::Given(block) => propose(work, row, block, desk, signer, nodes),
-        Got::Failed(result) => Ok(Ended {
-            result,
-            unsent: None,
-        }),
+        Got::Failed(result) => Ok(over(result)),
         Got::Nothing => Err(AllocError),
     }
 }
@@ -239,7 +234,7 @@ fn sign<K: DeskCalls, S: Signer, N: Node + Drop>(
     requires settles { MayEnd (λ c. K.allows desk.old c) leave }
     requires message { HasMessage leave }
     ensures ready { K.ready desk.new }
-    ensures runs { Carries Fits (Does K.leads) (with_got over leave (λ g. granted_plan (Unsent.Block block) (block_request work.now block) (block_post block) g))
+    ensures runs { Carries Fits (Does K.leads) (with_got (barred (Unsent.Block block)) leave (λ g. granted_plan (Unsent.Block block) (block_request work.now block) (block_post block) g))
         (at_seat desk.old (given_hand leave) (signer_seen S.told S.faults S.denials signer.old) (nodes_seen N.told N.faults nodes.old))
         (at_seat desk.new Free (signer_seen S.told S.faults S.denials signer.new) (nodes_seen N.told N.faults nodes.new)) (result_ok result) }
 {
@@ -249,10 +244,7 @@ fn sign<K: DeskCalls, S: Signer, N: Node + Drop>(
             let reply = signer.sign(&request, &grant);
             post(block_back(request), signature_in(reply), grant, desk, nodes)
         }
-        Got::Failed(result) => Ok(Ended {
-            result,
-            unsent: None,
-        }),
+        Got::Failed(result) => Ok(barred(Unsent::Block(block), result)),
         Got::Nothing => Err(AllocError),
     }
 }
@@ -264,7 +256,7 @@ fn block_posted(post: Post) -> AnyBlock
 {
     match post {
         Post::Block(signed) => signed.message,
-        Post::Vote(_) => unreachable!(),
+        Post::Vote(_) | Post::Aggregate(_) => unreachable!(),
     }
 }
 
@@ -289,7 +281,7 @@ fn post<K: DeskCalls, N: Node + Drop>(
     requires ready { K.ready desk.old }
     requires settles { (o : Outcome) → K.allows desk.old (DeskCall.Settle grant o) }
     ensures ready { K.ready desk.new }
-    ensures runs { (s : SignerSeen) → Carries Fits (Does K.leads) (under (left_by (Unsent.Block block)) grant signature (λ x. post_plan (Unsent.Block block) grant (block_post block x)))
+    ensures runs { (s : SignerSeen) → Carries Fits (Does K.leads) (under (left_by (Unsent.Block block)) grant signature (λ x. post_plan (left_by (Unsent.Block block)) grant (block_post block x)))
         (at_seat desk.old (Holds grant) s (nodes_seen N.told N.faults nodes.old))
         (at_seat desk.new Free s (nodes_seen N.told N.faults nodes.new)) (result_ok result) }
 {

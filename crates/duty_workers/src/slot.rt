@@ -17,6 +17,7 @@ use block_copies::block_copy;
 use desk_machine::DeskCalls;
 use duty_plans::{DutySetup, Ended, SlotWork, Task, Unsent};
 use duty_schedule::Duty;
+use duty_sends::{aggregate, choose};
 use node_calls::{Node, ProposerRow};
 use node_fallback::Nodes;
 use sign_roots::Domains;
@@ -93,6 +94,10 @@ fn carry_out<K: DeskCalls, S: Signer, N: Node + Drop>(
     match task {
         Task::Fresh(duty) => do_duty(alloc, work, duty, desk, signer, nodes),
         Task::Again(duty, unsent) => try_again(alloc, work, duty, unsent, desk, signer, nodes),
+        Task::Choose(row, details) => choose(work, row, *details, desk, signer),
+        Task::Aggregate(row, details, proof) => {
+            aggregate(work, row, details, *proof, desk, signer, nodes)
+        }
     }
 }
 

@@ -6,7 +6,7 @@ ghost use Rattle.desk_machine.specs.declared.call.Outcome.{Outcome};
 ghost use Rattle.node_calls.specs.Aggregation.{aggregation_bits};
 ghost use Rattle.client_calls.specs.Seats.{SignerSeen, signer_seen};
 ghost use Rattle.call_plans.specs.Paths.{Carries};
-ghost use Rattle.duty_plans.specs.Ends.{left_by, over};
+ghost use Rattle.duty_plans.specs.Ends.{barred, left_by, over};
 ghost use Rattle.duty_plans.specs.Hands.{Free, Holds};
 ghost use Rattle.duty_plans.specs.Messages.{vote_message, vote_post, vote_request};
 ghost use Rattle.duty_plans.specs.Plans.{granted_plan, post_plan, under, vote_plan, voted_plan, with_got};
@@ -17,7 +17,8 @@ ghost use Rattle.duty_workers.specs.Places.{has_place};
 
 use desk_machine::{DeskCall, DeskCalls, Grant, Outcome};
 use duty_plans::{
-    DutyResult, Ended, Got, SlotWork, Unsent, grant_in, left_by, signature_in, vote_in,
+    DutyResult, Ended, Got, SlotWork, Unsent, barred, grant_in, left_by, over, signature_in,
+    vote_in,
 };
 use duty_sends::{send, settle};
 use edge_kit::Sig;
@@ -74,10 +75,7 @@ fn vote_on<K: DeskCalls, S: Signer, N: Node + Drop>(
 {
     match details {
         Got::Given(details) => vote_for(alloc, work, row, details, desk, signer, nodes),
-        Got::Failed(result) => Ok(Ended {
-            result,
-            unsent: None,
-        }),
+        Got::Failed(result) => Ok(over(result)),
         Got::Nothing => Err(AllocError),
     }
 }
@@ -160,7 +158,7 @@ fn sign<K: DeskCalls, S: Signer, N: Node + Drop>(
     requires message { HasMessage leave }
     requires bits { bits ≡ aggregation_bits row.now.validator_committee_index row.now.committee_length }
     ensures ready { K.ready desk.new }
-    ensures runs { Carries Fits (Does K.leads) (with_got over leave (λ g. granted_plan (Unsent.Vote details) (vote_request work.now details) (vote_post row.now details) g))
+    ensures runs { Carries Fits (Does K.leads) (with_got (barred (Unsent.Vote details)) leave (λ g. granted_plan (Unsent.Vote details) (vote_request work.now details) (vote_post row.now details) g))
         (at_seat desk.old (given_hand leave) (signer_seen S.told S.faults S.denials signer.old) (nodes_seen N.told N.faults nodes.old))
         (at_seat desk.new Free (signer_seen S.told S.faults S.denials signer.new) (nodes_seen N.told N.faults nodes.new)) (result_ok result) }
 {
@@ -170,10 +168,7 @@ fn sign<K: DeskCalls, S: Signer, N: Node + Drop>(
             let posted = post(row, details, bits, signature_in(reply), grant, desk, nodes);
             left_of(details, posted)
         }
-        Got::Failed(result) => Ok(Ended {
-            result,
-            unsent: None,
-        }),
+        Got::Failed(result) => Ok(barred(Unsent::Vote(details), result)),
         Got::Nothing => Err(AllocError),
     }
 }
@@ -205,7 +200,7 @@ fn post<K: DeskCalls, N: Node + Drop>(
     requires settles { (o : Outcome) → K.allows desk.old (DeskCall.Settle grant o) }
     requires bits { bits ≡ aggregation_bits row.now.validator_committee_index row.now.committee_length }
     ensures ready { K.ready desk.new }
-    ensures runs { (s : SignerSeen) (unsent : Unsent) → Carries Fits (Does K.leads) (under (left_by unsent) grant signature (λ x. post_plan unsent grant (vote_post row.now details x)))
+    ensures runs { (s : SignerSeen) (unsent : Unsent) → Carries Fits (Does K.leads) (under (left_by unsent) grant signature (λ x. post_plan (left_by unsent) grant (vote_post row.now details x)))
         (at_seat desk.old (Holds grant) s (nodes_seen N.told N.faults nodes.old))
         (at_seat desk.new Free s (nodes_seen N.told N.faults nodes.new)) (option_map (λ by. left_by unsent by) (result_ok result)) }
 {

@@ -108,6 +108,7 @@ impl Display for AskTarget<'_> {
             Ask::Attester { epoch, .. } => write!(f, "/eth/v1/validator/duties/attester/{epoch}"),
             Ask::Data { slot, .. } => write!(f, "/eth/v1/validator/attestation_data?slot={slot}"),
             Ask::Block { slot, .. } => write!(f, "/eth/v2/validator/blocks/{slot}"),
+            Ask::Aggregate { .. } => write!(f, "/eth/v1/validator/aggregate_attestation"),
             Ask::Liveness { epoch, .. } => write!(f, "/eth/v1/validator/liveness/{epoch}"),
         }
     }
@@ -126,6 +127,7 @@ fn post_target(post: &Post) -> &'static str {
     match post {
         Post::Vote(_) => "/eth/v1/beacon/pool/attestations",
         Post::Block(_) => "/eth/v1/beacon/blocks",
+        Post::Aggregate(_) => "/eth/v1/validator/aggregate_and_proofs",
     }
 }
 

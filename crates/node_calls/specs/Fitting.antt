@@ -61,5 +61,6 @@ fits (ask.Proposer epoch) (answer.Proposer root rows) = are_proposer_rows epoch 
 fits (ask.Attester epoch indices) (answer.Attester root rows) = are_attester_rows epoch rows
 fits (ask.Data slot committee) (answer.Data details) = nat_le details.source.epoch details.target.epoch
 fits (ask.Block slot reveal) (answer.Block block) = true
+fits (ask.Aggregate root slot) (answer.Aggregate aggregate) = true
 fits (ask.Liveness epoch indices) (answer.Liveness rows) = true
 fits _ _ = false

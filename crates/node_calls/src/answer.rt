@@ -1,6 +1,7 @@
 //! What a beacon node answers.
 use altair_blocks::AnyBlock;
 use edge_kit::{Items, PubKey, Root};
+use phase0_blocks::Attestation;
 use phase0_types::{AttestationData, Fork};
 
 /// A validator's index and key.
@@ -63,6 +64,7 @@ pub enum Answer {
     },
     Data(AttestationData),
     Block(AnyBlock),
+    Aggregate(Attestation),
     Liveness(Items<LivenessRow>),
 }
 

@@ -42,6 +42,13 @@ impl Ask {
                 slot: *slot,
                 randao_reveal: *randao_reveal,
             },
+            Ask::Aggregate {
+                attestation_data_root,
+                slot,
+            } => Ask::Aggregate {
+                attestation_data_root: *attestation_data_root,
+                slot: *slot,
+            },
             Ask::Liveness { epoch, indices } => Ask::Liveness {
                 epoch: *epoch,
                 indices: items_copy(alloc, indices)?,
@@ -84,6 +91,7 @@ impl Answer {
             },
             Answer::Data(details) => Answer::Data(*details),
             Answer::Block(block) => Answer::Block(block_copy(alloc, block)?),
+            Answer::Aggregate(aggregate) => Answer::Aggregate(attestation_copy(alloc, aggregate)?),
             Answer::Liveness(rows) => Answer::Liveness(items_copy(alloc, rows)?),
         })
     }
@@ -117,6 +125,10 @@ impl Post {
             Post::Block(block) => Post::Block(Signed {
                 message: block_copy(alloc, &block.message)?,
                 signature: block.signature,
+            }),
+            Post::Aggregate(signed) => Post::Aggregate(Signed {
+                message: signed.message.copy(alloc)?,
+                signature: signed.signature,
             }),
         })
     }
@@ -153,7 +165,7 @@ impl NodeCall {
     }
 }
 
-/// The same calls with their replies again, likewise.
+/// The same calls with their replies again. The error is want of memory.
 pub fn calls_copy(alloc: Global, calls: &[NodeCall]) -> Result<Vec<NodeCall>, AllocError>
     ensures { IfOk result (λ copies. copies.items ≡ calls.now) }
 {

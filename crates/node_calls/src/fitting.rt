@@ -34,6 +34,7 @@ impl Answer {
             | (Ask::Syncing, Answer::Syncing { .. })
             | (Ask::Validators { .. }, Answer::Validators(_))
             | (Ask::Block { .. }, Answer::Block(_))
+            | (Ask::Aggregate { .. }, Answer::Aggregate(_))
             | (Ask::Liveness { .. }, Answer::Liveness(_)) => Ok(true),
             (Ask::Proposer { epoch }, Answer::Proposer { rows, .. }) => {
                 are_proposers(alloc, *epoch, rows.as_slice())

@@ -3,6 +3,7 @@ ghost use Rattle.std.specs.Prelude.{◌≡◌, ◌<◌, ◌≤◌, IfOk};
 ghost use Rattle.node_calls.specs.Aggregation.{aggregation_bits};
 
 use altair_blocks::AnyBlock;
+use duty_types::AggregateAndProof;
 use phase0_blocks::{Attestation, Signed};
 use phase0_types::BoundedList;
 use std::alloc::{AllocError, Global};
@@ -14,6 +15,8 @@ pub enum Post {
     Vote(Attestation),
     /// A block of any version (`publishBlock`).
     Block(Signed<AnyBlock>),
+    /// An aggregate with the proof that its aggregator was chosen (`publishAggregateAndProofs`).
+    Aggregate(Signed<AggregateAndProof>),
 }
 
 /// The aggregation bits of a vote by one member of a committee: one bit a member, set at this place alone

@@ -59,7 +59,7 @@ member_name member.SyncAggregate = codes "sync_aggregate"
 member_name member.SyncCommitteeBits = codes "sync_committee_bits"
 member_name member.SyncCommitteeSignature = codes "sync_committee_signature"
 
--- no fork, signing data, header or attestation data has it
+-- no fork, signing data, header, attestation data or registration has it
 abbrev pub is_in_bodies : Member → Bool
 is_in_bodies member.PreviousVersion = false
 is_in_bodies member.CurrentVersion = false
@@ -77,4 +77,7 @@ is_in_bodies member.ProposerIndex = false
 is_in_bodies member.ParentRoot = false
 is_in_bodies member.StateRoot = false
 is_in_bodies member.BodyRoot = false
+is_in_bodies member.FeeRecipient = false
+is_in_bodies member.GasLimit = false
+is_in_bodies member.Timestamp = false
 is_in_bodies _ = true

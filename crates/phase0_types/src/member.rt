@@ -84,11 +84,14 @@ impl Member {
             Member::ParentRoot => "parent_root",
             Member::StateRoot => "state_root",
             Member::BodyRoot => "body_root",
+            Member::FeeRecipient => "fee_recipient",
+            Member::GasLimit => "gas_limit",
+            Member::Timestamp => "timestamp",
             _ => self.name_in_bodies(),
         }
     }
 
-    /// Its name, where no fork, signing data, header or attestation data has it; else nothing.
+    /// Its name, where no fork, signing data, header, attestation data or registration has it; else nothing.
     fn name_in_bodies(self) -> &'static str
         ensures { IsTrue (is_in_bodies self) → result.now ≡ member_name self }
     {
@@ -125,9 +128,6 @@ impl Member {
             Member::SelectionProof => "selection_proof",
             Member::Aggregate => "aggregate",
             Member::CommitteeBits => "committee_bits",
-            Member::FeeRecipient => "fee_recipient",
-            Member::GasLimit => "gas_limit",
-            Member::Timestamp => "timestamp",
             Member::SyncAggregate => "sync_aggregate",
             Member::SyncCommitteeBits => "sync_committee_bits",
             Member::SyncCommitteeSignature => "sync_committee_signature",

@@ -165,6 +165,7 @@ fn services_of(options: ServeOptions) -> Services
         token,
         altair: _altair,
         watch,
+        aggregate: _aggregate,
         slots: _slots,
         connections,
         lanes: _lanes,

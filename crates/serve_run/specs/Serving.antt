@@ -36,7 +36,7 @@ pub record Wanted : Type 0 where
 
 -- the duties of a client
 abbrev pub setup_of : ServeOptions → Start → DutySetup
-setup_of options start = record { genesis = options.genesis; genesis_time = start.genesis_time; fork = start.fork; altair = options.altair; watch = options.watch; slots = options.slots; keep_epochs = last_of options.keep_epochs }
+setup_of options start = record { genesis = options.genesis; genesis_time = start.genesis_time; fork = start.fork; altair = options.altair; watch = options.watch; aggregate = options.aggregate; slots = options.slots; keep_epochs = last_of options.keep_epochs }
 
 -- how the output ends where the duties came to their number of turns, by how the connections ended
 abbrev pub ClosesConnections : Result (Unit {0}) ConnectionsEnd → Output → Output → Status → Type 0

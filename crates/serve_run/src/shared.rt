@@ -72,6 +72,7 @@ fn work_of<'a, C>(
             fork: start.fork,
             altair: options.altair,
             watch: options.watch,
+            aggregate: options.aggregate,
             slots: options.slots,
             keep_epochs: options.keep_epochs.last(),
         },

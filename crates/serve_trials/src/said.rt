@@ -3,7 +3,7 @@ use crate::scenes::{bad, number_of};
 use altair_blocks::AnyBlock;
 use edge_kit::{Items, PubKey, Root, Sig};
 use node_calls::{Answer, Ask, AttesterRow, ProposerRow, ValidatorRow};
-use phase0_blocks::{BeaconBlock, BeaconBlockBody};
+use phase0_blocks::{Attestation, BeaconBlock, BeaconBlockBody};
 use phase0_types::{AttestationData, BoundedList, Checkpoint, Eth1Data, Fork};
 use std::alloc::{AllocError, Global};
 use std::io;
@@ -51,25 +51,28 @@ pub struct Due {
 }
 
 /// Which calls of a node fail, and which of each lane's; and what it says of its chain: the root of its genesis validators,
-/// and the duties. Duties of one slot stand in the order in which they are done, and what is given for its votes is that of
-/// the first of them.
+/// the duties, and the slots whose aggregates are of votes for the data of another one. Duties of one slot stand in the
+/// order in which they are done, and what is given for its votes is that of the first of them.
 #[derive(Drop)]
 pub struct Said {
     failing: Vec<u64>,
     lane_failing: Vec<u64>,
     root: Root,
     due: Vec<Due>,
+    differing: Vec<(u64, u64)>,
 }
 
 impl Said {
-    /// What these items say, with `, ` between them: `fails CALL` and `lane-fails CALL`; `other-chain` for the root G1 in place of G0; and of a
-    /// duty `block SLOT KEY GIVEN` or `vote SLOT KEY GIVEN`, where KEY is K1 or K2 and GIVEN may be absent.
+    /// What these items say, with `, ` between them: `fails CALL` and `lane-fails CALL`; `other-chain` for the root G1 in place of G0; of a
+    /// duty `block SLOT KEY GIVEN` or `vote SLOT KEY GIVEN`, where KEY is K1 or K2 and GIVEN may be absent; and `aggregate SLOT GIVEN`
+    /// where the aggregate of a slot's votes is one for the data of slot GIVEN. Else it is one for the data that was given.
     pub fn read(alloc: Global, items: &str) -> io::Result<Said> {
         let mut said = Said {
             failing: Vec::new(alloc),
             lane_failing: Vec::new(alloc),
             root: ZERO,
             due: Vec::new(alloc),
+            differing: Vec::new(alloc),
         };
         for item in items.split(", ") {
             said.take(item)?;
@@ -86,6 +89,7 @@ impl Said {
             ("lane-fails", call) => self.lane_failing.push(number_of(call)?)?,
             ("block", due) => self.due.push(due_of(Made::Block, due)?)?,
             ("vote", due) => self.due.push(due_of(Made::Vote, due)?)?,
+            ("aggregate", slots) => self.differing.push(slots_of(slots)?)?,
             _ => return Err(bad()),
         }
         Ok(())
@@ -109,6 +113,22 @@ impl Said {
         }
         None
     }
+
+    /// The slot of the data that the votes in the aggregate of a slot are for.
+    fn aggregated(&self, slot: u64) -> Option<u64> {
+        for (differing, given) in self.differing.as_slice() {
+            if *differing == slot {
+                return Some(*given);
+            }
+        }
+        self.given(Made::Vote, slot)
+    }
+}
+
+/// The two slots of these words.
+fn slots_of(words: &str) -> io::Result<(u64, u64)> {
+    let (slot, given) = words.split_once(' ').unwrap_or((words, ""));
+    Ok((number_of(slot)?, number_of(given)?))
 }
 
 /// The duty of these words.
@@ -153,6 +173,7 @@ pub fn answer_to(alloc: Global, said: &Said, ask: &Ask) -> Result<Option<Answer>
         Ask::Attester { epoch, .. } => Ok(Some(attesters(alloc, *epoch, said)?)),
         Ask::Data { slot, .. } => Ok(said.given(Made::Vote, *slot).map(data)),
         Ask::Block { slot, .. } => Ok(said.given(Made::Block, *slot).map(|at| block(alloc, at))),
+        Ask::Aggregate { slot, .. } => aggregate(alloc, said.aggregated(*slot)),
         Ask::Liveness { .. } => Ok(None),
     }
 }
@@ -197,9 +218,9 @@ fn attesters(alloc: Global, epoch: u64, said: &Said) -> Result<Answer, AllocErro
     })
 }
 
-/// The data of votes of a slot.
-fn data(slot: u64) -> Answer {
-    Answer::Data(AttestationData {
+/// What a committee is to vote in a slot.
+fn details(slot: u64) -> AttestationData {
+    AttestationData {
         slot,
         index: 2,
         beacon_block_root: ZERO,
@@ -211,7 +232,33 @@ fn data(slot: u64) -> Answer {
             epoch: slot / SLOTS_PER_EPOCH,
             root: ZERO,
         },
-    })
+    }
+}
+
+/// The data of votes of a slot.
+fn data(slot: u64) -> Answer {
+    Answer::Data(details(slot))
+}
+
+/// The votes of all members of the committee for the data of this slot, where there is a slot.
+fn aggregate(alloc: Global, given: Option<u64>) -> Result<Option<Answer>, AllocError> {
+    let Some(slot) = given else {
+        return Ok(None);
+    };
+    Ok(Some(Answer::Aggregate(Attestation {
+        aggregation_bits: all_members(alloc)?,
+        details: details(slot),
+        signature: Sig([0; 96]),
+    })))
+}
+
+/// A set bit for each of the 128 members of the committee.
+fn all_members(alloc: Global) -> Result<BoundedList<bool, 2048>, AllocError> {
+    let bits = vec![in alloc; true; 128]?;
+    match BoundedList::try_new(bits) {
+        Ok(bits) => Ok(bits),
+        Err(_) => Err(AllocError),
+    }
 }
 
 /// A block of a slot.

@@ -23,6 +23,7 @@ pub fn answer_words(alloc: Global, answer: &Answer) -> Result<String, AllocError
         } => format!(in alloc; "{dependent_root:?} {:?}", rows.as_slice()),
         Answer::Data(details) => format!(in alloc; "{details:?}"),
         Answer::Block(block) => format!(in alloc; "{block:?}"),
+        Answer::Aggregate(aggregate) => format!(in alloc; "{aggregate:?}"),
         Answer::Liveness(rows) => format!(in alloc; "{:?}", rows.as_slice()),
     }
 }

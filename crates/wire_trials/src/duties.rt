@@ -1,11 +1,11 @@
-//! Slots, data of votes, blocks, questions and watches.
+//! Slots, data of votes, blocks, aggregators, questions and watches.
 use crate::nodes::bits_of;
 use crate::questions::{answer_of, ask_of, attester};
-use crate::reading::{Stop, first_part, numbers_in, whole_block};
+use crate::reading::{Stop, byte_of, first_part, numbers_in, whole_block};
 use altair_blocks::version_at;
 use doppel_watch::{MOMENT_LIMIT, Watch};
-use duty_schedule::{DataDiffers, check_block, check_data, slot_at};
-use edge_kit::{Items, Root};
+use duty_schedule::{DataDiffers, check_block, check_data, is_aggregator, slot_at};
+use edge_kit::{Items, Root, Sig};
 use node_fallback::Cause;
 use phase0_types::{AttestationData, Checkpoint};
 use std::alloc::Global;
@@ -17,6 +17,7 @@ pub fn outcome(alloc: Global, subject: &str, arguments: &str) -> Result<String, 
         "check-data" => data(alloc, arguments),
         "version" => version(alloc, arguments),
         "check-block" => block(alloc, arguments),
+        "aggregator" => aggregator(alloc, arguments),
         "fits" => fits(alloc, arguments),
         "bits" => Ok(format!(in alloc; "{:?}", bits_of(alloc, arguments)?.as_slice())?),
         "cause" => cause(alloc, arguments),
@@ -91,6 +92,17 @@ fn block(alloc: Global, words: &str) -> Result<String, Stop> {
     let (slot, altair) = slot_and_altair(alloc, due)?;
     let given = whole_block(alloc, given)?;
     check_words(alloc, check_block(slot, altair, &given))
+}
+
+/// Whether a member with this proof aggregates the votes of a committee of that many.
+fn aggregator(alloc: Global, words: &str) -> Result<String, Stop> {
+    match numbers_in(alloc, words)?.as_slice() {
+        [proof, members] => {
+            let aggregates = is_aggregator(&Sig([byte_of(*proof); 96]), *members);
+            Ok(format!(in alloc; "{aggregates}")?)
+        }
+        _ => Err(Stop::Unread),
+    }
 }
 
 /// Whether an answer fits its question.

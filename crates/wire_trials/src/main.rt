@@ -3,7 +3,8 @@
 //! clocks. Each line of the input is a subject and its arguments; what comes of it is written below it.
 //!
 //! In texts of bytes `\r` and `\n` stand for the ends of lines. Of the arguments that are numbers the words between them
-//! say what they are, and are passed over. Keys, roots and reveals are given by a number that each of their bytes is.
+//! say what they are, and are passed over. Keys, roots, reveals and proofs are given by a number that each of their bytes
+//! is.
 #![tactic(auto)]
 
 mod answers;

@@ -54,12 +54,22 @@ fn block_of(alloc: Global, setting: &str) -> Result<Post, Stop> {
     }
 }
 
-/// Something signed: a vote, or a block that another node gives.
+/// The aggregate that a JSON text writes, with its aggregator and the proof.
+fn aggregate_of(alloc: Global, json: &str) -> Result<Post, Stop> {
+    Ok(Post::Aggregate(Signed {
+        message: value_of(alloc, json)?,
+        signature: Sig([0x66; 96]),
+    }))
+}
+
+/// Something signed: a block that another node gives, an aggregate, or a vote.
 pub fn post_of(alloc: Global, words: &str) -> Result<Post, Stop> {
     if let Some(setting) = words.strip_prefix("block of a node that ") {
-        block_of(alloc, setting)
-    } else {
-        vote_of(alloc, words)
+        return block_of(alloc, setting);
+    }
+    match words.strip_prefix("aggregate ") {
+        Some(json) => aggregate_of(alloc, json),
+        None => vote_of(alloc, words),
     }
 }
 

@@ -44,6 +44,10 @@ pub fn ask_of(alloc: Global, words: &str) -> Result<Ask, Stop> {
             slot: *slot,
             randao_reveal: Sig([byte_of(*reveal); 96]),
         }),
+        ("aggregate", [root, slot]) => Ok(Ask::Aggregate {
+            attestation_data_root: root_of(*root),
+            slot: *slot,
+        }),
         (_, numbers) => ask_with_list(alloc, kind, numbers),
     }
 }

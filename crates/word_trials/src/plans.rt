@@ -176,17 +176,18 @@ fn push_work(out: &mut String, options: &ServeOptions) -> Result<(), AllocError>
     write!(out, " {}", options.timeout.seconds())
 }
 
-/// Appends where a server answers, its token, whether it watches, when it ends, and how many lanes it has.
+/// Appends where a server answers, its token, whether it watches and aggregates, when it ends, and how many lanes it has.
 fn push_door(out: &mut String, options: &ServeOptions) -> Result<(), AllocError> {
     let listen = options.listen;
     let token = options.token.as_str();
     let watch = options.watch;
+    let aggregate = options.aggregate;
     let slots = options.slots;
     let connections = options.connections;
     let lanes = options.lanes.get();
     write!(
         out,
-        " {listen} {token} {watch} {slots} {connections} {lanes}"
+        " {listen} {token} {watch} {aggregate} {slots} {connections} {lanes}"
     )
 }
 

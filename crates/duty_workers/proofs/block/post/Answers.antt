@@ -19,4 +19,4 @@ block_posted-requires g c = (c.args.block, refl)
 pub returns-in-Given-clause-runs : goal.returns-in-Given-clause-runs
 returns-in-Given-clause-runs g c = λ s.
     let same = ap (λ (b : AnyBlock). option_map (λ by. left_by (granted.Block b) by) (result_ok c.send-posted.result)) (sym c.block_posted.ensures) in
-    rw c.in-Given.is (ends_as g.K.DeskCalls.leads g.met.K.DeskCalls.leads_none _ _ _ _ _ (c.left_of.ensures ∙ same) (c.send-posted.ensures.runs s (granted.Block c.args.block)))
+    rw c.in-Given.is (ends_as g.K.DeskCalls.leads g.met.K.DeskCalls.leads_none _ _ _ _ _ (c.left_of.ensures ∙ same) (c.send-posted.ensures.runs s (left_by (granted.Block c.args.block))))

@@ -14,7 +14,7 @@ returns-in-Given-clause-runs g c = rw (c.in-Given.is, ← c.reveal_request.ensur
     (under_is g.K.DeskCalls.leads g.met.K.DeskCalls.leads_none (left_by granted.Reveal) c.in-Given.grant _ _ (λ x. revealed_plan c.args.work.now c.args.row.now c.in-Given.grant x) _ _ _ c.signature_in.ensures c.ask.ensures.runs))
 
 pub returns-in-Failed-clause-runs : goal.returns-in-Failed-clause-runs
-returns-in-Failed-clause-runs g c = rw c.in-Failed.is (carries_end Fits (Does g.K.DeskCalls.leads) _ _ _ refl)
+returns-in-Failed-clause-runs g c = rw c.in-Failed.is (carries_end Fits (Does g.K.DeskCalls.leads) _ _ _ c.over.ensures)
 
 pub returns-in-Nothing-clause-runs : goal.returns-in-Nothing-clause-runs
 returns-in-Nothing-clause-runs g c = rw c.in-Nothing.is (carries_end Fits (Does g.K.DeskCalls.leads) _ _ _ tt)

@@ -5,7 +5,7 @@ use Rattle.duty_plans.specs.Seats.{Does}
 use Rattle.duty_workers.proofs.vote.vote_on.Goals as goal
 
 pub returns-in-Failed-clause-runs : goal.returns-in-Failed-clause-runs
-returns-in-Failed-clause-runs g c = rw c.in-Failed.is (carries_end Fits (Does g.K.DeskCalls.leads) _ _ _ refl)
+returns-in-Failed-clause-runs g c = rw c.in-Failed.is (carries_end Fits (Does g.K.DeskCalls.leads) _ _ _ c.over.ensures)
 
 pub returns-in-Nothing-clause-runs : goal.returns-in-Nothing-clause-runs
 returns-in-Nothing-clause-runs g c = rw c.in-Nothing.is (carries_end Fits (Does g.K.DeskCalls.leads) _ _ _ tt)

@@ -1,5 +1,5 @@
 use Rattle.duty_work.proofs.RunLemmas.{asked_failed, kind_failed}
-use Rattle.duty_work.proofs.work.ask_failed.Goals as goal
+use Rattle.duty_work.proofs.closing.ask_failed.Goals as goal
 
 pub end_by-requires : goal.end_by-requires
 end_by-requires g c = kind_failed c.call-reply.result c.call-reply.ensures.kind

@@ -2,7 +2,7 @@ use Rattle.std.proofs.Common.{◌∙◌, refl}
 use Rattle.call_plans.proofs.PathLemmas.{carries_cut}
 use Rattle.duty_turns.specs.TurnSteps.{Does, Fits}
 use Rattle.duty_work.proofs.RunLemmas.{closing}
-use Rattle.duty_work.proofs.work.close_ended.Goals as goal
+use Rattle.duty_work.proofs.closing.close_ended.Goals as goal
 
 pub returns-in_default-clause-runs : goal.returns-in_default-clause-runs
 returns-in_default-clause-runs g c = λ start lanes nodes s active. carries_cut Fits (Does g.K.DeskCalls.leads start) _ _

@@ -1,0 +1,5 @@
+pub mod TaskLemmas
+pub mod SoundLemmas
+pub mod GivenLemmas
+pub mod LaneLemmas
+pub mod EarnLemmas

@@ -1,0 +1,58 @@
+//! What holds of the aggregates of runs of duties, whatever takes the desk's calls.
+ghost use Rattle.std.specs.Prelude.{◌≡◌, ◌∷◌, ℕ, true, List, [], Option, Some, Result};
+ghost use Rattle.edge_kit.specs.declared.bytes.Sig.{Sig};
+ghost use Rattle.phase0_types.specs.declared.attestation.AttestationData.{AttestationData};
+ghost use Rattle.desk_machine.specs.declared.open_grant.OpenGrant.{OpenGrant};
+ghost use Rattle.signer_link.specs.declared.reply.SignReply.TheVariants as SignReply;
+ghost use Rattle.node_calls.specs.declared.answer.Answer.{Answer};
+ghost use Rattle.node_calls.specs.declared.answer.AttesterRow.{AttesterRow};
+ghost use Rattle.node_calls.specs.declared.ask.Ask.TheVariants as Ask;
+ghost use Rattle.duty_schedule.specs.Aggregators.{is_aggregator};
+ghost use Rattle.duty_schedule.specs.declared.rows.Duty.TheVariants as Duty;
+ghost use Rattle.call_plans.specs.Plans.{Follows};
+ghost use Rattle.duty_plans.specs.declared.ended.Aggregation.TheVariants as Aggregation;
+ghost use Rattle.duty_plans.specs.declared.ended.Ended.{Ended};
+ghost use Rattle.duty_plans.specs.declared.got.Got.TheVariants as Got;
+ghost use Rattle.duty_plans.specs.declared.setup.DutySetup.{DutySetup};
+ghost use Rattle.duty_plans.specs.declared.task.Task.TheVariants as Task;
+ghost use Rattle.duty_plans.specs.declared.work.SlotWork.{SlotWork};
+ghost use Rattle.duty_plans.specs.Messages.{slot_request};
+ghost use Rattle.duty_plans.specs.Plans.{task_plan};
+ghost use Rattle.duty_plans.specs.Reading.{vote_of};
+ghost use Rattle.duty_plans.specs.Steps.{Answered, Asks, DutyStep, Fits as FitsDuty, Reveals, Signed, Tried, came_of};
+ghost use Rattle.duty_turns.specs.declared.held.DutyEnd.{DutyEnd};
+ghost use Rattle.duty_turns.specs.Standing.{Standing};
+ghost use Rattle.duty_turns.specs.TurnSteps.{Fits, TurnStep};
+ghost use Rattle.duty_turns.specs.Turns.{turns_plan};
+ghost use Rattle.aggregation_law.specs.Earned.{AreEarned};
+ghost use Rattle.aggregation_law.specs.Reasons.{AreReasoned};
+
+/// Each task that is done in turns has a reason in the steps before it, however the turns end: a duty was found due, and a
+/// vote is cast in its time; what is tried once more is left of the duty; whether a validator aggregates is asked where
+/// aggregates are wanted, of a vote that got its data; and an aggregate is published in its time, by a validator that its
+/// proof chose.
+pub fn reason_law()
+    ensures { (setup : DutySetup) (n : ℕ) (s : Standing) (steps : List TurnStep) (v : Option (Result (Unit {0}) DutyEnd)) → Follows Fits (turns_plan setup n s) steps v
+        → AreReasoned setup [] steps }
+{}
+
+/// Each aggregate that is posted in turns is earned by the steps before it, however the turns end: aggregates are wanted,
+/// and it is their time; a node said what the validator's committee is to vote; the service signed the slot by the
+/// validator's key, and that signature chooses the validator; the aggregate has this signature as its proof and data of
+/// that root.
+pub fn aggregation_law()
+    ensures { (setup : DutySetup) (n : ℕ) (s : Standing) (steps : List TurnStep) (v : Option (Result (Unit {0}) DutyEnd)) → Follows Fits (turns_plan setup n s) steps v
+        → AreEarned setup [] steps }
+{}
+
+/// A vote whose committee's data a node said, where it is the duty's, goes on with that data, whatever became of the vote:
+/// so its validator's choice is asked for (`choose_tasks`). A choice whose signature of the slot was given, and chooses the
+/// validator, goes on with it: so its aggregate is published (`aggregate_tasks`).
+pub fn choice_law()
+    ensures voted { (work : SlotWork) (row : AttesterRow) (tried : Tried Answer) (rest : List DutyStep) (details : AttestationData) (e : Ended)
+        → Follows FitsDuty (task_plan work (Task.Fresh (Duty.Vote row))) ((Asks (Ask.Data work.slot row.committee_index), Answered tried) ∷ rest) (Some e)
+        → vote_of row (came_of tried) ≡ Got.Given details → e.aggregation ≡ Some (Aggregation.Voted details) }
+    ensures chosen { (work : SlotWork) (row : AttesterRow) (details : AttestationData) (first : DutyStep) (grant : OpenGrant) (proof : Sig) (rest : List DutyStep) (e : Ended)
+        → Follows FitsDuty (task_plan work (Task.Choose row details)) (first ∷ (Reveals grant (slot_request work), Signed (SignReply.Signed proof)) ∷ rest) (Some e)
+        → is_aggregator proof row.committee_length ≡ true → e.aggregation ≡ Some (Aggregation.Chosen details proof) }
+{}
