@@ -1,11 +1,12 @@
 -- Each aggregate that is posted is earned.
-use Rattle.std.proofs.Common.{◌≡◌, ◌⊎◌, inl, inr, ℕ, true, List, [], ◌∷◌, ◌++◌, length, Option, Some, None, Result, refl, sym, ap, subst}
+use Rattle.std.proofs.Common.{◌≡◌, ◌⊎◌, inl, inr, ℕ, true, List, [], ◌∷◌, ◌++◌, Option, Some, Result, sym, subst}
 use Rattle.std.specs.Prelude.{Contains, IfSome}
 use Rattle.std.proofs.lemmas.List.Elements.{Contains-append_cases}
 use Rattle.edge_kit.specs.declared.bytes.Sig.{Sig}
 use Rattle.phase0_types.specs.declared.attestation.AttestationData.{AttestationData}
-use Rattle.protect_record.proofs.MemberLemmas.{contains_cases, contains_first, contains_later, contains_none}
-use Rattle.duty_types.specs.declared.aggregate.SignedAggregateAndProof.{SignedAggregateAndProof}
+use Rattle.protect_record.proofs.MemberLemmas.{contains_first, contains_later, contains_none}
+use Rattle.phase0_blocks.specs.declared.signed.Signed.{Signed}
+use Rattle.duty_types.specs.declared.aggregate.AggregateAndProof.{AggregateAndProof}
 use Rattle.desk_machine.specs.declared.open_grant.OpenGrant.{OpenGrant}
 use Rattle.node_calls.specs.declared.answer.AttesterRow.{AttesterRow}
 use Rattle.node_calls.specs.declared.post.Post.TheVariants as post
@@ -13,7 +14,6 @@ use Rattle.duty_schedule.specs.Aggregators.{is_aggregator}
 use Rattle.duty_schedule.specs.declared.rows.Duty.TheVariants as duty
 use Rattle.call_plans.specs.Plans.{Ask as Step, Done, Stop, Follows}
 use Rattle.duty_plans.specs.declared.ended.Aggregation.{Aggregation}
-use Rattle.duty_plans.specs.declared.ended.Aggregation.TheVariants as votes
 use Rattle.duty_plans.specs.declared.ended.Ended.{Ended}
 use Rattle.duty_plans.specs.declared.ended.Unsent.{Unsent}
 use Rattle.duty_plans.specs.declared.setup.DutySetup.{DutySetup}
@@ -23,11 +23,9 @@ use Rattle.duty_plans.specs.declared.work.SlotWork.{SlotWork}
 use Rattle.duty_plans.specs.Ends.{is_repeated}
 use Rattle.duty_plans.specs.Guards.{granted_in}
 use Rattle.duty_plans.specs.Owning.{IsOwn}
-use Rattle.duty_plans.specs.Plans.{task_plan}
 use Rattle.duty_plans.specs.Repeats.{GoesOnWith, HadLeave}
 use Rattle.duty_plans.specs.Steps.{DutyCall, DutyStep, Posts, desk_calls}
-use Rattle.duty_plans.specs.Steps as duties
-use Rattle.duty_plans.specs.Tasks.{IsOwnTask, IsOwnUnsent, duty_of, owner_of, unsent_message}
+use Rattle.duty_plans.specs.Tasks.{IsOwnTask, IsOwnUnsent, owner_of, unsent_message}
 use Rattle.duty_plans.proofs.AggregateLemmas.{task_goes}
 use Rattle.duty_plans.proofs.DutyLemmas.{task_own}
 use Rattle.duty_plans.proofs.LeftLemmas.{task_left}
@@ -36,7 +34,7 @@ use Rattle.duty_turns.specs.Standing.{Standing}
 use Rattle.duty_turns.specs.TurnSteps.{TurnCall, TurnPlan, TurnReply, TurnStep, Fits, Worked, Works}
 use Rattle.duty_turns.specs.Turns.{turns_plan}
 use Rattle.aggregation_law.specs.Earned.{AreEarned, IsEarned, IsEarnedCall, IsEarnedStep, WasProved, WasSaid}
-use Rattle.aggregation_law.specs.Reasons.{AreReasoned, GotData, HadEnd, HasReason, IsPair, IsReasoned, WasChosen, WasDue, WasLeft}
+use Rattle.aggregation_law.specs.Reasons.{AreReasoned, GotData, HadEnd, HasReason, IsPair, IsReasoned, WasChosen, WasDue}
 use Rattle.aggregation_law.proofs.GivenLemmas.{vote_said}
 use Rattle.aggregation_law.proofs.LaneLemmas.{AllFit, call_at, lane_step, took}
 use Rattle.aggregation_law.proofs.SoundLemmas.{turns_reasoned}
@@ -99,7 +97,7 @@ module _ (setup : DutySetup) where
     own_task (task.Choose row details) h = (said_of row details h.1).same
     own_task (task.Aggregate row details proof) h = let c = chosen_of row details proof h.1 in (c.said.same, c.chosen)
 
-    earned_post : (t : Task) (grant : OpenGrant) (signed : SignedAggregateAndProof) → HasReason setup before work t → IsOwn work t (Posts grant (post.Aggregate signed)) → IsEarned setup before work grant signed.message
+    earned_post : (t : Task) (grant : OpenGrant) (signed : Signed AggregateAndProof) → HasReason setup before work t → IsOwn work t (Posts grant (post.Aggregate signed)) → IsEarned setup before work grant signed.message
     earned_post (task.Aggregate row details proof) grant signed h own =
         let c = chosen_of row details proof h.1 in
         record { row = row; details = details; proof = proof; wanted = c.wanted; time = h.0; due = c.due; said = c.said; proved = c.proved; chosen = c.chosen; own = own.0; leave = own.1 }

@@ -1,5 +1,5 @@
 -- What a vote and a choice go on with, by the replies to their calls.
-use Rattle.std.proofs.Common.{◌≡◌, ℕ, Bool, true, false, List, [], ◌∷◌, ◌++◌, Option, Some, None, Result, Ok, Err, refl, sym, ◌∙◌, ap, subst}
+use Rattle.std.proofs.Common.{◌≡◌, ℕ, Bool, true, List, [], ◌∷◌, Option, Some, None, Result, Ok, Err, refl, sym, ◌∙◌, ap, subst}
 use Rattle.std.specs.Prelude.{Contains, if◌then◌else◌}
 use Rattle.edge_kit.specs.declared.bytes.PubKey.{PubKey}
 use Rattle.edge_kit.specs.declared.bytes.Sig.{Sig}
@@ -29,7 +29,6 @@ use Rattle.duty_plans.specs.declared.ended.Unsent.TheVariants as granted
 use Rattle.duty_plans.specs.declared.got.Got.{Got}
 use Rattle.duty_plans.specs.declared.got.Got.TheVariants as got
 use Rattle.duty_plans.specs.declared.result.DutyResult.{DutyResult}
-use Rattle.duty_plans.specs.declared.result.DutyResult.TheVariants as ended
 use Rattle.duty_plans.specs.declared.task.Task.TheVariants as task
 use Rattle.duty_plans.specs.declared.work.SlotWork.{SlotWork}
 use Rattle.duty_plans.specs.Ends.{barred, left_by, over}
@@ -91,11 +90,11 @@ goes_voted work row details = ends_publish (GoesVoted details) row.pubkey (vote_
 
 matched_is : (o : Option DataDiffers) (x y : AttestationData) → matching o x ≡ got.Given y → x ≡ y
 matched_is None x y e = cc
-matched_is (Some differs) x y e = absurd (let bad : got.Failed {T = AttestationData} ended.DataDiffers ≡ got.Given y = e in cc)
+matched_is (Some differs) x y e = absurd cc
 
 nothing_not : (why : NoAnswer) (y : AttestationData) → nothing_of why ≡ got.Given y → ⊥
-nothing_not (none.NoNode causes) y e = let bad : got.Failed {T = AttestationData} ended.NoData ≡ got.Given y = e in cc
-nothing_not none.OutOfMemory y e = let bad : got.Nothing {T = AttestationData} ≡ got.Given y = e in cc
+nothing_not (none.NoNode causes) y e = absurd cc
+nothing_not none.OutOfMemory y e = absurd cc
 
 data_got : (row : AttesterRow) (a : Result Answer NoAnswer) (details : AttestationData) → vote_of row a ≡ got.Given details → a ≡ Ok (answer.Data details)
 data_got row (Ok (answer.Data given)) details e = ap (λ (x : AttestationData). Ok (answer.Data x)) (matched_is (first_that_differs (data_members row given)) given details e)

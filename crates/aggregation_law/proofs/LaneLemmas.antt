@@ -47,25 +47,23 @@ from_if false x t xs c = inr c
 
 pub dealt_from : (n lane place : ℕ) (tasks : List Task) (t : Task) → Contains (dealt n lane place tasks) t → Contains tasks t
 dealt_from n lane place [] t c = contains_none t c
-dealt_from n lane place (x ∷ xs) t c = by_cases (from_if (place % n == lane) x t (dealt n lane (place + 1) xs) c) where
-  by_cases : (x ≡ t) ⊎ Contains (dealt n lane (place + 1) xs) t → Contains (x ∷ xs) t
-  by_cases (inl e) = subst (λ (y : Task). Contains (x ∷ xs) y) e (contains_first x xs)
-  by_cases (inr h) = contains_later x xs t (dealt_from n lane (place + 1) xs t h)
+dealt_from n lane place (x ∷ xs) t c = by_cases (λ h. dealt_from n lane (place + 1) xs t h) (from_if (place % n == lane) x t (dealt n lane (place + 1) xs) c) where
+  by_cases : (Contains (dealt n lane (place + 1) xs) t → Contains xs t) → (x ≡ t) ⊎ Contains (dealt n lane (place + 1) xs) t → Contains (x ∷ xs) t
+  by_cases more (inl e) = subst (λ (y : Task). Contains (x ∷ xs) y) e (contains_first x xs)
+  by_cases more (inr h) = contains_later x xs t (more h)
 
 -- ---- what a lane did
 
 share_at : (work : SlotWork) (place : ℕ) (tasks : List Task) (ends : List Ended) (n from : ℕ) (made : List (List DutyStep)) → DidShares work place tasks (Some ends) n from made → (lane : ℕ) → from ≤ lane → lane < from + length made
     → (steps : List DutyStep) × Contains made steps × Follows duties.Fits (slot_plan work (dealt n lane place tasks)) steps (Some (dealt n lane place ends))
 share_at work place tasks ends n from [] h lane low high = absurd (omega (arith, low, high))
-share_at work place tasks ends n from (steps ∷ others) h lane low high = by_order (cases_order from lane) where
-  by_order : (from ≡ lane) ⊎ ((from < lane) ⊎ (lane < from)) → (own : List DutyStep) × Contains (steps ∷ others) own × Follows duties.Fits (slot_plan work (dealt n lane place tasks)) own (Some (dealt n lane place ends))
-  by_order (inl e) =
+share_at work place tasks ends n from (steps ∷ others) h lane low high = by_order (λ less. share_at work place tasks ends n (from + 1) others h.1 lane (omega (arith, less)) (omega (arith, high))) (cases_order from lane) where
+  by_order : (from < lane → (own : List DutyStep) × Contains others own × Follows duties.Fits (slot_plan work (dealt n lane place tasks)) own (Some (dealt n lane place ends))) → (from ≡ lane) ⊎ ((from < lane) ⊎ (lane < from)) → (own : List DutyStep) × Contains (steps ∷ others) own × Follows duties.Fits (slot_plan work (dealt n lane place tasks)) own (Some (dealt n lane place ends))
+  by_order rest (inl e) =
       let P : ℕ → Type 0 = λ l. Follows duties.Fits (slot_plan work (dealt n l place tasks)) steps (Some (dealt n l place ends)) in
       (steps, contains_first steps others, subst P e h.0)
-  by_order (inr (inl less)) =
-      let more = share_at work place tasks ends n (from + 1) others h.1 lane (omega (arith, less)) (omega (arith, high)) in
-      (more.0, contains_later steps others more.0 more.1, more.2)
-  by_order (inr (inr more)) = absurd (omega (arith, low, more))
+  by_order rest (inr (inl less)) = let more = rest less in (more.0, contains_later steps others more.0 more.1, more.2)
+  by_order rest (inr (inr more)) = absurd (omega (arith, low, more))
 
 -- the steps of a task that ended
 record PartOf (work : SlotWork) (t : Task) (e : Ended) (steps : List DutyStep) : Type 0 where
@@ -121,13 +119,13 @@ one_share work place tasks None n lane steps h = h
 any_share : (work : SlotWork) (place : ℕ) (tasks : List Task) (ends : Option (List Ended)) (n from : ℕ) (made : List (List DutyStep)) (lane : List DutyStep) → DidShares work place tasks ends n from made → Contains made lane
     → (l : ℕ) × (v : Option (List Ended)) × Follows duties.Fits (slot_plan work (dealt n l place tasks)) lane v
 any_share work place tasks ends n from [] lane h c = contains_none lane c
-any_share work place tasks ends n from (steps ∷ others) lane h c = by_cases (contains_cases steps others lane c) where
-  by_cases : (steps ≡ lane) ⊎ Contains others lane → (l : ℕ) × (v : Option (List Ended)) × Follows duties.Fits (slot_plan work (dealt n l place tasks)) lane v
-  by_cases (inl e) =
+any_share work place tasks ends n from (steps ∷ others) lane h c = by_cases (λ r. any_share work place tasks ends n (from + 1) others lane h.1 r) (contains_cases steps others lane c) where
+  by_cases : (Contains others lane → (l : ℕ) × (v : Option (List Ended)) × Follows duties.Fits (slot_plan work (dealt n l place tasks)) lane v) → (steps ≡ lane) ⊎ Contains others lane → (l : ℕ) × (v : Option (List Ended)) × Follows duties.Fits (slot_plan work (dealt n l place tasks)) lane v
+  by_cases rest (inl e) =
       let one = one_share work place tasks ends n from steps h.0 in
       let P : List DutyStep → Type 0 = λ s. Follows duties.Fits (slot_plan work (dealt n from place tasks)) s one.0 in
       (from, one.0, subst P e one.1)
-  by_cases (inr r) = any_share work place tasks ends n (from + 1) others lane h.1 r
+  by_cases rest (inr r) = rest r
 
 pub record StepOf (work : SlotWork) (tasks : List Task) (s : DutyStep) : Type 0 where
   pub one : Task
@@ -140,22 +138,22 @@ pub record StepOf (work : SlotWork) (tasks : List Task) (s : DutyStep) : Type 0 
 step_of : (work : SlotWork) (got : List Ended) (tasks : List Task) (steps : List DutyStep) (v : Option (List Ended)) (s : DutyStep) → Follows duties.Fits (each_plan (λ t. task_plan work t) got tasks) steps v → Contains steps s → StepOf work tasks s
 step_of work got [] [] v s f c = contains_none s c
 step_of work got [] (x ∷ steps) v s f c = absurd f
-step_of work got (t ∷ tasks) steps v s f c = by_cases (follows_cases duties.Fits (task_plan work t) next steps v f) where
+step_of work got (t ∷ tasks) steps v s f c = by_cases (λ x ys f2 h. step_of work (got ++ x ∷ []) tasks ys v s f2 h) (follows_cases duties.Fits (task_plan work t) next steps v f) where
   next : Ended → duties.DutyPlan (List Ended)
   next x = each_plan (λ k. task_plan work k) (got ++ x ∷ []) tasks
 
-  by_side : (xs ys : List DutyStep) (x : Ended) → Follows duties.Fits (task_plan work t) xs (Some x) → Follows duties.Fits (next x) ys v → Contains xs s ⊎ Contains ys s → StepOf work (t ∷ tasks) s
-  by_side xs ys x f1 f2 (inl h) = record { one = t; among = contains_first t tasks; own = xs; ended = Some x; follows = f1; is_in = h }
-  by_side xs ys x f1 f2 (inr h) =
-      let more = step_of work (got ++ x ∷ []) tasks ys v s f2 h in
+  by_side : ((x : Ended) (ys : List DutyStep) → Follows duties.Fits (next x) ys v → Contains ys s → StepOf work tasks s) → (xs ys : List DutyStep) (x : Ended) → Follows duties.Fits (task_plan work t) xs (Some x) → Follows duties.Fits (next x) ys v → Contains xs s ⊎ Contains ys s → StepOf work (t ∷ tasks) s
+  by_side rest xs ys x f1 f2 (inl h) = record { one = t; among = contains_first t tasks; own = xs; ended = Some x; follows = f1; is_in = h }
+  by_side rest xs ys x f1 f2 (inr h) =
+      let more = rest x ys f2 h in
       record { one = more.one; among = contains_later t tasks more.one more.among; own = more.own; ended = more.ended; follows = more.follows; is_in = more.is_in }
 
-  by_cases : ((v ≡ None) × Follows duties.Fits (task_plan work t) steps None)
+  by_cases : ((x : Ended) (ys : List DutyStep) → Follows duties.Fits (next x) ys v → Contains ys s → StepOf work tasks s) → ((v ≡ None) × Follows duties.Fits (task_plan work t) steps None)
       ⊎ ((xs : List DutyStep) × (ys : List DutyStep) × (x : Ended) × (steps ≡ xs ++ ys) × Follows duties.Fits (task_plan work t) xs (Some x) × Follows duties.Fits (next x) ys v) → StepOf work (t ∷ tasks) s
-  by_cases (inl cut) = record { one = t; among = contains_first t tasks; own = steps; ended = None; follows = cut.1; is_in = c }
-  by_cases (inr r) =
+  by_cases rest (inl cut) = record { one = t; among = contains_first t tasks; own = steps; ended = None; follows = cut.1; is_in = c }
+  by_cases rest (inr r) =
       let P : List DutyStep → Type 0 = λ l. Contains l s in
-      by_side r.0 r.1 r.2 r.4 r.5 (Contains-append_cases r.0 r.1 s (subst P r.3 c))
+      by_side rest r.0 r.1 r.2 r.4 r.5 (Contains-append_cases r.0 r.1 s (subst P r.3 c))
 
 pub lane_step : (work : SlotWork) (place : ℕ) (tasks : List Task) (ends : Option (List Ended)) (made : List (List DutyStep)) (lane : List DutyStep) (s : DutyStep) → DidShares work place tasks ends (length made) 0 made
     → Contains made lane → Contains lane s → StepOf work tasks s
@@ -168,7 +166,7 @@ lane_step work place tasks ends made lane s did in_lane in_steps =
 
 pub call_at : (P : DutyCall → Type 0) (steps : List DutyStep) (s : DutyStep) → AllCall P steps → Contains steps s → P s.0
 call_at P [] s h c = contains_none s c
-call_at P (x ∷ steps) s h c = by_cases (contains_cases x steps s c) where
-  by_cases : (x ≡ s) ⊎ Contains steps s → P s.0
-  by_cases (inl e) = subst (λ (y : DutyStep). P y.0) e h.0
-  by_cases (inr r) = call_at P steps s h.1 r
+call_at P (x ∷ steps) s h c = by_cases (λ r. call_at P steps s h.1 r) (contains_cases x steps s c) where
+  by_cases : (Contains steps s → P s.0) → (x ≡ s) ⊎ Contains steps s → P s.0
+  by_cases rest (inl e) = subst (λ (y : DutyStep). P y.0) e h.0
+  by_cases rest (inr r) = rest r

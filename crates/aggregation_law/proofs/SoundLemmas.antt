@@ -1,5 +1,5 @@
 -- Turns, whose tasks each have a reason in the steps before.
-use Rattle.std.proofs.Common.{◌≡◌, ◌⊎◌, inl, inr, ℕ, zero, suc, Bool, true, false, List, [], ◌∷◌, ◌++◌, length, Option, Some, None, Result, Ok, Err, refl, sym, ◌∙◌, ap, subst, append_assoc, append-nil}
+use Rattle.std.proofs.Common.{◌≡◌, ℕ, zero, suc, Bool, true, false, List, [], ◌∷◌, ◌++◌, length, Option, Some, None, Result, Ok, Err, refl, sym, subst, append_assoc, append-nil}
 use Rattle.std.specs.Prelude.{if◌then◌else◌, Contains}
 use Rattle.std.proofs.lemmas.List.Elements.{Contains-append_left, Contains-append_right}
 use Rattle.edge_kit.specs.declared.bytes.PubKey.{PubKey}
@@ -17,7 +17,6 @@ use Rattle.node_calls.specs.declared.answer.Answer.{Answer}
 use Rattle.node_calls.specs.declared.answer.Answer.TheVariants as answer
 use Rattle.node_fallback.specs.declared.no_node.NoAnswer.{NoAnswer}
 use Rattle.node_fallback.specs.declared.no_node.NoAnswer.TheVariants as none
-use Rattle.duty_schedule.specs.Answers.{TakenAnswer}
 use Rattle.duty_schedule.specs.declared.rows.Duty.{Duty}
 use Rattle.call_plans.specs.Plans.{Done, Stop, Ask as Step, bind, Follows}
 use Rattle.call_plans.proofs.PlanLemmas.{cut_now}
@@ -26,21 +25,19 @@ use Rattle.duty_plans.specs.Steps.{Asks, Calls, DutyStep}
 use Rattle.duty_plans.specs.declared.ended.Ended.{Ended}
 use Rattle.duty_plans.specs.declared.result.DutyResult.{DutyResult}
 use Rattle.duty_plans.specs.declared.task.Task.{Task}
-use Rattle.duty_plans.specs.declared.task.Task.TheVariants as task
 use Rattle.duty_plans.specs.Choices.{aggregate_tasks, reports}
 use Rattle.duty_plans.specs.Ends.{merged, results_of}
 use Rattle.duty_plans.specs.Tasks.{again_tasks, fresh}
 use Rattle.duty_plans.specs.declared.setup.DutySetup.{DutySetup}
 use Rattle.duty_plans.specs.declared.work.SlotWork.{SlotWork}
-use Rattle.duty_turns.specs.Lanes.{HasEach}
 use Rattle.duty_turns.specs.Lines.{aggregate_lines, duty_lines, none_line}
 use Rattle.duty_turns.specs.Standing.{Standing, indices_of, with_attesters, with_fork, with_indices, with_proposers}
 use Rattle.duty_turns.specs.Times.{again_start, aggregates_start, epoch_of, is_first_slot, is_missed, next_slot, slot_start, votes_start}
 use Rattle.duty_turns.specs.TurnSteps.{TurnCall, TurnPlan, TurnReply, TurnStep, Fits, Due, LanesRefreshed, LooksUp, Own, Refreshed, Refreshes, RefreshesLanes, Waits, Woke, Worked, Works, Writes, Wrote}
-use Rattle.duty_turns.specs.Turns.{Next, NextPlan, PartPlan, active_of, after_wait, again_plan, aggregates_plan, left_plan, tried_plan, answered_plan, ask_plan, asked_plan, asks, at_moment, at_slot, attesters_plan, blocks_in, by_32, calls, choices_of, chooses_plan, close_plan, due_plan, duties_plan, epoch_plan, epochs_plan, exported, exports, failed_plan, finish_plan, found, gathers_plan, index_plan, is_worth_compacting, keys_of_turn, lanes_refreshed, listed_plan, lived_plan, liveness_plan, looks_up, merges, missing_epochs, missing_keys, next_turn, noted, notes_of, notes_plan, on_standing, own_answer, own_reply, prunes, puts, ready_plan, refreshed, refreshes, refreshes_lanes, renew_plan, renewed_now, renewed_plan, renews, report_plan, shortens, sized, then_on, to_renew, told_plan, turn_plan, turns_plan, unless_short, voters_plan, votes_in, votes_plan, waits, watch_plan, with_active, woken, woken_plan, work_of, worked, works, writes, written, wrote}
+use Rattle.duty_turns.specs.Turns.{Next, NextPlan, PartPlan, active_of, after_wait, again_plan, aggregates_plan, left_plan, tried_plan, answered_plan, ask_plan, asked_plan, asks, at_moment, at_slot, attesters_plan, blocks_in, by_32, calls, choices_of, chooses_plan, close_plan, due_plan, duties_plan, epoch_plan, epochs_plan, exported, exports, failed_plan, finish_plan, found, gathers_plan, index_plan, is_worth_compacting, keys_of_turn, lanes_refreshed, listed_plan, lived_plan, liveness_plan, merges, missing_epochs, missing_keys, next_turn, noted, notes_of, notes_plan, on_standing, own_answer, own_reply, prunes, puts, ready_plan, refreshed, refreshes, refreshes_lanes, renew_plan, renewed_now, renewed_plan, renews, report_plan, shortens, sized, then_on, to_renew, told_plan, turn_plan, turns_plan, unless_short, voters_plan, votes_in, votes_plan, waits, watch_plan, with_active, woken, woken_plan, work_of, worked, works, writes, written, wrote}
 use Rattle.duty_turns.specs.declared.held.DutyEnd.{DutyEnd}
 use Rattle.duty_turns.specs.declared.held.DutyEnd.TheVariants as end
-use Rattle.aggregation_law.specs.Reasons.{AreReasoned, HasReason, IsReasoned, WasDue, WasTime}
+use Rattle.aggregation_law.specs.Reasons.{AreReasoned, HasReason, IsReasoned}
 use Rattle.aggregation_law.proofs.TaskLemmas.{Chose, Had, IsFound, Left, aggregate_chose, block_reasons, choice_reasons, chose_all, chose_reason, due_found, due_more, had_both, had_more, left_all, left_more, left_reason, vote_reasons}
 
 module _ (setup : DutySetup) where
@@ -74,9 +71,9 @@ module _ (setup : DutySetup) where
 
   bind_so : {X Y : Type 0} (before : List TurnStep) (p : TurnPlan X) (next : X → TurnPlan Y) → So before p
       → ((mid : List TurnStep) (x : X) → Follows Fits p mid (Some x) → So (before ++ mid) (next x)) → So before (bind p next)
-  bind_so before (Done x) next h on =
+  bind_so before (Done x) next h on steps v f =
       let P : List TurnStep → Type 0 = λ l. So l (next x) in
-      subst P (append-nil before) (on [] x refl)
+      subst P (append-nil before) (on [] x refl) steps v f
   bind_so before Stop next h on steps v f = stop_sound before steps v f
   bind_so before (Step c k) next h on [] v f = tt
   bind_so {X} before (Step c k) next h on ((d, r) ∷ steps) v f =
@@ -376,7 +373,7 @@ module _ (setup : DutySetup) where
   found_so before s active r = stop_sound (before ++ (LooksUp s.answers s.slot active, r) ∷ [])
 
   ready_sound : (active : List PubKey) (o : Option Standing) → Sound (ready_plan setup active o)
-  ready_sound active None = done_sound (Err end.Write)
+  ready_sound active None before = done_sound (Err end.Write) before
   ready_sound active (Some s) before = ask_so before (LooksUp s.answers s.slot active) (λ r. found r (due_plan setup (with_active active s))) tt (λ r fit. found_so before s active r)
 
   -- ---- a turn
@@ -385,7 +382,7 @@ module _ (setup : DutySetup) where
   listed_sound s (reply.Keys listed) before =
       let active = active_of listed in
       bind_so before (asked_plan setup listed active s) (ready_plan setup active) (asked_part setup listed active s before) (λ mid o f. ready_sound active o (before ++ mid))
-  listed_sound s r = stop_sound
+  listed_sound s r before = stop_sound before
 
   woken_sound : (s : Standing) (reached : ℕ) → Sound (woken_plan setup s reached)
   woken_sound s reached =
@@ -401,12 +398,14 @@ module _ (setup : DutySetup) where
 
   -- ---- turn after turn
 
+  next_sound : (plan : Standing → TurnPlan (Result (Unit {0}) DutyEnd)) → ((t : Standing) → Sound (plan t)) → (x : Next) → Sound (next_turn plan x)
+  next_sound plan h (Ok t) = h t
+  next_sound plan h (Err ended) = done_sound (Err ended)
+
   turns_sound : (n : ℕ) (s : Standing) → Sound (turns_plan setup n s)
-  turns_sound zero s = done_sound (Ok tt)
-  turns_sound (suc n) s before = bind_so before (turn_plan setup s) (next_turn (turns_plan setup n)) (turn_sound s before) (λ mid x f. next_sound x (before ++ mid)) where
-    next_sound : (x : Next) → Sound (next_turn (turns_plan setup n) x)
-    next_sound (Ok t) = turns_sound n t
-    next_sound (Err ended) = done_sound (Err ended)
+  turns_sound zero s before = done_sound (Ok tt) before
+  turns_sound (suc n) s before =
+      bind_so before (turn_plan setup s) (next_turn (turns_plan setup n)) (turn_sound s before) (λ mid x f. next_sound (turns_plan setup n) (λ t. turns_sound n t) x (before ++ mid))
 
 pub turns_reasoned : (setup : DutySetup) (n : ℕ) (s : Standing) (steps : List TurnStep) (v : Option (Result (Unit {0}) DutyEnd)) → Follows Fits (turns_plan setup n s) steps v → AreReasoned setup [] steps
 turns_reasoned setup n s steps v f = turns_sound setup n s [] steps v f

@@ -1,7 +1,7 @@
 -- The tasks that follow from how others ended, and their reasons.
-use Rattle.std.proofs.Common.{◌≡◌, ◌⊎◌, inl, inr, ℕ, suc, Bool, true, false, List, [], ◌∷◌, ◌++◌, length, map, filter, Option, Some, None, refl, sym, ◌∙◌, ap, subst, arith}
+use Rattle.std.proofs.Common.{◌≡◌, ◌⊎◌, inl, inr, ℕ, Bool, true, false, List, [], ◌∷◌, ◌++◌, length, Option, Some, None, refl, ap, subst, arith}
 use Rattle.std.specs.Prelude.{if◌then◌else◌, not, Contains}
-use Rattle.std.proofs.lemmas.List.Elements.{Contains-append_left, Contains-append_right, Contains-append_cases}
+use Rattle.std.proofs.lemmas.List.Elements.{Contains-append_left, Contains-append_cases}
 use Rattle.edge_kit.specs.declared.bytes.PubKey.{PubKey}
 use Rattle.edge_kit.specs.declared.bytes.Sig.{Sig}
 use Rattle.phase0_types.specs.declared.attestation.AttestationData.{AttestationData}
@@ -81,10 +81,10 @@ due_more xs ys slot ds h d c = due_more_one xs ys slot d (h d c)
 -- a task of these duties is one of them
 fresh_one : (ds : List Duty) (t : Task) → Contains (fresh ds) t → (d : Duty) × Contains ds d × (task.Fresh d ≡ t)
 fresh_one [] t c = contains_none t c
-fresh_one (d ∷ ds) t c = by_cases (contains_cases (task.Fresh d) (fresh ds) t c) where
-  by_cases : (task.Fresh d ≡ t) ⊎ Contains (fresh ds) t → (x : Duty) × Contains (d ∷ ds) x × (task.Fresh x ≡ t)
-  by_cases (inl e) = (d, contains_first d ds, e)
-  by_cases (inr r) = let more = fresh_one ds t r in (more.0, contains_later d ds more.0 more.1, more.2)
+fresh_one (d ∷ ds) t c = by_cases (λ r. fresh_one ds t r) (contains_cases (task.Fresh d) (fresh ds) t c) where
+  by_cases : (Contains (fresh ds) t → (x : Duty) × Contains ds x × (task.Fresh x ≡ t)) → (task.Fresh d ≡ t) ⊎ Contains (fresh ds) t → (x : Duty) × Contains (d ∷ ds) x × (task.Fresh x ≡ t)
+  by_cases more (inl e) = (d, contains_first d ds, e)
+  by_cases more (inr r) = let one = more r in (one.0, contains_later d ds one.0 one.1, one.2)
 
 module _ (setup : DutySetup) (before : List TurnStep) (work : SlotWork) where
   block_reason : (d : Duty) → is_block d ≡ true → WasDue before work.slot d → HasReason setup before work (task.Fresh d)
@@ -144,10 +144,11 @@ had_both before work bs vs first second made voted proposed cast one each two d 
 followed : {A : Type 0} (next : A → Ended → List Task) (xs : List A) (ends : List Ended) (t : Task) → Contains (tasks_by next xs ends) t → (x : A) × (e : Ended) × IsPair xs ends x e × Contains (next x e) t
 followed next [] ends t c = contains_none t c
 followed next (x ∷ xs) [] t c = contains_none t c
-followed {A} next (x ∷ xs) (e ∷ ends) t c = by_cases (Contains-append_cases (next x e) (tasks_by next xs ends) t c) where
-  by_cases : Contains (next x e) t ⊎ Contains (tasks_by next xs ends) t → (y : A) × (f : Ended) × IsPair (x ∷ xs) (e ∷ ends) y f × Contains (next y f) t
-  by_cases (inl h) = (x, e, inl (refl, refl), h)
-  by_cases (inr h) = let more = followed next xs ends t h in (more.0, more.1, inr more.2, more.3)
+followed {A} next (x ∷ xs) (e ∷ ends) t c = by_cases (λ h. followed next xs ends t h) (Contains-append_cases (next x e) (tasks_by next xs ends) t c) where
+  by_cases : (Contains (tasks_by next xs ends) t → (y : A) × (f : Ended) × IsPair xs ends y f × Contains (next y f) t) → Contains (next x e) t ⊎ Contains (tasks_by next xs ends) t
+      → (y : A) × (f : Ended) × IsPair (x ∷ xs) (e ∷ ends) y f × Contains (next y f) t
+  by_cases more (inl h) = (x, e, inl (refl, refl), h)
+  by_cases more (inr h) = let one = more h in (one.0, one.1, inr one.2, one.3)
 
 pub only_one : {A : Type 0} (x y : A) → Contains (x ∷ []) y → x ≡ y
 only_one x y c = by_cases (contains_cases x [] y c) where

@@ -1,5 +1,5 @@
 -- What an aggregate that is posted rests on.
-use Rattle.std.specs.Prelude.{◌≡◌, ℕ, true, List, [], ◌∷◌, ◌++◌, Contains, Option, Some, None, Ok}
+use Rattle.std.specs.Prelude.{◌≡◌, ℕ, true, List, [], ◌∷◌, ◌++◌, Contains, Option, None, Ok}
 use Rattle.edge_kit.specs.declared.bytes.Sig.{Sig}
 use Rattle.phase0_types.specs.declared.attestation.AttestationData.{AttestationData}
 use Rattle.duty_types.specs.declared.aggregate.AggregateAndProof.{AggregateAndProof}
