@@ -141,7 +141,9 @@ def tell(due, method, target, body):
         version = due.get('versions', {}).get(slot, 'phase0')
         return 200, {'version': version, 'data': block_at(due, slot, dict(asked)['randao_reveal'], version)}
     if path == AGGREGATE:
-        return 200, {'data': {'aggregation_bits': '0x' + 'ff' * 256 + '01', 'data': data_at(int(dict(asked)['slot'])), 'signature': '0x' + '77' * 96}}
+        return 200, {'data': {'aggregation_bits': '0x' + 'ff' * 256 + '01', 'data': {**data_at(int(dict(asked)['slot'])), **due.get('aggregate', {})}, 'signature': '0x' + '77' * 96}}
+    if path == AGGREGATES and due.get('takes_no_aggregate'):
+        return 503, {'code': 503, 'message': 'takes none'}
     if path in (VOTES, BLOCKS, AGGREGATES):
         due['refuses'] = due.get('refuses', 0) - 1
         return (503, {'code': 503, 'message': 'takes none'}) if due.get('takes_none') or due['refuses'] >= 0 else (200, None)

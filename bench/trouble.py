@@ -1,6 +1,7 @@
 """The scenes of `trouble.sh`: what a peer, an output, a disk or a clock that misbehaves costs. Each looks at the status, each line of both outputs, what the
 signing service signed, and what was posted when."""
 from trouble_runs import *
+import trouble_aggregates
 
 # ---- beacon nodes
 
@@ -656,6 +657,7 @@ SCENES = {
     'clock_goes_back_in_a_watch': clock_goes_back_in_a_watch,
     'token_of_a_file': token_of_a_file,
     'blocks_of_altair': blocks_of_altair,
+    **trouble_aggregates.scenes(stepped),
     'standard_error': lambda name: standard_error(name, False),
     'standard_error_when_quiet': lambda name: standard_error(name, True),
 }
