@@ -8,11 +8,12 @@
 # three requests (from the accepted connection to the answer, the mean of the run), and a plain client, a process for each lane that sends
 # as many requests of the same kinds over plain sockets, one after another. Votes that were begun in their slot are cast to the last, past its
 # end too, 8 s after its third: the last column is how many were posted before. Then 100 votes of a slot are cast with --aggregate, of whose
-# validators about a sixteenth are chosen, in 1, 4 and 16 lanes with a service that takes 20 ms: from two thirds of the slot to the last
+# validators about a sixteenth are chosen, in 1, 4 and 16 lanes with a service that takes 10 or 20 ms: from two thirds of the slot to the last
 # aggregate, beside the best that so many lanes allow, which is the aggregates of the fullest lane with the servers' time for their three
-# requests. Each validator that is chosen must post once, with its proof, the votes' data and a signature of the service, and no other one. It
-# takes about eight minutes.
-# Usage: bench/serve.sh [VOTES ..]     (10 100 1000 where none is given; PROGRAM=PATH for another program)
+# requests, and what the votes and choices of the fullest lane take, by the servers' time for their four, over the 4 seconds before; and beside
+# a plain client. Each validator that is chosen must post once, with its proof, the votes' data and a signature of the service, and no other
+# one. It takes about ten minutes, and three for the aggregates alone.
+# Usage: bench/serve.sh [VOTES ..|aggregates]     (10 100 1000 where none is given; PROGRAM=PATH for another program)
 set -eu
 cd "$(dirname "$0")/.."
 program=${PROGRAM:-crates/validator/out/validator}
@@ -23,7 +24,8 @@ exec env PYTHONPATH=bench python3 -B - "$program" "$@" <<'PY'
 import collections, json, math, multiprocessing, os, shutil, socket, subprocess, sys, time
 from stand_ins import *
 
-counts = [int(n) for n in sys.argv[2:]]
+ONLY_AGGREGATES = sys.argv[2:] == ['aggregates']
+counts = [] if ONLY_AGGREGATES else [int(n) for n in sys.argv[2:]]
 
 def curl(method, body=None):
     words = ['curl', '-sS', '--retry', '200', '--retry-delay', '1', '--retry-connrefused', '-X', method, '-H', 'Authorization: Bearer ' + TOKEN, 'http://127.0.0.1:%d/eth/v1/keystores' % port]
@@ -34,57 +36,58 @@ def curl(method, body=None):
 def keystores(numbers):
     return [json.dumps({'pubkey': key(n)[2:]}) for n in numbers]
 
-# keys are taken in
-node.set(genesis_time=0, blocks={}, votes={})
-child = serve('a', 0, 1)
-told = curl('POST', {'keystores': keystores(range(3)), 'passwords': ['p'] * 3})
-wanted('keys are not taken in: %s' % told, [row['status'] for row in told['data']] == ['imported'] * 3)
-ended(child)
+def taken_in_done_and_deleted():
+    # keys are taken in
+    node.set(genesis_time=0, blocks={}, votes={})
+    child = serve('a', 0, 1)
+    told = curl('POST', {'keystores': keystores(range(3)), 'passwords': ['p'] * 3})
+    wanted('keys are not taken in: %s' % told, [row['status'] for row in told['data']] == ['imported'] * 3)
+    ended(child)
 
-# ten slots: a block in each, by the three keys in turn, and a vote of each key
-votes = {0: 2, 1: 5, 2: 8}
-node.set(genesis_time=int(time.time()) - 14, blocks={slot: slot % 3 for slot in range(1, 11)}, votes=votes)
-child = serve('a', 10, 3)
-time.sleep(3)
-second = subprocess.run([program, 'show', '--genesis', GENESIS_ROOT, '--journal', os.path.join(folder, 'a')], capture_output=True, text=True)
-wanted('a second process: %s' % second, second.returncode == 5 and 'already locked' in second.stderr and second.stdout == 'validator: disk fault\n')
-begun = time.time()
-listed = curl('GET')
-wanted('keys: %s' % listed, [row['validating_pubkey'] for row in listed['data']] == [key(n) for n in range(3)])
-wanted('the keys are listed after %.1f s only' % (time.time() - begun), time.time() - begun < 5)
-posts = []
-while len(posts) < 13 and time.time() < begun + 11 * SLOT:
-    time.sleep(1)
-    posts += posted(node.take())
-deleted = curl('DELETE', {'pubkeys': [key(1)]})
-wanted('deletion: %s' % deleted, [row['status'] for row in deleted['data']] == ['deleted'])
-again = curl('POST', {'keystores': keystores([0]), 'passwords': ['p']})
-wanted('the same key again: %s' % again, [row['status'] for row in again['data']] == ['duplicate'])
-lines, _ = ended(child)
-told = []
-for slot in range(1, 11):
-    told.append('%d block %s sent\n' % (slot, key(slot % 3)))
-    told += ['%d vote %s sent\n' % (slot, key(n)) for n, at in sorted(votes.items()) if at == slot]
-wanted('lines:\n' + lines, lines == ''.join(told))
+    # ten slots: a block in each, by the three keys in turn, and a vote of each key
+    votes = {0: 2, 1: 5, 2: 8}
+    node.set(genesis_time=int(time.time()) - 14, blocks={slot: slot % 3 for slot in range(1, 11)}, votes=votes)
+    child = serve('a', 10, 3)
+    time.sleep(3)
+    second = subprocess.run([program, 'show', '--genesis', GENESIS_ROOT, '--journal', os.path.join(folder, 'a')], capture_output=True, text=True)
+    wanted('a second process: %s' % second, second.returncode == 5 and 'already locked' in second.stderr and second.stdout == 'validator: disk fault\n')
+    begun = time.time()
+    listed = curl('GET')
+    wanted('keys: %s' % listed, [row['validating_pubkey'] for row in listed['data']] == [key(n) for n in range(3)])
+    wanted('the keys are listed after %.1f s only' % (time.time() - begun), time.time() - begun < 5)
+    posts = []
+    while len(posts) < 13 and time.time() < begun + 11 * SLOT:
+        time.sleep(1)
+        posts += posted(node.take())
+    deleted = curl('DELETE', {'pubkeys': [key(1)]})
+    wanted('deletion: %s' % deleted, [row['status'] for row in deleted['data']] == ['deleted'])
+    again = curl('POST', {'keystores': keystores([0]), 'passwords': ['p']})
+    wanted('the same key again: %s' % again, [row['status'] for row in again['data']] == ['duplicate'])
+    lines, _ = ended(child)
+    told = []
+    for slot in range(1, 11):
+        told.append('%d block %s sent\n' % (slot, key(slot % 3)))
+        told += ['%d vote %s sent\n' % (slot, key(n)) for n, at in sorted(votes.items()) if at == slot]
+    wanted('lines:\n' + lines, lines == ''.join(told))
 
-# each duty was posted once, with the signature that the service gave for it
-posts = [(r.target, body) for r, body in posts + posted(node.take())]
-given = collections.Counter(signature for signature, _, _ in signed(signer.take()))
-wanted('posts and signatures differ', given == collections.Counter(body['signature'] for _, body in posts))
-wanted('blocks differ', sorted(int(b['message']['slot']) for t, b in posts if t == BLOCKS) == list(range(1, 11)))
-wanted('votes differ', sorted(int(b['data']['slot']) for t, b in posts if t == VOTES) == sorted(votes.values()))
-print('ten slots: %d blocks and %d votes, each posted once with its signature' % (10, 3), flush=True)
+    # each duty was posted once, with the signature that the service gave for it
+    posts = [(r.target, body) for r, body in posts + posted(node.take())]
+    given = collections.Counter(signature for signature, _, _ in signed(signer.take()))
+    wanted('posts and signatures differ', given == collections.Counter(body['signature'] for _, body in posts))
+    wanted('blocks differ', sorted(int(b['message']['slot']) for t, b in posts if t == BLOCKS) == list(range(1, 11)))
+    wanted('votes differ', sorted(int(b['data']['slot']) for t, b in posts if t == VOTES) == sorted(votes.values()))
+    print('ten slots: %d blocks and %d votes, each posted once with its signature' % (10, 3), flush=True)
 
-# the deleted key's file at a second journal
-child = serve('b', 0, 1)
-told = curl('POST', {'keystores': keystores([1]), 'passwords': ['p'], 'slashing_protection': deleted['slashing_protection']})
-wanted('the file: %s' % told, [row['status'] for row in told['data']] == ['imported'])
-ended(child)
-slots = [slot for slot in range(1, 11) if slot % 3 == 1]
-refused = sessions('b', [{'op': 'block', 'pubkey': key(1), 'slot': str(slot), 'signing_root': '0x' + 'bb' * 32} for slot in slots]
-                   + [{'op': 'vote', 'pubkey': key(1), 'source_epoch': '0', 'target_epoch': '0', 'signing_root': '0x' + 'bb' * 32}])
-wanted('a second journal signs: %s' % refused, all(answer['answer'] == 'refused' for answer in refused))
-print('the second journal refuses each block and vote of the deleted key: %s' % ', '.join(answer['reason'] for answer in refused), flush=True)
+    # the deleted key's file at a second journal
+    child = serve('b', 0, 1)
+    told = curl('POST', {'keystores': keystores([1]), 'passwords': ['p'], 'slashing_protection': deleted['slashing_protection']})
+    wanted('the file: %s' % told, [row['status'] for row in told['data']] == ['imported'])
+    ended(child)
+    slots = [slot for slot in range(1, 11) if slot % 3 == 1]
+    refused = sessions('b', [{'op': 'block', 'pubkey': key(1), 'slot': str(slot), 'signing_root': '0x' + 'bb' * 32} for slot in slots]
+                       + [{'op': 'vote', 'pubkey': key(1), 'source_epoch': '0', 'target_epoch': '0', 'signing_root': '0x' + 'bb' * 32}])
+    wanted('a second journal signs: %s' % refused, all(answer['answer'] == 'refused' for answer in refused))
+    print('the second journal refuses each block and vote of the deleted key: %s' % ', '.join(answer['reason'] for answer in refused), flush=True)
 
 # ---- how long votes take
 
@@ -116,30 +119,32 @@ def trips(count, begin):
         round_trip(signer, 'POST', SIGN + key(0), asked)
         round_trip(node, 'POST', VOTES, [vote])
 
-def plain(count, lanes):
-    """The seconds of a plain client: a process for each lane, which sends the requests of its votes one after another."""
+def plain(count, lanes, trips, target):
+    """The seconds of a plain client: a process for each lane, which sends the requests of its votes or aggregates one after another."""
     begin = time.time() + 1
-    processes = [multiprocessing.get_context('fork').Process(target=trips, args=(len(range(lane, count, lanes)), begin)) for lane in range(lanes)]
+    processes = [multiprocessing.get_context('fork').Process(target=trips, args=(len(range(lane, count, lanes)), begin)) for lane in range(min(count, lanes))]
     for process in processes:
         process.start()
     for process in processes:
         process.join()
-    return max(r.ended for r, _ in posted(node.take())) - begin
+    return max(r.ended for r in node.take() if r.target == target) - begin
 
-print('ms a signature; lanes; votes a slot; seconds from the third of the slot to the last post; best; ratio; plain client; ratio; posts in the slot', flush=True)
-for delay, lanes in (0, 1), (20, 1), (20, 4), (20, 16):
-    signer.set(delay=delay / 1000)
-    for count in counts:
-        at, own = voted('v%d-%d-%d' % (delay, lanes, count), count, lanes)
-        best, beside, in_slot = math.ceil(count / lanes) * own, plain(count, lanes), sum(t < SLOT - THIRD for t in at)
-        print('%d; %d; %d; %.3f; %.3f; %.2f; %.3f; %.2f; %d' % (delay, lanes, count, at[-1], best, at[-1] / best, beside, at[-1] / beside, in_slot), flush=True)
+def votes_table(counts):
+    print('ms a signature; lanes; votes a slot; seconds from the third of the slot to the last post; best; ratio; plain client; ratio; posts in the slot', flush=True)
+    for delay, lanes in (0, 1), (20, 1), (20, 4), (20, 16):
+        signer.set(delay=delay / 1000)
+        for count in counts:
+            at, own = voted('v%d-%d-%d' % (delay, lanes, count), count, lanes)
+            best, beside, in_slot = math.ceil(count / lanes) * own, plain(count, lanes, trips, VOTES), sum(t < SLOT - THIRD for t in at)
+            print('%d; %d; %d; %.3f; %.3f; %.2f; %.3f; %.2f; %d' % (delay, lanes, count, at[-1], best, at[-1] / best, beside, at[-1] / beside, in_slot), flush=True)
 
 # ---- how long aggregates take
 
 MEMBERS = 256
 
 def aggregated(journal, count, lanes):
-    """The seconds from two thirds of a slot to each aggregate, in order, and the servers' own time for one: the mean."""
+    """The seconds from the third of a slot to the last choice, and from its two thirds to each aggregate, in order; and the servers' own time for a vote with its
+    choice, and for an aggregate: the means."""
     child, third = vote_once(journal, count, lanes, options=('--aggregate',), committee=MEMBERS)
     lines, _ = ended(child)
     asked, signatures = node.take(), signer.take()
@@ -158,13 +163,36 @@ def aggregated(journal, count, lanes):
     wanted('an aggregate is early', min(r.begun for r in asked if r.target.startswith(AGGREGATE) or r.target == AGGREGATES) >= third + 4)
     kinds = [[r for r in asked if r.target.startswith(AGGREGATE + '?')], [r for r in signatures if r.body['type'] == 'AGGREGATE_AND_PROOF'], posts]
     wanted('requests of each kind: %s' % [len(of) for of in kinds], [len(of) for of in kinds] == [len(chosen)] * 3)
-    return sorted(r.ended - third - 4 for r in posts), sum(r.ended - r.begun for of in kinds for r in of) / len(chosen)
+    choices = [r for r in signatures if r.body['type'] == 'AGGREGATION_SLOT']
+    before = [r for r in asked if r.target.startswith((DATA, VOTES))] + [r for r in signatures if r.body['type'] == 'ATTESTATION'] + choices
+    own = [sum(r.ended - r.begun for r in of) for of in (before, sum(kinds, []))]
+    return max(r.ended for r in choices) - third, sorted(r.ended - third - 4 for r in posts), own[0] / count, own[1] / len(chosen)
 
-print('lanes; votes; aggregates; seconds from two thirds of the slot to the last; best; ratio', flush=True)
-signer.set(delay=0.02)
-for lanes in 1, 4, 16:
-    at, own = aggregated('a%d' % lanes, 100, lanes)
-    best = math.ceil(len(at) / lanes) * own
-    print('%d; 100; %d; %.3f; %.3f; %.2f' % (lanes, len(at), at[-1], best, at[-1] / best), flush=True)
+proof = {'message': {'aggregator_index': '0', 'aggregate': {'aggregation_bits': '0x' + 'ff' * 256 + '01', 'data': data_at(1), 'signature': '0x' + '77' * 96}, 'selection_proof': '0x' + '77' * 96},
+         'signature': signature_of(key(0), ZERO)}
+asked_for = {'type': 'AGGREGATE_AND_PROOF', 'fork_info': asked['fork_info'], 'signingRoot': ZERO, 'aggregate_and_proof': proof['message']}
+
+def aggregate_trips(count, begin):
+    time.sleep(begin - time.time())
+    for _ in range(count):
+        round_trip(node, 'GET', AGGREGATE + '?attestation_data_root=' + ZERO + '&slot=1', None)
+        round_trip(signer, 'POST', SIGN + key(0), asked_for)
+        round_trip(node, 'POST', AGGREGATES, [proof])
+
+def aggregates_table():
+    print('ms a signature; lanes; votes; aggregates; seconds from the third of the slot to the last choice; from its two thirds to the last aggregate; best; ratio; plain client; ratio', flush=True)
+    for delay, lanes in (10, 1), (10, 4), (10, 16), (20, 1), (20, 4), (20, 16):
+        signer.set(delay=delay / 1000)
+        chosen_by, at, before, own = aggregated('a%d-%d' % (delay, lanes), 100, lanes)
+        late = max(0, math.ceil(100 / lanes) * before - 4)
+        best, beside = late + math.ceil(len(at) / lanes) * own, late + plain(len(at), lanes, aggregate_trips, AGGREGATES)
+        print('%d; %d; 100; %d; %.3f; %.3f; %.3f; %.2f; %.3f; %.2f' % (delay, lanes, len(at), chosen_by, at[-1], best, at[-1] / best, beside, at[-1] / beside), flush=True)
+
+if ONLY_AGGREGATES:
+    signer.set(delay=0)
+else:
+    taken_in_done_and_deleted()
+    votes_table(counts)
+aggregates_table()
 shutil.rmtree(folder)
 PY

@@ -80,7 +80,8 @@ def node_keeps_its_aggregate(name):
     """The first node takes the question for an aggregate and never answers: the second one is asked after two seconds, in time."""
     first = Between(node, [AGGREGATE], swallow)
     run = Aggregating(name, nodes=[first.url])
-    wrong = run.come({}, {}, [(re.escape(first.at) + ': ' + CALL + 'timed out', 4, 4)])
+    from_first = re.escape(first.at) + ': '
+    wrong = run.come({}, {}, [(from_first + CALL + 'timed out', 4, 4), (from_first + r'(?:set aside for \d+ ms|taken back)', 1, None)])
     return wrong + ([] if len(first.held) == 4 else ['it was asked %d times' % len(first.held)])
 
 def aggregate_of_other_votes(name):
