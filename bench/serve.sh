@@ -8,7 +8,7 @@
 # three requests (from the accepted connection to the answer, the mean of the run), and a plain client, a process for each lane that sends
 # as many requests of the same kinds over plain sockets, one after another. Votes that were begun in their slot are cast to the last, past its
 # end too, 8 s after its third: the last column is how many were posted before. Then 100 votes of a slot are cast with --aggregate, of whose
-# validators about a sixteenth are chosen, in 1, 4 and 16 lanes with a service that takes 10 or 20 ms: from two thirds of the slot to the last
+# validators about a sixteenth are chosen, in 1, 4 and 16 lanes with a service that takes 10, 15 or 20 ms: from two thirds of the slot to the last
 # aggregate, beside the best that so many lanes allow, which is the aggregates of the fullest lane with the servers' time for their three
 # requests, and what the votes and choices of the fullest lane take, by the servers' time for their four, over the 4 seconds before; and beside
 # a plain client. Each validator that is chosen must post once, with its proof, the votes' data and a signature of the service, and no other
@@ -181,7 +181,7 @@ def aggregate_trips(count, begin):
 
 def aggregates_table():
     print('ms a signature; lanes; votes; aggregates; seconds from the third of the slot to the last choice; from its two thirds to the last aggregate; best; ratio; plain client; ratio', flush=True)
-    for delay, lanes in (10, 1), (10, 4), (10, 16), (20, 1), (20, 4), (20, 16):
+    for delay, lanes in ((delay, lanes) for delay in (10, 15, 20) for lanes in (1, 4, 16)):
         signer.set(delay=delay / 1000)
         chosen_by, at, before, own = aggregated('a%d-%d' % (delay, lanes), 100, lanes)
         late = max(0, math.ceil(100 / lanes) * before - 4)
