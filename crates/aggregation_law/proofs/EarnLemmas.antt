@@ -1,5 +1,5 @@
 -- Each aggregate that is posted is earned.
-use Rattle.std.proofs.Common.{◌≡◌, ◌⊎◌, inl, inr, ℕ, true, List, [], ◌∷◌, ◌++◌, Option, Some, Result, sym, subst}
+use Rattle.std.proofs.Common.{◌≡◌, ◌⊎◌, inl, inr, ℕ, true, List, [], ◌∷◌, ◌++◌, Option, Some, Result, sym, ◌∙◌, subst}
 use Rattle.std.specs.Prelude.{Contains, IfSome}
 use Rattle.std.proofs.lemmas.List.Elements.{Contains-append_cases}
 use Rattle.edge_kit.specs.declared.bytes.Sig.{Sig}
@@ -11,9 +11,11 @@ use Rattle.desk_machine.specs.declared.open_grant.OpenGrant.{OpenGrant}
 use Rattle.node_calls.specs.declared.answer.AttesterRow.{AttesterRow}
 use Rattle.node_calls.specs.declared.post.Post.TheVariants as post
 use Rattle.duty_schedule.specs.Aggregators.{is_aggregator}
+use Rattle.duty_schedule.specs.declared.rows.Duty.{Duty}
 use Rattle.duty_schedule.specs.declared.rows.Duty.TheVariants as duty
 use Rattle.call_plans.specs.Plans.{Ask as Step, Done, Stop, Follows}
 use Rattle.duty_plans.specs.declared.ended.Aggregation.{Aggregation}
+use Rattle.duty_plans.specs.declared.ended.Aggregation.TheVariants as votes
 use Rattle.duty_plans.specs.declared.ended.Ended.{Ended}
 use Rattle.duty_plans.specs.declared.ended.Unsent.{Unsent}
 use Rattle.duty_plans.specs.declared.setup.DutySetup.{DutySetup}
@@ -25,8 +27,8 @@ use Rattle.duty_plans.specs.Guards.{granted_in}
 use Rattle.duty_plans.specs.Owning.{IsOwn}
 use Rattle.duty_plans.specs.Repeats.{GoesOnWith, HadLeave}
 use Rattle.duty_plans.specs.Steps.{DutyCall, DutyStep, Posts, desk_calls}
-use Rattle.duty_plans.specs.Tasks.{IsOwnTask, IsOwnUnsent, owner_of, unsent_message}
-use Rattle.duty_plans.proofs.AggregateLemmas.{task_goes}
+use Rattle.duty_plans.specs.Tasks.{IsOwnTask, IsOwnUnsent, duty_of, owner_of, unsent_message}
+use Rattle.duty_plans.proofs.AggregateLemmas.{cast_goes, task_goes}
 use Rattle.duty_plans.proofs.DutyLemmas.{task_own}
 use Rattle.duty_plans.proofs.LeftLemmas.{task_left}
 use Rattle.duty_turns.specs.declared.held.DutyEnd.{DutyEnd}
@@ -34,8 +36,7 @@ use Rattle.duty_turns.specs.Standing.{Standing}
 use Rattle.duty_turns.specs.TurnSteps.{TurnCall, TurnPlan, TurnReply, TurnStep, Fits, Worked, Works}
 use Rattle.duty_turns.specs.Turns.{turns_plan}
 use Rattle.aggregation_law.specs.Earned.{AreEarned, IsEarned, IsEarnedCall, IsEarnedStep, WasProved, WasSaid}
-use Rattle.aggregation_law.specs.Reasons.{AreReasoned, GotData, HadEnd, HasReason, IsPair, IsReasoned, WasChosen, WasDue}
-use Rattle.aggregation_law.proofs.GivenLemmas.{vote_said}
+use Rattle.aggregation_law.specs.Reasons.{AreReasoned, GotData, HadEnd, HasReason, IsPair, IsReasoned, WasAnswered, WasChosen, WasDue, WasLeft}
 use Rattle.aggregation_law.proofs.LaneLemmas.{AllFit, call_at, lane_step, took}
 use Rattle.aggregation_law.proofs.SoundLemmas.{turns_reasoned}
 use Rattle.aggregation_law.proofs.TaskLemmas.{only_one, reason_more}
@@ -46,6 +47,9 @@ pair_among (x ∷ tasks) [] t e p = absurd p
 pair_among (x ∷ tasks) (y ∷ ends) t e (inl p) = subst (λ (k : Task). Contains (x ∷ tasks) k) p.0 (contains_first x tasks)
 pair_among (x ∷ tasks) (y ∷ ends) t e (inr p) = contains_later x tasks t (pair_among tasks ends t e p)
 
+same_data : (x y : AttestationData) → Some (votes.Voted x) ≡ Some (votes.Voted y) → x ≡ y
+same_data x y h = cc
+
 module _ (setup : DutySetup) where
   -- each task that was done in these steps had a reason in them
   abbrev AllReasons : List TurnStep → Type 0
@@ -55,11 +59,31 @@ module _ (setup : DutySetup) where
     reason_of : (t : Task) (e : Ended) → HadEnd before work t e → HasReason setup before work t
     reason_of t e h = all work h.place h.tasks (Worked h.lanes (Some h.ends)) t h.step (pair_among h.tasks h.ends t e h.pair)
 
-    said_of : (row : AttesterRow) (details : AttestationData) → GotData before work row details → WasSaid before work row details
-    said_of row details g =
-        let own = took before fit work (task.Fresh (duty.Vote row)) g.ended g.had in
-        let said = vote_said work row details own.own g.ended own.follows g.goes_on in
-        record { own = own.own; taken = own.taken; tried = said.tried; asked = said.asked; said = said.said; same = said.same }
+    -- what a question that went on with data rests on
+    record Answered (row : AttesterRow) (details : AttestationData) : Type 0 where
+      due : WasDue before work.slot (duty.Vote row)
+      said : WasSaid before work row details
+
+    answered_of : (row : AttesterRow) (details : AttestationData) → WasAnswered before work row details → Answered row details
+    answered_of row details a =
+        let why = reason_of (task.Data row) a.ended a.had in
+        let own = took before fit work (task.Data row) a.ended a.had in
+        let P : Option Aggregation → Type 0 = λ o. IfSome o (GoesOnWith work (task.Data row) own.own) in
+        let with_it = subst P a.goes_on (task_goes work (task.Data row) own.own a.ended tt own.follows) in
+        record {
+          due = why.0;
+          said = record { own = own.own; taken = own.taken; tried = with_it.1.tried; asked = with_it.1.asked; said = with_it.1.said; same = with_it.0 };
+        }
+
+    -- so a vote that was cast does
+    cast_of : (row : AttesterRow) (details : AttestationData) (e : Ended) → HadEnd before work (task.Vote row details) e → Answered row details
+    cast_of row details e had = answered_of row details (reason_of (task.Vote row details) e had).1
+
+    got_of : (row : AttesterRow) (details : AttestationData) → GotData before work row details → Answered row details
+    got_of row details g =
+        let own = took before fit work (task.Vote row g.given) g.ended g.had in
+        let same = same_data g.given details (sym (cast_goes work row g.given own.own g.ended own.follows) ∙ g.goes_on) in
+        subst (λ (x : AttestationData). Answered row x) same (cast_of row g.given g.ended g.had)
 
     -- what a choice rests on
     record Chosen (row : AttesterRow) (details : AttestationData) (proof : Sig) : Type 0 where
@@ -72,29 +96,40 @@ module _ (setup : DutySetup) where
     chosen_of : (row : AttesterRow) (details : AttestationData) (proof : Sig) → WasChosen before work row details proof → Chosen row details proof
     chosen_of row details proof c =
         let why = reason_of (task.Choose row c.asked) c.ended c.had in
-        let voted = reason_of (task.Fresh (duty.Vote row)) why.1.ended why.1.had in
-        let said = said_of row c.asked why.1 in
+        let got = got_of row c.asked why.1 in
         let own = took before fit work (task.Choose row c.asked) c.ended c.had in
-        let goes = task_goes work (task.Choose row c.asked) own.own c.ended said.same own.follows in
+        let goes = task_goes work (task.Choose row c.asked) own.own c.ended got.said.same own.follows in
         let P : Option Aggregation → Type 0 = λ o. IfSome o (GoesOnWith work (task.Choose row c.asked) own.own) in
         let with_it = subst P c.goes_on goes in
         record {
           wanted = why.0;
-          due = voted.0;
-          said = subst (λ (x : AttestationData). WasSaid before work row x) (sym with_it.0) said;
+          due = got.due;
+          said = subst (λ (x : AttestationData). WasSaid before work row x) (sym with_it.0) got.said;
           proved = record { own = own.own; taken = own.taken; proved = with_it.2 };
           chosen = with_it.1;
         }
 
+    -- what is left of a task that is own is its duty's
+    left_own : (t : Task) (e : Ended) (unsent : Unsent) → IsOwnTask work.altair t → HadEnd before work t e → e.unsent ≡ Some unsent → IsOwnUnsent work.altair (duty_of t) unsent
+    left_own t e unsent is_own had is =
+        let own = took before fit work t e had in
+        let left = task_left work t own.own e is_own own.follows in
+        let P : Option Unsent → Type 0 = λ o. IfSome o (λ x. (is_repeated e.result ≡ true) × IsOwnUnsent work.altair (duty_of t) x × HadLeave (granted_in (desk_calls own.own)) (owner_of (duty_of t)) (unsent_message work.domains x)) in
+        (subst P is left).1
+
+    again_own : (d : Duty) (unsent : Unsent) → WasLeft before work d unsent → IsOwnUnsent work.altair d unsent
+    again_own (duty.Block row) unsent h = left_own (task.Fresh (duty.Block row)) h.ended unsent tt (subst (λ (t : Task). HadEnd before work t h.ended) h.is h.had) h.left
+    again_own (duty.Vote row) unsent h =
+        let had = subst (λ (t : Task). HadEnd before work t h.ended) h.is.1 h.had in
+        left_own (task.Vote row h.is.0) h.ended unsent (cast_of row h.is.0 h.ended had).said.same had h.left
+
     -- each task that has a reason is own
     own_task : (t : Task) → HasReason setup before work t → IsOwnTask work.altair t
     own_task (task.Fresh d) h = tt
-    own_task (task.Again d unsent) h =
-        let own = took before fit work (task.Fresh d) h.1.ended h.1.had in
-        let left = task_left work (task.Fresh d) own.own h.1.ended tt own.follows in
-        let P : Option Unsent → Type 0 = λ o. IfSome o (λ x. (is_repeated h.1.ended.result ≡ true) × IsOwnUnsent work.altair d x × HadLeave (granted_in (desk_calls own.own)) (owner_of d) (unsent_message work.domains x)) in
-        (subst P h.1.left left).1
-    own_task (task.Choose row details) h = (said_of row details h.1).same
+    own_task (task.Again d unsent) h = again_own d unsent h.1
+    own_task (task.Data row) h = tt
+    own_task (task.Vote row details) h = (answered_of row details h.1).said.same
+    own_task (task.Choose row details) h = (got_of row details h.1).said.same
     own_task (task.Aggregate row details proof) h = let c = chosen_of row details proof h.1 in (c.said.same, c.chosen)
 
     earned_post : (t : Task) (grant : OpenGrant) (signed : Signed AggregateAndProof) → HasReason setup before work t → IsOwn work t (Posts grant (post.Aggregate signed)) → IsEarned setup before work grant signed.message
@@ -105,6 +140,8 @@ module _ (setup : DutySetup) where
     earned_post (task.Fresh (duty.Vote row)) grant signed h own = absurd own
     earned_post (task.Again (duty.Block row) unsent) grant signed h own = absurd own
     earned_post (task.Again (duty.Vote row) unsent) grant signed h own = absurd own
+    earned_post (task.Data row) grant signed h own = absurd own
+    earned_post (task.Vote row details) grant signed h own = absurd own
     earned_post (task.Choose row details) grant signed h own = absurd own
 
     earned_call : (t : Task) (c : DutyCall) → HasReason setup before work t → IsOwn work t c → IsEarnedCall setup before work c

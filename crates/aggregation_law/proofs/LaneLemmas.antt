@@ -66,12 +66,12 @@ share_at work place tasks ends n from (steps ∷ others) h lane low high = by_or
   by_order rest (inr (inr more)) = absurd (omega (arith, low, more))
 
 -- the steps of a task that ended
-record PartOf (work : SlotWork) (t : Task) (e : Ended) (steps : List DutyStep) : Type 0 where
-  front : List DutyStep
-  own : List DutyStep
-  back : List DutyStep
-  are : steps ≡ front ++ (own ++ back)
-  follows : Follows duties.Fits (task_plan work t) own (Some e)
+pub record PartOf (work : SlotWork) (t : Task) (e : Ended) (steps : List DutyStep) : Type 0 where
+  pub front : List DutyStep
+  pub own : List DutyStep
+  pub back : List DutyStep
+  pub are : steps ≡ front ++ (own ++ back)
+  pub follows : Follows duties.Fits (task_plan work t) own (Some e)
 
 each_pair : (work : SlotWork) (tasks : List Task) (steps : List DutyStep) (ends : List Ended) (t : Task) (e : Ended) → EachDone work tasks steps ends → IsPair tasks ends t e → PartOf work t e steps
 each_pair work [] steps ends t e h p = absurd p
@@ -84,6 +84,17 @@ each_pair work (x ∷ xs) steps (y ∷ ys) t e h (inr p) =
     let more = each_pair work xs h.1 ys t e h.4 p in
     record { front = h.0 ++ more.front; own = more.own; back = more.back; are = h.2 ∙ ap (λ (l : List DutyStep). h.0 ++ l) more.are ∙ sym (append_assoc h.0 more.front (more.own ++ more.back)); follows = more.follows }
 
+-- a task that ended so took its own steps in a lane of its step
+pub pair_done : (work : SlotWork) (place : ℕ) (tasks : List Task) (lanes : List (List DutyStep)) (ends : List Ended) (t : Task) (e : Ended) → Fits (Works work place tasks) (Worked lanes (Some ends)) → IsPair tasks ends t e
+    → (lane : List DutyStep) × Contains lanes lane × PartOf work t e lane
+pair_done work place tasks lanes ends t e fit p =
+    let n = length lanes in
+    let at = dealt_pair n place tasks ends t e fit.2 p in
+    let lane = share_at work place tasks ends n 0 lanes fit.0 at.0 (omega arith) (omega (arith, at.1)) in
+    let mine = dealt n at.0 place tasks in
+    let theirs = dealt n at.0 place ends in
+    (lane.0, lane.1, each_pair work mine lane.0 theirs t e (each_done work mine lane.0 theirs lane.2) at.2)
+
 -- a step fits
 abbrev pub AllFit : List TurnStep → Type 0
 AllFit steps = (c : TurnCall) (r : TurnReply) → Contains steps (c, r) → Fits c r
@@ -93,19 +104,14 @@ pub record TookTo (steps : List TurnStep) (work : SlotWork) (t : Task) (e : Ende
   pub taken : WereTaken steps work own
   pub follows : Follows duties.Fits (task_plan work t) own (Some e)
 
--- a task that ended so took its own steps in a lane
+-- so in steps that each fit
 pub took : (steps : List TurnStep) → AllFit steps → (work : SlotWork) (t : Task) (e : Ended) → HadEnd steps work t e → TookTo steps work t e
 took steps fit work t e h =
-    let n = length h.lanes in
-    let f = fit (Works work h.place h.tasks) (Worked h.lanes (Some h.ends)) h.step in
-    let at = dealt_pair n h.place h.tasks h.ends t e f.2 h.pair in
-    let lane = share_at work h.place h.tasks h.ends n 0 h.lanes f.0 at.0 (omega arith) (omega (arith, at.1)) in
-    let mine = dealt n at.0 h.place h.tasks in
-    let theirs = dealt n at.0 h.place h.ends in
-    let part = each_pair work mine lane.0 theirs t e (each_done work mine lane.0 theirs lane.2) at.2 in
+    let done = pair_done work h.place h.tasks h.lanes h.ends t e (fit (Works work h.place h.tasks) (Worked h.lanes (Some h.ends)) h.step) h.pair in
+    let part = done.2 in
     record {
       own = part.own;
-      taken = record { place = h.place; tasks = h.tasks; lanes = h.lanes; ends = Some h.ends; step = h.step; lane = lane.0; in_lane = lane.1; front = part.front; back = part.back; are = part.are };
+      taken = record { place = h.place; tasks = h.tasks; lanes = h.lanes; ends = Some h.ends; step = h.step; lane = done.0; in_lane = done.1; front = part.front; back = part.back; are = part.are };
       follows = part.follows;
     }
 

@@ -5,6 +5,7 @@ use Rattle.std.proofs.lemmas.List.Elements.{Contains-append_left, Contains-appen
 use Rattle.edge_kit.specs.declared.bytes.PubKey.{PubKey}
 use Rattle.slash_defs.specs.declared.book.Book.{Book}
 use Rattle.slash_defs.specs.declared.book.File.{File}
+use Rattle.slash_defs.specs.declared.message.Message.{Message}
 use Rattle.protect_record.proofs.MemberLemmas.{contains_first}
 use Rattle.desk_machine.specs.declared.call.KeyStanding.{KeyStanding}
 use Rattle.desk_machine.specs.declared.call.DeskCall.{DeskCall}
@@ -28,17 +29,19 @@ use Rattle.duty_plans.specs.declared.task.Task.{Task}
 use Rattle.duty_plans.specs.Choices.{aggregate_tasks, reports}
 use Rattle.duty_plans.specs.Ends.{merged, results_of}
 use Rattle.duty_plans.specs.Tasks.{again_tasks, fresh}
+use Rattle.duty_plans.specs.Votes.{data_tasks, vote_ends, vote_tasks}
 use Rattle.duty_plans.specs.declared.setup.DutySetup.{DutySetup}
 use Rattle.duty_plans.specs.declared.work.SlotWork.{SlotWork}
 use Rattle.duty_turns.specs.Lines.{aggregate_lines, duty_lines, none_line}
+use Rattle.duty_turns.specs.Recording.{free_of, recorded}
 use Rattle.duty_turns.specs.Standing.{Standing, indices_of, with_attesters, with_fork, with_indices, with_proposers}
 use Rattle.duty_turns.specs.Times.{again_start, aggregates_start, epoch_of, is_first_slot, is_missed, next_slot, slot_start, votes_start}
 use Rattle.duty_turns.specs.TurnSteps.{TurnCall, TurnPlan, TurnReply, TurnStep, Fits, Due, LanesRefreshed, LooksUp, Own, Refreshed, Refreshes, RefreshesLanes, Waits, Woke, Worked, Works, Writes, Wrote}
-use Rattle.duty_turns.specs.Turns.{Next, NextPlan, PartPlan, active_of, after_wait, again_plan, aggregates_plan, left_plan, tried_plan, answered_plan, ask_plan, asked_plan, asks, at_moment, at_slot, attesters_plan, blocks_in, by_32, calls, choices_of, chooses_plan, close_plan, due_plan, duties_plan, epoch_plan, epochs_plan, exported, exports, failed_plan, finish_plan, found, gathers_plan, index_plan, is_worth_compacting, keys_of_turn, lanes_refreshed, listed_plan, lived_plan, liveness_plan, merges, missing_epochs, missing_keys, next_turn, noted, notes_of, notes_plan, on_standing, own_answer, own_reply, prunes, puts, ready_plan, refreshed, refreshes, refreshes_lanes, renew_plan, renewed_now, renewed_plan, renews, report_plan, shortens, sized, then_on, to_renew, told_plan, turn_plan, turns_plan, unless_short, voters_plan, votes_in, votes_plan, waits, watch_plan, with_active, woken, woken_plan, work_of, worked, works, writes, written, wrote}
+use Rattle.duty_turns.specs.Turns.{Next, NextPlan, PartPlan, active_of, after_wait, again_plan, aggregates_plan, left_plan, tried_plan, answered_plan, ask_plan, asked_plan, asks, at_moment, at_slot, attesters_plan, blocks_in, by_32, calls, casts, choices_of, chooses_plan, close_plan, due_plan, duties_plan, epoch_plan, epochs_plan, exported, exports, failed_plan, finish_plan, found, gathers_plan, index_plan, is_worth_compacting, keys_of_turn, lanes_refreshed, listed_plan, lived_plan, liveness_plan, merges, missing_epochs, missing_keys, next_turn, noted, notes_of, notes_plan, on_standing, own_answer, own_reply, prunes, puts, ready_plan, records, records_free, records_votes, refreshed, refreshes, refreshes_lanes, renew_plan, renewed_now, renewed_plan, renews, report_plan, shortens, sized, then_on, to_renew, told_plan, turn_plan, turns_plan, unless_short, voters_plan, votes_in, votes_plan, waits, watch_plan, with_active, woken, woken_plan, work_of, worked, works, writes, written, wrote}
 use Rattle.duty_turns.specs.declared.held.DutyEnd.{DutyEnd}
 use Rattle.duty_turns.specs.declared.held.DutyEnd.TheVariants as end
-use Rattle.aggregation_law.specs.Reasons.{AreReasoned, HasReason, IsReasoned}
-use Rattle.aggregation_law.proofs.TaskLemmas.{Chose, Had, IsFound, Left, aggregate_chose, block_reasons, choice_reasons, chose_all, chose_reason, due_found, due_more, had_both, had_more, left_all, left_more, left_reason, vote_reasons}
+use Rattle.aggregation_law.specs.Reasons.{AreReasoned, HasReason, IsReasoned, WasTime}
+use Rattle.aggregation_law.proofs.TaskLemmas.{AreAsked, Chose, Had, IsFound, Left, aggregate_chose, are_asked, block_reasons, choice_reasons, chose_all, chose_reason, data_reasons, due_found, due_more, had_both, had_more, left_all, left_more, left_reason, time_more, vote_reasons}
 
 module _ (setup : DutySetup) where
   -- whatever steps of the plan are taken after these, each task has its reason
@@ -192,9 +195,12 @@ module _ (setup : DutySetup) where
 
   -- ---- calls of the desk that let the turn go on
 
+  unless_short_so : (before : List TurnStep) (p : NextPlan) → So before p → (r : DeskReply) → So before (unless_short r p)
+  unless_short_so before p h reply.OutOfMemory = stop_sound before
+  unless_short_so before p h r = h
+
   unless_short_sound : (p : NextPlan) → Sound p → (r : DeskReply) → Sound (unless_short r p)
-  unless_short_sound p h reply.OutOfMemory = stop_sound
-  unless_short_sound p h r = h
+  unless_short_sound p h r before = unless_short_so before p (h before) r
 
   sized_sound : (p : NextPlan) → Sound p → (r : DeskReply) → Sound (sized r p)
   sized_sound p h (reply.Size size weight) =
@@ -263,13 +269,13 @@ module _ (setup : DutySetup) where
   waits_sound moment next h before = waits_so before moment next (λ reached. h reached (before ++ (Waits moment, Woke reached) ∷ []))
 
   worked_so : {X : Type 0} (before : List TurnStep) (work : SlotWork) (place : ℕ) (tasks : List Task) (next : List Ended → TurnPlan X)
-      → ((lanes : List (List DutyStep)) (ends : List Ended) → length ends ≡ length tasks → So (before ++ (Works work place tasks, Worked lanes (Some ends)) ∷ []) (next ends))
+      → ((lanes : List (List DutyStep)) (ends : List Ended) → Fits (Works work place tasks) (Worked lanes (Some ends)) → So (before ++ (Works work place tasks, Worked lanes (Some ends)) ∷ []) (next ends))
       → (r : TurnReply) → Fits (Works work place tasks) r → So (before ++ (Works work place tasks, r) ∷ []) (worked r next)
-  worked_so before work place tasks next h (Worked lanes (Some ends)) fit = h lanes ends fit.1
+  worked_so before work place tasks next h (Worked lanes (Some ends)) fit = h lanes ends fit
   worked_so before work place tasks next h r fit = stop_sound (before ++ (Works work place tasks, r) ∷ [])
 
   works_so : {X : Type 0} (before : List TurnStep) (work : SlotWork) (place : ℕ) (tasks : List Task) (next : List Ended → TurnPlan X) → ((t : Task) → Contains tasks t → HasReason setup before work t)
-      → ((lanes : List (List DutyStep)) (ends : List Ended) → length ends ≡ length tasks → So (before ++ (Works work place tasks, Worked lanes (Some ends)) ∷ []) (next ends)) → So before (works work place tasks next)
+      → ((lanes : List (List DutyStep)) (ends : List Ended) → Fits (Works work place tasks) (Worked lanes (Some ends)) → So (before ++ (Works work place tasks, Worked lanes (Some ends)) ∷ []) (next ends)) → So before (works work place tasks next)
   works_so before work place tasks next may h = ask_so before (Works work place tasks) (λ r. worked r next) may (λ r fit. worked_so before work place tasks next h r fit)
 
   last_of : (before : List TurnStep) (s : TurnStep) → Contains (before ++ s ∷ []) s
@@ -288,7 +294,7 @@ module _ (setup : DutySetup) where
       if_so before (is_missed setup.genesis_time s.slot moment reached) (report_plan setup s.slot choices (reports chosen []) next) (works work 0 tasks after)
       (λ late. report_sound s.slot choices (reports chosen []) next before)
       (λ in_time. works_so before work 0 tasks after (λ t c. chose_reason setup before work t (record { reached = reached; step = woke; in_slot = in_time }) (chose t c))
-      (λ lanes ends each. report_sound s.slot choices (reports chosen ends) last (before ++ (Works work 0 tasks, Worked lanes (Some ends)) ∷ [])))
+      (λ lanes ends fit. report_sound s.slot choices (reports chosen ends) last (before ++ (Works work 0 tasks, Worked lanes (Some ends)) ∷ [])))
 
   gathers_so : (before : List TurnStep) (s : Standing) (choices : List Task) (chosen : List Ended) (tasks : List Task) → ((t : Task) → Contains tasks t → Chose before (work_of setup s) t)
       → So before (gathers_plan setup s choices chosen tasks)
@@ -303,7 +309,7 @@ module _ (setup : DutySetup) where
   chooses_so before s (t ∷ choices) may =
       let work = work_of setup s in
       works_so before work 0 (t ∷ choices) (λ chosen. gathers_plan setup s (t ∷ choices) chosen (aggregate_tasks (t ∷ choices) chosen)) may
-      (λ lanes chosen each. let made : TurnStep = (Works work 0 (t ∷ choices), Worked lanes (Some chosen)) in
+      (λ lanes chosen fit. let made : TurnStep = (Works work 0 (t ∷ choices), Worked lanes (Some chosen)) in
       gathers_so (before ++ made ∷ []) s (t ∷ choices) chosen (aggregate_tasks (t ∷ choices) chosen) (aggregate_chose (before ++ made ∷ []) work 0 (t ∷ choices) lanes chosen (last_of before made)))
 
   told_so : (before : List TurnStep) (s : Standing) (ds : List Duty) (ends : List Ended) (results : List DutyResult) → Had before (work_of setup s) ds ends → So before (told_plan setup s ds ends results)
@@ -324,7 +330,7 @@ module _ (setup : DutySetup) where
       if_so before (is_missed setup.genesis_time s.slot moment reached) (close_plan setup s.slot ds (results_of ends) next) (works work 0 tasks after)
       (λ late. close_sound s.slot ds (results_of ends) next before)
       (λ in_time. works_so before work 0 tasks after (λ t c. left_reason setup before work t (record { reached = reached; step = woke; in_slot = in_time }) (left t c))
-      (λ lanes again each. let made : TurnStep = (Works work 0 tasks, Worked lanes (Some again)) in
+      (λ lanes again fit. let made : TurnStep = (Works work 0 tasks, Worked lanes (Some again)) in
       told_so (before ++ made ∷ []) s ds ends (merged ends again) (had_more before (made ∷ []) work ds ends had)))
 
   left_so : (before : List TurnStep) (s : Standing) (ds : List Duty) (ends : List Ended) (tasks : List Task) → Had before (work_of setup s) ds ends → ((t : Task) → Contains tasks t → Left before (work_of setup s) t)
@@ -336,34 +342,80 @@ module _ (setup : DutySetup) where
       waits_so before moment (tried_plan setup s ds ends (t ∷ tasks)) (λ reached. let woke : TurnStep = (Waits moment, Woke reached) in
       tried_so (before ++ woke ∷ []) s ds ends (t ∷ tasks) reached (had_more before (woke ∷ []) work ds ends had) (left_more before (woke ∷ []) work (t ∷ tasks) left) (last_of before woke))
 
-  votes_so : (before : List TurnStep) (s : Standing) (ds : List Duty) (made : List (List DutyStep)) (proposed : List Ended) (reached : ℕ) → IsFound before s.slot ds
-      → Contains before (Works (work_of setup s) 0 (fresh (blocks_in ds)), Worked made (Some proposed)) → length proposed ≡ length (fresh (blocks_in ds))
+  -- the desk is asked to keep messages together, and what comes next has its reasons whatever steps come between
+  records_so : (before : List TurnStep) (now : ℕ) (ms : List (PubKey × Message)) (next : NextPlan) → ((mid : List TurnStep) → So (before ++ mid) next) → So before (records now ms next)
+  records_so before now [] next h = subst (λ (l : List TurnStep). So l next) (append-nil before) (h [])
+  records_so before now (m ∷ ms) next h =
+      let c : TurnCall = Own (Calls (call.Record (m ∷ ms) now)) in
+      ask_so before c (λ r. unless_short (own_reply r) next) tt (λ r fit. unless_short_so (before ++ (c, r) ∷ []) next (h ((c, r) ∷ [])) (own_reply r))
+
+  records_free_so : (before : List TurnStep) (work : SlotWork) (tasks : List Task) (next : NextPlan) → ((mid : List TurnStep) → So (before ++ mid) next) → (r : DeskReply) → So before (records_free work tasks r next)
+  records_free_so before work tasks next h (reply.Keys listed) = records_so before work.moment (recorded work.domains (free_of listed) tasks) next h
+  records_free_so before work tasks next h r = stop_sound before
+
+  records_votes_so : (before : List TurnStep) (work : SlotWork) (tasks : List Task) (next : NextPlan) → ((mid : List TurnStep) → So (before ++ mid) next) → So before (records_votes work tasks next)
+  records_votes_so before work [] next h = subst (λ (l : List TurnStep). So l next) (append-nil before) (h [])
+  records_votes_so before work (t ∷ tasks) next h =
+      let c : TurnCall = Own (Calls call.Keys) in
+      ask_so before c (λ r. records_free work (t ∷ tasks) (own_reply r) next) tt (λ r fit.
+      records_free_so (before ++ (c, r) ∷ []) work (t ∷ tasks) next (λ mid. subst (λ (l : List TurnStep). So l next) (sym (append_assoc before ((c, r) ∷ []) mid)) (h ((c, r) ∷ mid))) (own_reply r))
+
+  -- the blocks of a slot were proposed
+  abbrev Proposed : List TurnStep → Standing → List Duty → List (List DutyStep) → List Ended → Type 0
+  Proposed before s ds made proposed = Contains before (Works (work_of setup s) 0 (fresh (blocks_in ds)), Worked made (Some proposed)) × (length proposed ≡ length (fresh (blocks_in ds)))
+
+  -- it was asked what the committees of its votes are to vote
+  abbrev Asked : List TurnStep → Standing → List Duty → List (List DutyStep) → List Ended → Type 0
+  Asked before s ds lanes asked = Contains before (Works (work_of setup s) (length (blocks_in ds)) (data_tasks (votes_in ds)), Worked lanes (Some asked)) × AreAsked (votes_in ds) asked
+
+  cast_so : (before : List TurnStep) (s : Standing) (ds : List Duty) (made lanes : List (List DutyStep)) (proposed asked : List Ended) → Proposed before s ds made proposed → Asked before s ds lanes asked
+      → WasTime before setup.genesis_time s.slot (votes_start setup.genesis_time s.slot)
+      → So before (works (work_of setup s) (length (blocks_in ds)) (vote_tasks (votes_in ds) asked) (λ cast. again_plan setup s (blocks_in ds ++ votes_in ds) (proposed ++ vote_ends asked cast)))
+  cast_so before s ds made lanes proposed asked done told time =
+      let work = work_of setup s in
+      let place = length (blocks_in ds) in
+      let tasks = vote_tasks (votes_in ds) asked in
+      let all : List Duty = blocks_in ds ++ votes_in ds in
+      works_so before work place tasks (λ cast. again_plan setup s all (proposed ++ vote_ends asked cast)) (vote_reasons setup before work ds place lanes asked time told.0)
+      (λ voted cast fit. let step : TurnStep = (Works work place tasks, Worked voted (Some cast)) in
+      let here : List TurnStep = before ++ step ∷ [] in
+      let ends : List Ended = proposed ++ vote_ends asked cast in
+      let blocks = Contains-append_left before (step ∷ []) (Works work 0 (fresh (blocks_in ds)), Worked made (Some proposed)) done.0 in
+      let had = had_both here work ds asked 0 place made voted proposed cast blocks done.1 told.1 (last_of before step) fit.1 in
+      left_so here s all ends (again_tasks all ends) had (left_all here work all ends had))
+
+  votes_so : (before : List TurnStep) (s : Standing) (ds : List Duty) (made : List (List DutyStep)) (proposed : List Ended) (reached : ℕ) → IsFound before s.slot ds → Proposed before s ds made proposed
       → Contains before (Waits (votes_start setup.genesis_time s.slot), Woke reached) → So before (votes_plan setup s ds proposed reached)
-  votes_so before s ds made proposed reached due done each woke =
+  votes_so before s ds made proposed reached due done woke =
       let moment = votes_start setup.genesis_time s.slot in
       let work = work_of setup s in
       let place = length (blocks_in ds) in
-      let all : List Duty = blocks_in ds ++ votes_in ds in
+      let votes = votes_in ds in
       let next = at_moment setup.genesis_time moment reached s in
-      let after : List Ended → NextPlan = λ cast. again_plan setup s all (proposed ++ cast) in
-      if_so before (is_missed setup.genesis_time s.slot moment reached) (close_plan setup s.slot (blocks_in ds) (results_of proposed) next) (works work place (fresh (votes_in ds)) after)
+      let after : List Ended → NextPlan = λ cast. again_plan setup s (blocks_in ds ++ votes) (proposed ++ cast) in
+      if_so before (is_missed setup.genesis_time s.slot moment reached) (close_plan setup s.slot (blocks_in ds) (results_of proposed) next) (casts work place votes after)
       (λ late. close_sound s.slot (blocks_in ds) (results_of proposed) next before)
-      (λ in_time. works_so before work place (fresh (votes_in ds)) after (vote_reasons setup before work ds due (record { reached = reached; step = woke; in_slot = in_time }))
-      (λ lanes cast count. let voted : TurnStep = (Works work place (fresh (votes_in ds)), Worked lanes (Some cast)) in
-      let here : List TurnStep = before ++ voted ∷ [] in
-      let had = had_both here work (blocks_in ds) (votes_in ds) 0 place made lanes proposed cast (Contains-append_left before (voted ∷ []) (Works work 0 (fresh (blocks_in ds)), Worked made (Some proposed)) done) each (last_of before voted) in
-      left_so here s all (proposed ++ cast) (again_tasks all (proposed ++ cast)) had (left_all here work all (proposed ++ cast) had)))
+      (λ in_time. let time : WasTime before setup.genesis_time s.slot moment = record { reached = reached; step = woke; in_slot = in_time } in
+      let casting : List Ended → NextPlan = λ asked. works work place (vote_tasks votes asked) (λ cast. after (vote_ends asked cast)) in
+      works_so before work place (data_tasks votes) (λ asked. records_votes work (vote_tasks votes asked) (casting asked)) (data_reasons setup before work ds due time)
+      (λ lanes asked fit. let told : TurnStep = (Works work place (data_tasks votes), Worked lanes (Some asked)) in
+      let here : List TurnStep = before ++ told ∷ [] in
+      let all = are_asked work place ds lanes asked fit in
+      records_votes_so here work (vote_tasks votes asked) (casting asked) (λ mid.
+      let blocks = Contains-append_left here mid (Works work 0 (fresh (blocks_in ds)), Worked made (Some proposed)) (Contains-append_left before (told ∷ []) (Works work 0 (fresh (blocks_in ds)), Worked made (Some proposed)) done.0) in
+      let asking = Contains-append_left here mid told (last_of before told) in
+      cast_so (here ++ mid) s ds made lanes proposed asked (blocks, done.1) (asking, all) (time_more here mid setup.genesis_time s.slot moment (time_more before (told ∷ []) setup.genesis_time s.slot moment time)))))
 
   due_so : (before : List TurnStep) (s : Standing) (ds : List Duty) → IsFound before s.slot ds → So before (due_plan setup s ds)
   due_so before s ds due =
       let moment = votes_start setup.genesis_time s.slot in
       let work = work_of setup s in
       works_so before work 0 (fresh (blocks_in ds)) (λ proposed. waits moment (votes_plan setup s ds proposed)) (block_reasons setup before work ds due)
-      (λ lanes proposed each. let made : TurnStep = (Works work 0 (fresh (blocks_in ds)), Worked lanes (Some proposed)) in
+      (λ lanes proposed fit. let made : TurnStep = (Works work 0 (fresh (blocks_in ds)), Worked lanes (Some proposed)) in
       let here : List TurnStep = before ++ made ∷ [] in
       waits_so here moment (votes_plan setup s ds proposed) (λ reached. let woke : TurnStep = (Waits moment, Woke reached) in
       votes_so (here ++ woke ∷ []) s ds lanes proposed reached (due_more here (woke ∷ []) s.slot ds (due_more before (made ∷ []) s.slot ds due))
-      (Contains-append_left here (woke ∷ []) made (last_of before made)) each (last_of here woke)))
+      (Contains-append_left here (woke ∷ []) made (last_of before made), fit.1) (last_of here woke)))
 
   found_so : (before : List TurnStep) (s : Standing) (active : List PubKey) (r : TurnReply)
       → So (before ++ (LooksUp s.answers s.slot active, r) ∷ []) (found r (due_plan setup (with_active active s)))

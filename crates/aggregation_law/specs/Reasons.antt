@@ -49,16 +49,30 @@ pub record HadEnd (steps : List TurnStep) (work : SlotWork) (t : Task) (e : Ende
   pub step : Contains steps (Works work place tasks, Worked lanes (Some ends))
   pub pair : IsPair tasks ends t e
 
--- what is tried once more was left of this duty
+-- the first try of a duty: all of a block, and a vote for some data
+abbrev pub IsFirstTry : Duty → Task → Type 0
+IsFirstTry (duty.Block row) t = t ≡ task.Fresh (duty.Block row)
+IsFirstTry (duty.Vote row) t = (details : AttestationData) × (t ≡ task.Vote row details)
+
+-- what is tried once more was left of the first try of this duty
 pub record WasLeft (steps : List TurnStep) (work : SlotWork) (d : Duty) (unsent : Unsent) : Type 0 where
+  pub first : Task
+  pub is : IsFirstTry d first
   pub ended : Ended
-  pub had : HadEnd steps work (task.Fresh d) ended
+  pub had : HadEnd steps work first ended
   pub left : ended.unsent ≡ Some unsent
 
--- the vote of this validator got this data
-pub record GotData (steps : List TurnStep) (work : SlotWork) (row : AttesterRow) (details : AttestationData) : Type 0 where
+-- the question for what this validator's committee is to vote went on with this data
+pub record WasAnswered (steps : List TurnStep) (work : SlotWork) (row : AttesterRow) (details : AttestationData) : Type 0 where
   pub ended : Ended
-  pub had : HadEnd steps work (task.Fresh (duty.Vote row)) ended
+  pub had : HadEnd steps work (task.Data row) ended
+  pub goes_on : ended.aggregation ≡ Some (votes.Voted details)
+
+-- the vote of this validator, for the data that it was given, went on with this data
+pub record GotData (steps : List TurnStep) (work : SlotWork) (row : AttesterRow) (details : AttestationData) : Type 0 where
+  pub given : AttestationData
+  pub ended : Ended
+  pub had : HadEnd steps work (task.Vote row given) ended
   pub goes_on : ended.aggregation ≡ Some (votes.Voted details)
 
 -- the validator's choice, of votes for the data that it asked of, went on with this data and this proof
@@ -70,12 +84,15 @@ pub record WasChosen (steps : List TurnStep) (work : SlotWork) (row : AttesterRo
 
 -- ---- why a task is done
 
--- A duty is done where it was found due, and a vote in its time. It is tried once more in its time, where what is tried is left of it. Whether
+-- A block is proposed where it was found due. What a committee is to vote is asked where a vote was found due, in its time; the vote is cast
+-- for data with which that question went on, and never without. A duty is tried once more in its time, where what is tried is left of it. Whether
 -- a validator aggregates is asked where aggregates are wanted, of a vote that got this data. An aggregate is published in its time, by a
 -- validator that this proof chose.
 abbrev pub HasReason : DutySetup → List TurnStep → SlotWork → Task → Type 0
 HasReason setup steps work (task.Fresh (duty.Block row)) = WasDue steps work.slot (duty.Block row)
-HasReason setup steps work (task.Fresh (duty.Vote row)) = WasDue steps work.slot (duty.Vote row) × WasTime steps setup.genesis_time work.slot (votes_start setup.genesis_time work.slot)
+HasReason setup steps work (task.Fresh (duty.Vote row)) = ⊥
+HasReason setup steps work (task.Data row) = WasDue steps work.slot (duty.Vote row) × WasTime steps setup.genesis_time work.slot (votes_start setup.genesis_time work.slot)
+HasReason setup steps work (task.Vote row details) = WasTime steps setup.genesis_time work.slot (votes_start setup.genesis_time work.slot) × WasAnswered steps work row details
 HasReason setup steps work (task.Again d unsent) = WasTime steps setup.genesis_time work.slot (again_start setup.genesis_time work.slot) × WasLeft steps work d unsent
 HasReason setup steps work (task.Choose row details) = (setup.aggregate ≡ true) × GotData steps work row details
 HasReason setup steps work (task.Aggregate row details proof) = WasTime steps setup.genesis_time work.slot (aggregates_start setup.genesis_time work.slot) × WasChosen steps work row details proof

@@ -8,7 +8,6 @@ ghost use Rattle.node_calls.specs.declared.answer.Answer.{Answer};
 ghost use Rattle.node_calls.specs.declared.answer.AttesterRow.{AttesterRow};
 ghost use Rattle.node_calls.specs.declared.ask.Ask.TheVariants as Ask;
 ghost use Rattle.duty_schedule.specs.Aggregators.{is_aggregator};
-ghost use Rattle.duty_schedule.specs.declared.rows.Duty.TheVariants as Duty;
 ghost use Rattle.call_plans.specs.Plans.{Follows};
 ghost use Rattle.duty_plans.specs.declared.ended.Aggregation.TheVariants as Aggregation;
 ghost use Rattle.duty_plans.specs.declared.ended.Ended.{Ended};
@@ -27,8 +26,9 @@ ghost use Rattle.duty_turns.specs.Turns.{turns_plan};
 ghost use Rattle.aggregation_law.specs.Earned.{AreEarned};
 ghost use Rattle.aggregation_law.specs.Reasons.{AreReasoned};
 
-/// Each task that is done in turns has a reason in the steps before it, however the turns end: a duty was found due, and a
-/// vote is cast in its time; what is tried once more is left of the duty; whether a validator aggregates is asked where
+/// Each task that is done in turns has a reason in the steps before it, however the turns end: a block was found due; what a
+/// committee is to vote is asked for a vote that was found due, in its time, and the vote is cast for data with which that
+/// question went on; what is tried once more is left of the duty; whether a validator aggregates is asked where
 /// aggregates are wanted, of a vote that got its data; and an aggregate is published in its time, by a validator that its
 /// proof chose.
 pub fn reason_law()
@@ -45,13 +45,16 @@ pub fn aggregation_law()
         → AreEarned setup [] steps }
 {}
 
-/// A vote whose committee's data a node said, where it is the duty's, goes on with that data, whatever became of the vote:
-/// so its validator's choice is asked for (`choose_tasks`). A choice whose signature of the slot was given, and chooses the
-/// validator, goes on with it: so its aggregate is published (`aggregate_tasks`).
+/// A question whose answer is data of the duty goes on with that data: so the vote for it is cast (`vote_tasks`). A vote goes
+/// on with the data that it is for, whatever became of the vote: so its validator's choice is asked for (`choose_tasks`). A
+/// choice whose signature of the slot was given, and chooses the validator, goes on with it: so its aggregate is published
+/// (`aggregate_tasks`).
 pub fn choice_law()
-    ensures voted { (work : SlotWork) (row : AttesterRow) (tried : Tried Answer) (rest : List DutyStep) (details : AttestationData) (e : Ended)
-        → Follows FitsDuty (task_plan work (Task.Fresh (Duty.Vote row))) ((Asks (Ask.Data work.slot row.committee_index), Answered tried) ∷ rest) (Some e)
+    ensures answered { (work : SlotWork) (row : AttesterRow) (tried : Tried Answer) (rest : List DutyStep) (details : AttestationData) (e : Ended)
+        → Follows FitsDuty (task_plan work (Task.Data row)) ((Asks (Ask.Data work.slot row.committee_index), Answered tried) ∷ rest) (Some e)
         → vote_of row (came_of tried) ≡ Got.Given details → e.aggregation ≡ Some (Aggregation.Voted details) }
+    ensures voted { (work : SlotWork) (row : AttesterRow) (details : AttestationData) (steps : List DutyStep) (e : Ended)
+        → Follows FitsDuty (task_plan work (Task.Vote row details)) steps (Some e) → e.aggregation ≡ Some (Aggregation.Voted details) }
     ensures chosen { (work : SlotWork) (row : AttesterRow) (details : AttestationData) (first : DutyStep) (grant : OpenGrant) (proof : Sig) (rest : List DutyStep) (e : Ended)
         → Follows FitsDuty (task_plan work (Task.Choose row details)) (first ∷ (Reveals grant (slot_request work), Signed (SignReply.Signed proof)) ∷ rest) (Some e)
         → is_aggregator proof row.committee_length ≡ true → e.aggregation ≡ Some (Aggregation.Chosen details proof) }

@@ -15,3 +15,4 @@ pub mod RefusalLemmas
 pub mod SnapshotLemmas
 pub mod StepLemmas
 pub mod WeightLemmas
+pub mod RecordLemmas

@@ -34,14 +34,14 @@ use Rattle.check_sign.specs.Writing.{Moved, HoldsJournal, journal_of}
 use Rattle.check_sign.proofs.OpenLemmas.{still}
 
 -- each of the items is a record
-abbrev Records : List JournalItem → Type 0
+abbrev pub Records : List JournalItem → Type 0
 Records items = AllByRecursion (λ i. is_record i ≡ true) items
 
 records_append : (xs ys : List JournalItem) → Records xs → Records ys → Records (xs ++ ys)
 records_append [] ys x y = y
 records_append (i ∷ xs) ys x y = (x.0, records_append xs ys x.1 y)
 
-records_map : {A : Type 0} (f : A → JournalItem) → ((a : A) → is_record (f a) ≡ true) → (es : List A) → Records (map f es)
+pub records_map : {A : Type 0} (f : A → JournalItem) → ((a : A) → is_record (f a) ≡ true) → (es : List A) → Records (map f es)
 records_map f is [] = tt
 records_map f is (e ∷ es) = (is e, records_map f is es)
 
@@ -52,12 +52,12 @@ file_records : (books : List (PubKey × Book)) → Records (file_items books)
 file_records [] = tt
 file_records (b ∷ books) = records_append _ _ (book_records b) (file_records books)
 
-as_batch : (items : List JournalItem) → Records items → (items ≡ []) ⊎ IsBatch items
+pub as_batch : (items : List JournalItem) → Records items → (items ≡ []) ⊎ IsBatch items
 as_batch [] all = inl refl
 as_batch (i ∷ []) all = inr tt
 as_batch (i ∷ j ∷ items) all = inr all
 
-abbrev Batch : List JournalItem → Type 0
+abbrev pub Batch : List JournalItem → Type 0
 Batch items = (items ≡ []) ⊎ IsBatch items
 
 pub book_batch : (items : List JournalItem) (listed : PubKey × Book) → items ≡ book_items listed → (items ≡ []) ⊎ IsBatch items

@@ -80,7 +80,7 @@ plain_counted old c r new plain grants next latest events genesis = record {
   genesis = genesis;
 }
 
-of_fault : (P : DeskReply → Type 0) (r : DeskReply) (f : AppendFault) → r ≡ refusal_of f → P reply.Disk → P reply.OutOfMemory → ((size wanted : ℕ) → P (reply.Full size wanted)) → P r
+pub of_fault : (P : DeskReply → Type 0) (r : DeskReply) (f : AppendFault) → r ≡ refusal_of f → P reply.Disk → P reply.OutOfMemory → ((size wanted : ℕ) → P (reply.Full size wanted)) → P r
 of_fault P r fault.Disk is disk memory full = subst P (sym is) disk
 of_fault P r fault.OutOfMemory is disk memory full = subst P (sym is) memory
 of_fault P r (fault.Full size wanted) is disk memory full = subst P (sym is) (full size wanted)

@@ -1,5 +1,5 @@
 -- One call of a desk.
-use Rattle.std.specs.Prelude.{◌≡◌, ◌⊎◌, ◌↔◌, ℕ, Bool, List, [], ◌∷◌, ◌++◌, Option, None, Some, is_some, IsSome, IsSomeAnd, IsTrue, map, if◌then◌else◌}
+use Rattle.std.specs.Prelude.{◌≡◌, ◌⊎◌, ◌↔◌, ℕ, Bool, List, Contains, [], ◌∷◌, ◌++◌, Option, None, Some, is_some, IsSome, IsSomeAnd, IsTrue, map, if◌then◌else◌}
 use Rattle.std.specs.Map.{keys_of}
 use Rattle.edge_kit.specs.declared.disk.Disks.{Disks}
 use Rattle.edge_kit.specs.declared.bytes.PubKey.{PubKey}
@@ -11,9 +11,10 @@ use Rattle.doppel_watch.specs.declared.watch.WatchState.{WatchState}
 use Rattle.doppel_watch.specs.declared.watch.WatchState.TheVariants as watch
 use Rattle.desk_machine.specs.declared.call.KeyStanding.{KeyStanding}
 use Rattle.record_join.specs.Keys.{kept_of, EachKey}
-use Rattle.record_join.specs.KeyByKey.{Takes, TakesMessage}
+use Rattle.record_join.specs.KeyByKey.{EachTakes, Takes, TakesMessage}
 use Rattle.record_join.specs.Repeats.{IsKeptIn}
-use Rattle.record_replay.specs.Batches.{message_item}
+use Rattle.record_join.specs.Taking.{AreNewIn}
+use Rattle.record_replay.specs.Batches.{message_item, message_items}
 use Rattle.record_replay.specs.declared.state.KeyState.{KeyState}
 use Rattle.record_replay.specs.declared.state.KeyState.TheVariants.{Active}
 use Rattle.desk_machine.specs.States.{State, key_standing, key_state, state_in}
@@ -101,12 +102,30 @@ pub record IsOwnGrant (old : Contents) (key : PubKey) (m : Message) (new : Conte
   pub added : Takes TakesMessage roomier new.keys key m
   pub states : new.states ≡ old.states
 
+-- each record takes its message in, after room was made for it
+pub record AreTakenIn (old : List (PubKey × Parts)) (ps : List (PubKey × Message)) (new : List (PubKey × Parts)) : Type 0 where
+  pub roomier : List (PubKey × Parts)
+  pub same : EachKey SameParts old roomier
+  pub added : EachTakes TakesMessage ps roomier new
+
+-- Messages that are kept without a grant rest on the keys' own records as well: no disk has failed, each key may sign, and its record lets its
+-- message pass and does not keep it yet; they are written by one batch, and each record has its message from now on. Each other
+-- record keeps what it kept.
+pub record IsOwnRecord (old : Contents) (ps : List (PubKey × Message)) (new : Contents) : Type 0 where
+  pub up : old.torn ≡ None
+  pub may_sign : (one : PubKey × Message) → Contains ps one → MaySignHere old one.0
+  pub unkept : AreNewIn old.keys ps
+  pub is_written : new.payloads ≡ old.payloads ++ payloads_of (message_items ps)
+  pub taken : AreTakenIn old.keys ps new.keys
+  pub states : new.states ≡ old.states
+
 -- the same of leave, of what a watch bars, of what is told: the kept keys in order, each with its state and as its watch stands;
 -- whether the disk has failed; the size of the journal's payloads, and the weight of the kept records; and of a compaction
 abbrev pub IsOwn : Contents → DeskCall → DeskReply → Contents → Type 0
 IsOwn old (call.Propose key m now) (reply.Granted grant) new = IsOwnGrant old key m new
 IsOwn old (call.Propose key m now) (reply.Live epoch) new = IsOwnBar old key (reply.Live epoch)
 IsOwn old (call.Propose key m now) (reply.Watching first second) new = IsOwnBar old key (reply.Watching first second)
+IsOwn old (call.Record ps now) reply.Recorded new = IsOwnRecord old ps new
 IsOwn old (call.Allow key now) (reply.Granted grant) new = IsOwnLeave old key new
 IsOwn old (call.Allow key now) (reply.Live epoch) new = IsOwnBar old key (reply.Live epoch)
 IsOwn old (call.Allow key now) (reply.Watching first second) new = IsOwnBar old key (reply.Watching first second)

@@ -4,6 +4,7 @@ pub mod Standing
 pub mod DeskBatches
 pub mod Compacting
 pub mod Exporting
+pub mod Bars
 pub mod Calls
 pub mod Images
 pub mod Marking

@@ -1,5 +1,5 @@
 -- What is refused before the desk changes, and what a write that was refused makes of the reply.
-use Rattle.std.specs.Prelude.{◌≡◌, ◌⊎◌, ℕ, ◌+◌, ◌<◌, ◌≤◌, max, length, List, None, Result, Ok, Err, IsSomeAnd}
+use Rattle.std.specs.Prelude.{◌≡◌, ◌⊎◌, ℕ, ◌+◌, ◌<◌, ◌≤◌, max, length, List, Contains, Option, None, Result, Ok, Err, IsSome, IsSomeAnd}
 use Rattle.edge_kit.specs.declared.bytes.PubKey.{PubKey}
 use Rattle.slash_defs.specs.declared.book.File.{File}
 use Rattle.slash_defs.specs.declared.message.Message.{Message}
@@ -9,12 +9,14 @@ use Rattle.protect_record.specs.Pasts.{Past}
 use Rattle.protect_record.specs.Passing.{Passes}
 use Rattle.record_codec.specs.declared.item.JournalItem.{JournalItem}
 use Rattle.record_join.specs.Keys.{kept_of}
-use Rattle.record_join.specs.BooksPasts.{IsRefusal, key_limit, new_keys}
-use Rattle.record_replay.specs.Batches.{file_items}
+use Rattle.record_join.specs.BooksPasts.{AreNew, BooksStand, IsRefusal, key_limit, new_keys}
+use Rattle.record_replay.specs.Batches.{file_items, message_items}
 use Rattle.record_journal.specs.Journals.{Journaled}
 use Rattle.record_journal.specs.declared.log.AppendFault.{AppendFault}
 use Rattle.desk_machine.specs.declared.call.DeskReply.{DeskReply}
 use Rattle.desk_machine.specs.declared.call.DeskReply.TheVariants as reply
+use Rattle.desk_machine.specs.Machine.{IsUp, MaySign}
+use Rattle.desk_machine.specs.States.{State}
 use Rattle.check_sign.specs.Contents.{Contents}
 use Rattle.check_sign.specs.Writing.{Wrote, refusal_of}
 
@@ -54,3 +56,22 @@ MayForbid reply.Unknown = Unit {0}
 MayForbid (reply.Refused v) = Unit {0}
 MayForbid reply.OutOfMemory = Unit {0}
 MayForbid r = ⊥
+
+-- why messages were not kept: of one the past does not let it pass or has it already, and nothing was written; there was no room for one, and
+-- nothing was written; or each is new to the past of its key, and the reply names the fault
+abbrev pub IsUnkept : {D : Type 0} → (D → ℕ) → Journaled D → List (PubKey × Parts) → List (PubKey × Message) → Journaled D → DeskReply → Type 0
+IsUnkept faults old kept listed new r =
+    ((r ≡ reply.Unfit) × ((pasts : List (PubKey × Past)) → BooksStand kept pasts → ¬ (AreNew pasts listed)) × (new ≡ old))
+    ⊎ (((r ≡ reply.OutOfMemory) × (new ≡ old))
+    ⊎ (((pasts : List (PubKey × Past)) → BooksStand kept pasts → AreNew pasts listed) × ToldFault faults old (message_items listed) new r))
+
+-- one of these keys may not sign, or the disk has failed
+abbrev pub BarsOne : State → List (PubKey × Message) → DeskReply → Type 0
+BarsOne state listed reply.Disk = IsSome state.torn
+BarsOne state listed reply.Unfit = IsUp state × ((one : PubKey × Message) × Contains listed one × ¬ (MaySign state one.0))
+BarsOne state listed r = ⊥
+
+abbrev pub IsUnable : Option (List (List ℕ)) → DeskReply → Type 0
+IsUnable torn reply.Disk = IsSome torn
+IsUnable torn reply.Unfit = Unit {0}
+IsUnable torn r = ⊥

@@ -6,7 +6,7 @@ ghost use Rattle.record_journal.specs.Journals.{journal_size};
 ghost use Rattle.check_sign.specs.Calls.{IsCallOf};
 
 use crate::desk::Desk;
-use desk_machine::{DeskCall, DeskReply, Grant, Keys, Outcome};
+use desk_machine::{DeskCall, DeskReply, Grant, Keys, Outcome, Proposals};
 use edge_kit::{Disk, PubKey};
 use slash_defs::{File, Message};
 
@@ -41,6 +41,18 @@ impl<D: Disk> Desk<D> {
         ensures { IsCallOf D.moment D.leaves D.faults self.old self.new (DeskCall.Propose key message now) result }
     {
         self.call(DeskCall::Propose { key, message, now })
+    }
+
+    /// Keeps messages, each of another key, by one batch and without a grant, exactly where each key is active, its
+    /// watch allows it, and its past lets the message pass and does not have it yet. A proposal of any of them is a
+    /// repeat after that, and writes nothing. Refused by `Disk` where the disk failed, by `Unfit`, and by
+    /// `OutOfMemory`, `Full` and `Disk`; a torn write leaves all of them or none.
+    pub fn record(&mut self, proposals: Proposals, now: u64) -> DeskReply
+        requires once { EachOnce proposals }
+        requires now { now ≤ moment_limit }
+        ensures { IsCallOf D.moment D.leaves D.faults self.old self.new (DeskCall.Record proposals now) result }
+    {
+        self.call(DeskCall::Record { proposals, now })
     }
 
     /// Grants leave to sign what is no block and no vote, exactly where the key is active and its watch allows it.

@@ -90,6 +90,7 @@ impl<D: Disk> Desk<D> {
             DeskCall::Merge { file } => self.merge_file(file),
             DeskCall::Activate { key, now } => self.activate_key(key, now),
             DeskCall::Propose { key, message, now } => self.propose_message(key, message, now),
+            DeskCall::Record { proposals, now } => self.record_messages(proposals, now),
             DeskCall::Allow { key, now } => self.allow_key(key, now),
             DeskCall::Answer {
                 key,

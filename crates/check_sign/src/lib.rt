@@ -14,11 +14,12 @@ mod merging;
 mod open;
 mod proposing;
 mod reads;
+mod recording;
 mod writing;
 
 pub use desk::Desk;
 pub use desk_machine::{
     DeskCall, DeskCalls, DeskEvent, DeskReply, Event, Events, Grant, KeyStanding, KeyStandings,
-    KeyState, Keys, MOMENT_LIMIT, OpenGrant, Outcome, WatchState,
+    KeyState, Keys, MOMENT_LIMIT, OpenGrant, Outcome, Proposals, WatchState,
 };
 pub use open::OpenFault;

@@ -5,7 +5,7 @@ ghost use Rattle.slash_defs.specs.declared.book.File.{File};
 ghost use Rattle.interchange_io.specs.WrittenOrder.{canonical};
 ghost use Rattle.record_codec.specs.Spelling.{IsBatch};
 ghost use Rattle.record_join.specs.Repeats.{repeats};
-ghost use Rattle.record_replay.specs.Batches.{book_items, file_items, message_item};
+ghost use Rattle.record_replay.specs.Batches.{book_items, file_items, message_item, message_items};
 ghost use Rattle.protect_record.specs.Pasts.{Past};
 ghost use Rattle.desk_machine.specs.Written.{proposal_items};
 ghost use Rattle.check_sign.specs.Writing.{HoldsJournal, Moved, Wrote, refusal_of};
@@ -15,7 +15,7 @@ use edge_kit::{Disk, PubKey};
 use interchange_io::in_written_order;
 use record_codec::{JournalItem, encode};
 use record_journal::{AppendFault, Journal};
-use record_replay::{book_items, file_items, message_item};
+use record_replay::{book_items, file_items, message_item, message_items};
 use slash_defs::{Book, File, Message};
 use std::alloc::{AllocError, Global};
 
@@ -113,6 +113,35 @@ pub fn write_message<D: Disk>(
         return write_items(journal, alloc, &[]);
     }
     write_items(journal, alloc, &[message_item(key, message)])
+}
+
+/// Writes messages, each of another key, by one batch. None writes nothing.
+pub fn write_messages<D: Disk>(
+    journal: &mut Journal<D>,
+    alloc: Global,
+    listed: &[(PubKey, Message)],
+) -> Result<(), AppendFault>
+    requires up { journal.old.torn ≡ None }
+    requires held { (g : Root) × HoldsJournal D.moment D.leaves g journal.old }
+    ensures wrote { Wrote D.faults journal.old (message_items listed.now) journal.new result }
+    ensures moved { Moved D.moment D.leaves D.faults journal.old journal.new }
+    ensures holds { (g : Root) → HoldsJournal D.moment D.leaves g journal.old → HoldsJournal D.moment D.leaves g journal.new }
+{
+    match items_of_messages(alloc, listed) {
+        Ok(items) => write_items(journal, alloc, &items),
+        Err(AllocError) => Err(AppendFault::OutOfMemory),
+    }
+}
+
+/// The items of messages, each of its key.
+fn items_of_messages(
+    alloc: Global,
+    listed: &[(PubKey, Message)],
+) -> Result<Vec<JournalItem>, AllocError>
+    ensures items { IfOk result (λ items. items.items ≡ message_items listed.now) }
+    ensures batch { IfOk result (λ items. (items.items ≡ []) ⊎ IsBatch items.items) }
+{
+    message_items(alloc, listed)
 }
 
 /// What the desk replies where nothing was written.

@@ -40,6 +40,7 @@ quiet_call gs (call.Settle grant o) r h = absurd h
 quiet_call gs (call.BeginClose key) r h = refl
 quiet_call gs (call.FinishClose key) r h = refl
 quiet_call gs (call.Export keys) r h = refl
+quiet_call gs (call.Record ps now) r h = refl
 quiet_call gs (call.Prune key) r h = refl
 quiet_call gs call.Keys r h = refl
 quiet_call gs call.HasFailed r h = refl

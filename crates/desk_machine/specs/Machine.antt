@@ -1,5 +1,5 @@
 -- The desk as a machine: which replies it may give, and the state after a reply.
-use Rattle.std.specs.Prelude.{◌≡◌, ◌≢◌, ℕ, ◌+◌, ◌-◌, ◌^◌, ◌<◌, ◌≤◌, ◌⊎◌, max, is_some, length, map, List, [], ◌∷◌, ◌++◌, Contains, Option, Some, None, IsSome, IsSomeAnd}
+use Rattle.std.specs.Prelude.{◌≡◌, ◌≢◌, ℕ, ◌+◌, ◌-◌, ◌^◌, ◌<◌, ◌≤◌, ◌⊎◌, max, is_some, false, length, map, List, [], ◌∷◌, ◌++◌, Contains, Option, Some, None, IsSome, IsSomeAnd}
 use Rattle.std.specs.Map.{keys_of}
 use Rattle.edge_kit.specs.declared.bytes.PubKey.{PubKey}
 use Rattle.slash_defs.specs.declared.message.Message.{Message}
@@ -9,8 +9,9 @@ use Rattle.protect_record.specs.Passing.{Passes}
 use Rattle.interchange_io.specs.WrittenOrder.{canonical}
 use Rattle.record_codec.specs.declared.item.JournalItem.TheVariants as item
 use Rattle.record_join.specs.Keys.{with_key, with_kept}
-use Rattle.record_join.specs.BooksPasts.{EachOnce, IsRefusal, new_keys, with_file, own_grown, key_limit}
-use Rattle.record_replay.specs.Batches.{file_items}
+use Rattle.record_join.specs.Repeats.{repeats}
+use Rattle.record_join.specs.BooksPasts.{EachOnce, IsRefusal, new_keys, with_file, with_messages, own_grown, key_limit}
+use Rattle.record_replay.specs.Batches.{file_items, message_items}
 use Rattle.record_replay.specs.Replaying.{with_known}
 use Rattle.record_replay.specs.Pruning.{pruning_of}
 use Rattle.record_replay.specs.declared.state.KeyState.TheVariants.{Active, Closing, Closed}
@@ -37,11 +38,13 @@ moment_limit = moments.moment_limit
 abbrev pub last_generation : ℕ
 last_generation = 2 ^ 64 - 1
 
--- what a call takes for granted: a moment within the limit, a grant that is open at this desk, a file that lists each key once
+-- what a call takes for granted: a moment within the limit, a grant that is open at this desk, a file that lists each key once, messages
+-- each of another key
 abbrev pub MayCall : List OpenGrant → DeskCall → Type 0
 MayCall grants (call.Merge file) = EachOnce file.books
 MayCall grants (call.Activate key now) = now ≤ moment_limit
 MayCall grants (call.Propose key m now) = now ≤ moment_limit
+MayCall grants (call.Record ps now) = EachOnce ps × (now ≤ moment_limit)
 MayCall grants (call.Allow key now) = now ≤ moment_limit
 MayCall grants (call.Answer key epoch live now) = now ≤ moment_limit
 MayCall grants (call.Settle grant outcome) = Contains grants grant
@@ -84,6 +87,13 @@ IsWatchable state key = IsSome (past_of state key) × (IsActive state key ⊎ Is
 abbrev pub MaySign : State → PubKey → Type 0
 MaySign state key = IsKeptActive state key × IsAllowed state key
 
+-- the key's past lets the message pass and does not have it yet, and nothing else bars the key from signing
+abbrev pub IsFresh : State → PubKey → Message → Type 0
+IsFresh state key m = ActiveAnd state key (λ past. Passes past m × (repeats past m ≡ false)) × IsAllowed state key
+
+abbrev pub AreFresh : State → List (PubKey × Message) → Type 0
+AreFresh state ps = (one : PubKey × Message) → Contains ps one → IsFresh state one.0 one.1
+
 -- ---- replies
 
 -- no disk has failed since the desk was opened
@@ -95,6 +105,7 @@ abbrev pub Proceeds : State → DeskCall → Type 0
 Proceeds state (call.Merge file) = FitsFile state file
 Proceeds state (call.Activate key now) = IsIdle state key × FitsOne state key
 Proceeds state (call.Propose key m now) = ActiveAnd state key (λ past. Passes past m) × IsAllowed state key
+Proceeds state (call.Record ps now) = AreFresh state ps
 Proceeds state (call.Allow key now) = MaySign state key
 Proceeds state (call.Answer key epoch live now) = IsWatchable state key
 Proceeds state (call.Settle grant outcome) = Unit {0}
@@ -160,6 +171,11 @@ Reply state (call.Propose key m now) (reply.Refused v) = IsUp state × ActiveAnd
 Reply state (call.Propose key m now) reply.OutOfMemory = MayWant state (call.Propose key m now)
 Reply state (call.Propose key m now) (reply.Full size wanted) = IsTooMuch state (call.Propose key m now) size wanted
 Reply state (call.Propose key m now) (reply.Granted grant) = Succeeds state (call.Propose key m now) × (grant ≡ grant_for state key m)
+Reply state (call.Record ps now) reply.Disk = MayFail state (call.Record ps now)
+Reply state (call.Record ps now) reply.Unfit = IsUp state × ¬ (AreFresh state ps)
+Reply state (call.Record ps now) reply.OutOfMemory = IsUp state
+Reply state (call.Record ps now) (reply.Full size wanted) = IsTooMuch state (call.Record ps now) size wanted
+Reply state (call.Record ps now) reply.Recorded = Succeeds state (call.Record ps now)
 Reply state (call.Allow key now) reply.Disk = MayFail state (call.Allow key now)
 Reply state (call.Allow key now) reply.Unknown = IsBarred state key reply.Unknown
 Reply state (call.Allow key now) reply.NotActive = IsBarred state key reply.NotActive
@@ -208,6 +224,7 @@ Reply state c r = ⊥
 abbrev pub latest_after : ℕ → DeskCall → ℕ
 latest_after latest (call.Activate key now) = max latest now
 latest_after latest (call.Propose key m now) = max latest now
+latest_after latest (call.Record ps now) = max latest now
 latest_after latest (call.Allow key now) = max latest now
 latest_after latest (call.Answer key epoch live now) = max latest now
 latest_after latest c = latest
@@ -222,6 +239,7 @@ abbrev pub lasting_after : State → DeskCall → Lasting
 lasting_after state (call.Merge file) = record { keys = with_file state.keys file.books; states = state.states; size = state.size + frame_size (file_items (canonical file).books); generation = state.generation }
 lasting_after state (call.Activate key now) = record { keys = with_known state.keys key; states = with_key state.states key Active; size = state.size + frame_size (item.Activate key ∷ []); generation = state.generation }
 lasting_after state (call.Propose key m now) = record { keys = own_grown state.keys key m; states = state.states; size = state.size + frame_size (proposal_items (past_of state key) key m); generation = state.generation }
+lasting_after state (call.Record ps now) = record { keys = with_messages state.keys ps; states = state.states; size = state.size + frame_size (message_items ps); generation = state.generation }
 lasting_after state (call.BeginClose key) = record { keys = state.keys; states = with_kept state.states key Closing; size = state.size; generation = state.generation }
 lasting_after state (call.FinishClose key) = record { keys = state.keys; states = with_kept state.states key Closed; size = state.size + frame_size (item.Close key ∷ []); generation = state.generation }
 lasting_after state (call.Prune key) = record { keys = pruned_keys state.keys key (past_of state key); states = state.states; size = state.size + frame_size (prune_items key (past_of state key)); generation = state.generation }
@@ -255,6 +273,7 @@ abbrev pub after : State → DeskCall → DeskReply → State
 after state (call.Merge file) (reply.Merged keys) = changed state (call.Merge file)
 after state (call.Activate key now) reply.Active = changed state (call.Activate key now)
 after state (call.Propose key m now) (reply.Granted grant) = record (changed state (call.Propose key m now)) { grants = state.grants ++ grant ∷ []; next = state.next + 1 }
+after state (call.Record ps now) reply.Recorded = changed state (call.Record ps now)
 after state (call.Allow key now) (reply.Granted grant) = record (changed state (call.Allow key now)) { grants = state.grants ++ grant ∷ []; next = state.next + 1 }
 after state (call.Answer key epoch live now) reply.Noted = changed state (call.Answer key epoch live now)
 after state (call.Settle grant outcome) reply.Settled = record state { grants = without state.grants grant.number }

@@ -8,7 +8,7 @@ use Rattle.record_codec.specs.Spelling.{spelling}
 use Rattle.record_codec.specs.declared.item.JournalItem.{JournalItem}
 use Rattle.record_codec.specs.declared.item.JournalItem.TheVariants as item
 use Rattle.record_join.specs.Repeats.{repeats}
-use Rattle.record_replay.specs.Batches.{book_items, file_items, message_item}
+use Rattle.record_replay.specs.Batches.{book_items, file_items, message_item, message_items}
 use Rattle.record_replay.specs.Pruning.{pruning_of}
 use Rattle.desk_machine.specs.States.{State, past_of}
 use Rattle.desk_machine.specs.Snapshots.{snapshot_size}
@@ -30,6 +30,7 @@ abbrev pub written : State → DeskCall → List JournalItem
 written state (call.Merge file) = file_items (canonical file).books
 written state (call.Activate key now) = item.Activate key ∷ []
 written state (call.Propose key m now) = proposal_items (past_of state key) key m
+written state (call.Record ps now) = message_items ps
 written state (call.Allow key now) = []
 written state (call.Answer key epoch live now) = []
 written state (call.Settle grant outcome) = []

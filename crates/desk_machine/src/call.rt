@@ -12,6 +12,9 @@ use slash_defs::{Book, File, Message};
 /// Keys, in any order.
 pub type Keys = Items<PubKey>;
 
+/// Messages, each of another key.
+pub type Proposals = Items<(PubKey, Message)>;
+
 /// How a kept key stands.
 #[derive(Clone, Copy, PartialEq, Eq, Debug)]
 pub enum KeyStanding {
@@ -80,6 +83,12 @@ pub enum DeskCall {
         message: Message,
         now: u64,
     },
+    /// Keeps messages, each of another key, of which each would be granted and is not kept yet: by one batch, and
+    /// without a grant. A proposal of any of them is a repeat after that.
+    Record {
+        proposals: Proposals,
+        now: u64,
+    },
     /// Asks for leave to have something signed by a key that is no block and no vote.
     Allow {
         key: PubKey,
@@ -133,6 +142,8 @@ pub enum DeskReply {
     Already,
     /// What was asked for may be signed and sent.
     Granted(Grant),
+    /// The messages are kept.
+    Recorded,
     /// What was told of the key is noted.
     Noted,
     /// The grant is spent.
@@ -175,6 +186,8 @@ pub enum DeskReply {
     Watching { first: u64, second: Option<u64> },
     /// The key's past forbids the message; never `Verdict::Pass`.
     Refused(Verdict),
+    /// One of the messages would not be granted, or is kept already. But for the latest moment, the desk is as before.
+    Unfit,
     /// `have` keys are kept, and with the `new` ones there would be more than 65,536.
     TooManyKeys { have: u64, new: u64 },
     /// The current file has the generation 2^64 - 1, behind which there is none. The desk is as before.

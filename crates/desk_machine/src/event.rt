@@ -1,5 +1,5 @@
 //! What the desk did, as plain data.
-use crate::call::Outcome;
+use crate::call::{Outcome, Proposals};
 use edge_kit::PubKey;
 use past_items::Past;
 use slash_defs::{Book, File, Message};
@@ -20,6 +20,10 @@ pub enum Event {
         key: PubKey,
         message: Message,
         grant: u64,
+    },
+    /// Messages were kept without a grant; one at least.
+    Recorded {
+        proposals: Proposals,
     },
     /// Leave was given to sign what is no block and no vote.
     Allowed {

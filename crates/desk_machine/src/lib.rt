@@ -10,7 +10,7 @@ mod open_grant;
 mod open_grants;
 mod watches;
 
-pub use call::{DeskCall, DeskReply, KeyStanding, KeyStandings, Keys, Outcome};
+pub use call::{DeskCall, DeskReply, KeyStanding, KeyStandings, Keys, Outcome, Proposals};
 pub use desk_calls::DeskCalls;
 pub use doppel_watch::{MOMENT_LIMIT, WatchState};
 pub use event::{DeskEvent, Event, Events};

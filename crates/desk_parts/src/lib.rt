@@ -4,5 +4,7 @@
 mod room;
 mod weighing;
 
-pub use room::{fits_one, give, give_leave, make_room, note, note_closed, note_merge, note_pruned};
+pub use room::{
+    fits_one, give, give_leave, make_room, note, note_closed, note_merge, note_pruned, note_record,
+};
 pub use weighing::weigh;

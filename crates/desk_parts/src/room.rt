@@ -2,9 +2,9 @@
 ghost use Rattle.std.specs.Prelude.{◌≡◌, ◌+◌, ◌-◌, ◌^◌, ◌<◌, ◌⊎◌, ◌↔◌, ◌++◌, ◌∷◌, [], false, None, Some, IsSome, IsTrue, length};
 ghost use Rattle.record_join.specs.Keys.{kept_of};
 ghost use Rattle.record_join.specs.BooksPasts.{key_limit};
-ghost use Rattle.desk_machine.specs.Noted.{noted_merge};
+ghost use Rattle.desk_machine.specs.Noted.{noted_merge, noted_record};
 
-use desk_machine::{DeskEvent, Event, Events, Grant, OpenGrants};
+use desk_machine::{DeskEvent, Event, Events, Grant, OpenGrants, Proposals};
 use edge_kit::PubKey;
 use record_join::{Books, KEY_LIMIT};
 use slash_defs::{Book, File, Message};
@@ -79,6 +79,15 @@ pub fn note_merge(events: &mut Events, file: File, moment: u64)
 {
     if !file.books.is_empty() {
         note(events, Event::Merged { file }, moment);
+    }
+}
+
+/// Notes that messages were kept. None is not noted.
+pub fn note_record(events: &mut Events, proposals: Proposals, moment: u64)
+    ensures { events.new.items ≡ events.old.items ++ noted_record moment proposals }
+{
+    if !proposals.is_empty() {
+        note(events, Event::Recorded { proposals }, moment);
     }
 }
 

@@ -3,6 +3,7 @@ use Rattle.std.proofs.Common.{◌≡◌, ℕ, zero, suc, true, false, List, [], 
 use Rattle.edge_kit.specs.declared.bytes.PubKey.{PubKey}
 use Rattle.slash_defs.specs.declared.book.Book.{Book}
 use Rattle.slash_defs.specs.declared.book.File.{File}
+use Rattle.slash_defs.specs.declared.message.Message.{Message}
 use Rattle.desk_machine.specs.declared.call.DeskCall.TheVariants as call
 use Rattle.desk_machine.specs.declared.call.DeskReply.{DeskReply}
 use Rattle.desk_machine.specs.declared.call.DeskReply.TheVariants as reply
@@ -15,15 +16,18 @@ use Rattle.duty_plans.specs.declared.task.Task.{Task}
 use Rattle.duty_plans.specs.Choices.{aggregate_tasks, reports}
 use Rattle.duty_plans.specs.Ends.{merged, results_of}
 use Rattle.duty_plans.specs.Tasks.{again_tasks, fresh}
+use Rattle.duty_plans.specs.Votes.{data_tasks, vote_ends, vote_tasks}
+use Rattle.duty_plans.specs.declared.work.SlotWork.{SlotWork}
 use Rattle.duty_plans.specs.declared.setup.DutySetup.{DutySetup}
 use Rattle.duty_turns.specs.declared.held.DutyEnd.{DutyEnd}
 use Rattle.duty_turns.specs.declared.held.DutyEnd.TheVariants as end
+use Rattle.duty_turns.specs.Recording.{free_of, recorded}
 use Rattle.duty_turns.specs.Lines.{aggregate_lines, duty_lines}
 use Rattle.duty_turns.specs.Standing.{Standing}
 use Rattle.duty_pruning.specs.Pruning.{pruning_file}
 use Rattle.duty_turns.specs.Times.{again_start, aggregates_start, epoch_of, is_first_slot, is_missed, next_slot, slot_start, votes_start}
 use Rattle.duty_turns.specs.TurnSteps.{TurnPlan, TurnReply, TurnStep, Fits, Own, Owned, Writes, Wrote}
-use Rattle.duty_turns.specs.Turns.{Next, NextPlan, active_of, after_wait, again_plan, aggregates_plan, asked_plan, at_moment, at_slot, blocks_in, calls, choices_of, chooses_plan, close_plan, due_plan, exported, exports, failed_plan, finish_plan, gathers_plan, keys_of_turn, left_plan, merges, listed_plan, next_turn, own_reply, prunes, puts, ready_plan, report_plan, refreshes, refreshes_lanes, is_worth_compacting, shortens, sized, told_plan, tried_plan, turn_plan, turns_plan, unless_short, votes_in, votes_plan, waits, with_active, woken_plan, work_of, works, wrote}
+use Rattle.duty_turns.specs.Turns.{Next, NextPlan, active_of, after_wait, again_plan, aggregates_plan, asked_plan, at_moment, at_slot, blocks_in, calls, casts, choices_of, chooses_plan, close_plan, due_plan, exported, exports, failed_plan, finish_plan, gathers_plan, keys_of_turn, left_plan, merges, listed_plan, next_turn, own_reply, prunes, puts, ready_plan, records, records_free, records_votes, report_plan, refreshes, refreshes_lanes, is_worth_compacting, shortens, sized, told_plan, tried_plan, turn_plan, turns_plan, unless_short, votes_in, votes_plan, waits, with_active, woken_plan, work_of, works, wrote}
 use Rattle.duty_loop.proofs.GivesLemmas.{Always, Gives, Said, calls_always, gives_ask, gives_bind, gives_done, if_always, looks_up_always, refreshes_always, refreshes_lanes_always, stop_always, waits_always, works_always}
 use Rattle.duty_loop.proofs.PartLemmas.{EndInCut, WhyNone, asked_part}
 
@@ -140,15 +144,33 @@ left_turn : (setup : DutySetup) (s : Standing) (ds : List Duty) (ends : List End
 left_turn setup s ds ends [] = told_turn setup s ds ends (results_of ends)
 left_turn setup s ds ends (t ∷ tasks) = waits_always (Why Standing) (again_start setup.genesis_time s.slot) (tried_plan setup s ds ends (t ∷ tasks)) (tried_turn setup s ds ends (t ∷ tasks))
 
+records_turn : (now : ℕ) (ms : List (PubKey × Message)) (p : NextPlan) → IsTurn p → IsTurn (records now ms p)
+records_turn now [] p h = h
+records_turn now (m ∷ ms) p h = calls_always (Why Standing) (call.Record (m ∷ ms) now) (λ r. unless_short r p) (unless_short_turn p h)
+
+records_free_turn : (work : SlotWork) (tasks : List Task) (p : NextPlan) → IsTurn p → (r : DeskReply) → IsTurn (records_free work tasks r p)
+records_free_turn work tasks p h (reply.Keys listed) = records_turn work.moment (recorded work.domains (free_of listed) tasks) p h
+records_free_turn work tasks p h r = stop_always (Why Standing)
+
+records_votes_turn : (work : SlotWork) (tasks : List Task) (p : NextPlan) → IsTurn p → IsTurn (records_votes work tasks p)
+records_votes_turn work [] p h = h
+records_votes_turn work (t ∷ tasks) p h = calls_always (Why Standing) call.Keys (λ r. records_free work (t ∷ tasks) r p) (records_free_turn work (t ∷ tasks) p h)
+
+casts_turn : (work : SlotWork) (place : ℕ) (votes : List Duty) (next_by : List Ended → NextPlan) → ((ends : List Ended) → IsTurn (next_by ends)) → IsTurn (casts work place votes next_by)
+casts_turn work place votes next_by h =
+    let cast : List Ended → NextPlan = λ asked. works work place (vote_tasks votes asked) (λ ends. next_by (vote_ends asked ends)) in
+    works_always (Why Standing) work place (data_tasks votes) (λ asked. records_votes work (vote_tasks votes asked) (cast asked)) (λ asked.
+    records_votes_turn work (vote_tasks votes asked) (cast asked) (works_always (Why Standing) work place (vote_tasks votes asked) (λ ends. next_by (vote_ends asked ends)) (λ ends. h (vote_ends asked ends))))
+
 votes_turn : (setup : DutySetup) (s : Standing) (ds : List Duty) (proposed : List Ended) (reached : ℕ) → IsTurn (votes_plan setup s ds proposed reached)
 votes_turn setup s ds proposed reached =
     let next = at_moment setup.genesis_time (votes_start setup.genesis_time s.slot) reached s in
     let place = length (blocks_in ds) in
     let all : List Duty = blocks_in ds ++ votes_in ds in
     let after : List Ended → NextPlan = λ cast. again_plan setup s all (proposed ++ cast) in
-    if_always (Why Standing) (is_missed setup.genesis_time s.slot (votes_start setup.genesis_time s.slot) reached) (close_plan setup s.slot (blocks_in ds) (results_of proposed) next) (works (work_of setup s) place (fresh (votes_in ds)) after)
+    if_always (Why Standing) (is_missed setup.genesis_time s.slot (votes_start setup.genesis_time s.slot) reached) (close_plan setup s.slot (blocks_in ds) (results_of proposed) next) (casts (work_of setup s) place (votes_in ds) after)
     (close_turn setup s.slot (blocks_in ds) (results_of proposed) next)
-    (works_always (Why Standing) (work_of setup s) place (fresh (votes_in ds)) after (λ cast. left_turn setup s all (proposed ++ cast) (again_tasks all (proposed ++ cast))))
+    (casts_turn (work_of setup s) place (votes_in ds) after (λ cast. left_turn setup s all (proposed ++ cast) (again_tasks all (proposed ++ cast))))
 
 due_turn : (setup : DutySetup) (s : Standing) (ds : List Duty) → IsTurn (due_plan setup s ds)
 due_turn setup s ds =

@@ -1,6 +1,6 @@
 -- What a duty goes on with: data that is its own, and a proof that the service gave.
-use Rattle.std.proofs.Common.{◌≡◌, ℕ, Bool, true, false, List, [], ◌∷◌, ◌++◌, Option, Some, None, refl, sym, ap, subst}
-use Rattle.std.specs.Prelude.{IfSome, if◌then◌else◌}
+use Rattle.std.proofs.Common.{◌≡◌, ℕ, Bool, true, false, List, [], ◌∷◌, ◌++◌, Option, Some, None, Result, Ok, Err, refl, sym, ap, subst}
+use Rattle.std.specs.Prelude.{Contains, IfSome, if◌then◌else◌}
 use Rattle.edge_kit.specs.declared.bytes.PubKey.{PubKey}
 use Rattle.edge_kit.specs.declared.bytes.Sig.{Sig}
 use Rattle.slash_defs.specs.declared.message.Message.{Message}
@@ -15,7 +15,14 @@ use Rattle.desk_machine.specs.declared.call.Outcome.TheVariants as outcome
 use Rattle.signer_link.specs.declared.request.SignRequest.{SignRequest}
 use Rattle.signer_link.specs.declared.reply.SignReply.{SignReply}
 use Rattle.signer_link.specs.declared.reply.SignReply.TheVariants as signing
+use Rattle.protect_record.proofs.MemberLemmas.{contains_first}
+use Rattle.node_calls.specs.declared.answer.Answer.{Answer}
+use Rattle.node_calls.specs.declared.answer.Answer.TheVariants as answer
 use Rattle.node_calls.specs.declared.answer.AttesterRow.{AttesterRow}
+use Rattle.node_calls.specs.declared.ask.Ask.TheVariants as ask
+use Rattle.node_fallback.specs.declared.no_node.NoAnswer.{NoAnswer}
+use Rattle.node_fallback.specs.declared.no_node.NoAnswer.TheVariants as none
+use Rattle.duty_schedule.specs.declared.checks.DataDiffers.{DataDiffers}
 use Rattle.node_calls.specs.declared.answer.ProposerRow.{ProposerRow}
 use Rattle.node_calls.specs.declared.post.Post.{Post}
 use Rattle.duty_schedule.specs.Aggregators.{is_aggregator}
@@ -35,10 +42,10 @@ use Rattle.duty_plans.specs.declared.task.Task.TheVariants as task
 use Rattle.duty_plans.specs.declared.work.SlotWork.{SlotWork}
 use Rattle.duty_plans.specs.Ends.{aggregation_of, barred, left_by, over}
 use Rattle.duty_plans.specs.Messages.{aggregate_message, aggregate_post, slot_request, vote_message, vote_post, vote_request, block_message, block_post, block_request}
-use Rattle.duty_plans.specs.Reading.{aggregate_of, block_of, grant_of, posted_of, signature_of, vote_of}
-use Rattle.duty_plans.specs.Steps.{DutyCall, DutyReply, DutyStep, DutyPlan, Calls, Reveals, Replies, Signed, Answered, Taken, Fits}
-use Rattle.duty_plans.specs.Plans.{answer_reply, desk_reply, post_reply, sign_reply, aggregate_plan, aggregated_plan, allowed_plan, block_plan, choose_plan, chosen_by, gathered_plan, granted_plan, made_plan, post_plan, proof_plan, publish_plan, revealed_plan, sent, settles, task_plan, under, vote_plan, voted_plan, with_got}
-use Rattle.duty_plans.specs.Repeats.{GoesOn, GoesOnWith, IsProvedIn}
+use Rattle.duty_plans.specs.Reading.{aggregate_of, block_of, grant_of, matching, nothing_of, posted_of, signature_of, vote_of}
+use Rattle.duty_plans.specs.Steps.{DutyCall, DutyReply, DutyStep, DutyPlan, Tried, Asks, Calls, Reveals, Replies, Signed, Answered, Taken, Fits, came_of}
+use Rattle.duty_plans.specs.Plans.{answer_reply, desk_reply, post_reply, sign_reply, aggregate_plan, aggregated_plan, allowed_plan, block_plan, choose_plan, chosen_by, data_plan, gathered_plan, granted_plan, made_plan, post_plan, proof_plan, publish_plan, revealed_plan, said, sent, settles, task_plan, under, vote_plan, voted_plan, with_got}
+use Rattle.duty_plans.specs.Repeats.{GoesOn, GoesOnWith, IsProvedIn, WasSaidIn}
 use Rattle.duty_plans.specs.Tasks.{IsOwnTask}
 use Rattle.duty_plans.proofs.DutyLemmas.{got_for, vote_got}
 
@@ -110,6 +117,75 @@ again_goes : (work : SlotWork) (row : AttesterRow) (unsent : Unsent) (steps : Li
 again_goes work row unsent steps None h = tt
 again_goes work row unsent steps (Some (votes.Voted details)) h = h
 again_goes work row unsent steps (Some (votes.Chosen details proof)) h = absurd h
+
+-- ---- a question goes on with what a node said
+
+matched_is : (o : Option DataDiffers) (x y : AttestationData) → matching o x ≡ got.Given y → x ≡ y
+matched_is None x y e = cc
+matched_is (Some differs) x y e = absurd cc
+
+nothing_not : (why : NoAnswer) (y : AttestationData) → nothing_of why ≡ got.Given y → ⊥
+nothing_not (none.NoNode causes) y e = absurd cc
+nothing_not none.OutOfMemory y e = absurd cc
+
+pub data_got : (row : AttesterRow) (a : Result Answer NoAnswer) (details : AttestationData) → vote_of row a ≡ got.Given details → a ≡ Ok (answer.Data details)
+data_got row (Ok (answer.Data given)) details e = ap (λ (x : AttestationData). Ok (answer.Data x)) (matched_is (first_that_differs (data_members row given)) given details e)
+data_got row (Ok a) details e = absurd cc
+data_got row (Err why) details e = absurd (nothing_not why details e)
+
+module _ (work : SlotWork) (row : AttesterRow) where
+  -- this call, with this reply, and what follows
+  abbrev Told : DutyCall → Tried Answer → List DutyStep → Ended → Type 0
+  Told c tried back e = GoesOn work (task.Data row) ((c, Answered tried) ∷ back) e
+
+  said_first : (c : DutyCall) (tried : Tried Answer) (back : List DutyStep) (details : AttestationData) → c ≡ Asks (ask.Data work.slot row.committee_index) → came_of tried ≡ Ok (answer.Data details)
+      → WasSaidIn ((c, Answered tried) ∷ back) work row details
+  said_first c tried back details is said = record {
+    tried = tried;
+    asked = subst (λ (x : DutyCall). Contains ((x, Answered tried) ∷ back) (Asks (ask.Data work.slot row.committee_index), Answered tried)) (sym is) (contains_first (Asks (ask.Data work.slot row.committee_index), Answered tried) back);
+    said = said;
+  }
+
+  told_done : (c : DutyCall) (tried : Tried Answer) (back rest : List DutyStep) (details : AttestationData) (e : Ended) → first_that_differs (data_members row details) ≡ None
+      → WasSaidIn ((c, Answered tried) ∷ back) work row details → Follows Fits (Done (said details)) rest (Some e) → Told c tried back e
+  told_done c tried back [] details e same was f = subst (λ (x : Ended). Told c tried back x) (sym f) (same, was)
+  told_done c tried back (s ∷ rest) details e same was f = absurd f
+
+  told_over : (c : DutyCall) (tried : Tried Answer) (back rest : List DutyStep) (by : DutyResult) (e : Ended) → Follows Fits (Done (over by)) rest (Some e) → Told c tried back e
+  told_over c tried back [] by e f = subst (λ (x : Ended). Told c tried back x) (sym f) tt
+  told_over c tried back (s ∷ rest) by e f = absurd f
+
+  told_stopped : (c : DutyCall) (tried : Tried Answer) (back rest : List DutyStep) (e : Ended) → Follows Fits (Stop) rest (Some e) → Told c tried back e
+  told_stopped c tried back [] e f = absurd f
+  told_stopped c tried back (s ∷ rest) e f = absurd f
+
+  told_by : (c : DutyCall) (tried : Tried Answer) (back rest : List DutyStep) (e : Ended) (g : Got AttestationData) → c ≡ Asks (ask.Data work.slot row.committee_index) → vote_of row (came_of tried) ≡ g
+      → Follows Fits (with_got over g (λ details. Done (said details))) rest (Some e) → Told c tried back e
+  told_by c tried back rest e (got.Given details) is given f =
+      told_done c tried back rest details e (vote_got row (came_of tried) details given) (said_first c tried back details is (data_got row (came_of tried) details given)) f
+  told_by c tried back rest e (got.Failed by) is given f = told_over c tried back rest by e f
+  told_by c tried back rest e got.Nothing is given f = told_stopped c tried back rest e f
+
+  data_goes : (steps : List DutyStep) (e : Ended) → Follows Fits (data_plan work row) steps (Some e) → GoesOn work (task.Data row) steps e
+  data_goes [] e f = absurd f
+  data_goes ((c, Answered tried) ∷ rest) e f = told_by c tried rest rest e (vote_of row (came_of tried)) f.0 refl f.2
+  data_goes ((c, Replies r) ∷ rest) e f = absurd f.1
+  data_goes ((c, Signed s) ∷ rest) e f = absurd f.1
+  data_goes ((c, Taken tried) ∷ rest) e f = absurd f.1
+
+-- ---- a vote for data goes on with it
+
+abbrev GoesGiven : AttestationData → Ended → Type 0
+GoesGiven details e = e.aggregation ≡ Some (votes.Voted details)
+
+goes_given : (work : SlotWork) (row : AttesterRow) (details : AttestationData) → AllEnds (GoesGiven details) (voted_plan work row details)
+goes_given work row details = ends_publish (GoesGiven details) row.pubkey (vote_message work.domains details) work.moment (granted.Vote details) (vote_request work details) (vote_post row details) (λ by. refl) (λ by. refl)
+
+pub cast_goes : (work : SlotWork) (row : AttesterRow) (details : AttestationData) (steps : List DutyStep) (e : Ended) → Follows Fits (task_plan work (task.Vote row details)) steps (Some e) → e.aggregation ≡ Some (votes.Voted details)
+cast_goes work row details steps e f = end_of (GoesGiven details) (voted_plan work row details) steps e (goes_given work row details) f
+
+given_goes : (work : SlotWork) (row : AttesterRow) (details : AttestationData) (steps : List DutyStep) (e : Ended) → first_that_differs (data_members row details) ≡ None → e.aggregation ≡ Some (votes.Voted details) → GoesOn work (task.Vote row details) steps e
+given_goes work row details steps e same is = subst (λ (o : Option Aggregation). IfSome o (GoesOnWith work (task.Vote row details) steps)) (sym is) (refl, same)
 
 -- ---- a block, and an aggregate, go on with nothing
 
@@ -212,5 +288,7 @@ task_goes work (task.Again (duty.Block row) granted.Reveal) steps e own f = none
 task_goes work (task.Again (duty.Vote row) granted.Reveal) steps e own f = absurd own
 task_goes work (task.Again (duty.Vote row) (granted.Block block)) steps e own f = absurd own
 task_goes work (task.Again (duty.Block row) (granted.Vote details)) steps e own f = absurd own
+task_goes work (task.Data row) steps e own f = data_goes work row steps e f
+task_goes work (task.Vote row details) steps e own f = given_goes work row details steps e own (cast_goes work row details steps e f)
 task_goes work (task.Choose row details) steps e own f = choose_goes work row details steps e f
 task_goes work (task.Aggregate row details proof) steps e own f = none_goes work (task.Aggregate row details proof) steps e (end_of GoesNot (aggregate_plan work row details proof) steps e (ends_aggregate work row details proof) f)

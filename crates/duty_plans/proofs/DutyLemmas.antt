@@ -50,9 +50,9 @@ use Rattle.duty_plans.specs.Ends.{barred, left_by, over}
 use Rattle.duty_plans.specs.Messages.{aggregate_message, aggregate_post, aggregate_request, block_message, block_post, block_request, details_root, reveal_request, slot_request, vote_message, vote_post, vote_request}
 use Rattle.duty_plans.specs.Reading.{aggregate_of, block_of, grant_of, judged, matching, nothing_of, posted_of, signature_of, vote_of}
 use Rattle.duty_plans.specs.Steps.{DutyCall, DutyReply, DutyStep, DutyPlan, Calls, Signs, Reveals, Asks, Posts, Replies, Signed, Answered, Taken, Fits}
-use Rattle.duty_plans.specs.Plans.{answer_reply, desk_reply, post_reply, sign_reply, aggregate_plan, aggregated_plan, allowed_plan, block_plan, choose_plan, chosen_by, gathered_plan, granted_plan, made_plan, post_plan, proof_plan, publish_plan, revealed_plan, sent, settles, task_plan, under, vote_plan, voted_plan, with_got}
+use Rattle.duty_plans.specs.Plans.{answer_reply, desk_reply, post_reply, sign_reply, aggregate_plan, aggregated_plan, allowed_plan, block_plan, choose_plan, chosen_by, data_plan, gathered_plan, granted_plan, made_plan, post_plan, proof_plan, publish_plan, revealed_plan, said, sent, settles, task_plan, under, vote_plan, voted_plan, with_got}
 use Rattle.duty_plans.specs.Results.{failed_answer, failed_duty, failed_in, failure_of, first_failure, first_of, result_by}
-use Rattle.duty_plans.specs.Owning.{AllCall, AllOwn, IsGrantOf, IsOfAggregate, IsOfChoice, IsOfDuty, IsOwn, IsOwnAggregate, IsOwnBlock, IsOwnVote, IsPlainGrantOf, SignsOwn, PostsOwn, RevealsOwn}
+use Rattle.duty_plans.specs.Owning.{AllCall, AllOwn, IsGrantOf, IsOfAggregate, IsOfChoice, IsOfData, IsOfDuty, IsOwn, IsOwnAggregate, IsOwnBlock, IsOwnVote, IsPlainGrantOf, SignsOwn, PostsOwn, RevealsOwn}
 use Rattle.duty_plans.specs.Repeats.{AllPropose, Proposes}
 use Rattle.duty_plans.specs.Tasks.{IsOwnTask, duty_of, owner_of, unsent_message}
 
@@ -182,6 +182,12 @@ only_vote work row = (
   λ r f. only_got (IsOfDuty work (duty.Vote row)) over (vote_of row (answer_reply r)) (λ details. voted_plan work row details) (λ details e. only_voted work row details (vote_got row (answer_reply r) details e)),
 )
 
+only_data : (work : SlotWork) (row : AttesterRow) → Only (IsOfData work row) (data_plan work row)
+only_data work row = (
+  refl,
+  λ r f. only_got (IsOfData work row) over (vote_of row (answer_reply r)) (λ details. Done (said details)) (λ details e. tt),
+)
+
 made_own : (work : SlotWork) (row : ProposerRow) (block : AnyBlock) (grant : OpenGrant) → first_that_differs (block_members row.slot work.altair block) ≡ None
     → IsGrantOf grant row.pubkey (block_message work.domains block) → IsOwnBlock work row grant block
 made_own work row block grant same of = record { same = same; leave = of }
@@ -261,6 +267,8 @@ task_own work (task.Again (duty.Block row) granted.Reveal) steps v own f = own_f
 task_own work (task.Again (duty.Vote row) granted.Reveal) steps v own f = absurd own
 task_own work (task.Again (duty.Vote row) (granted.Block block)) steps v own f = absurd own
 task_own work (task.Again (duty.Block row) (granted.Vote details)) steps v own f = absurd own
+task_own work (task.Data row) steps v own f = own_follows (IsOfData work row) (data_plan work row) steps v (only_data work row) f
+task_own work (task.Vote row details) steps v own f = own_follows (IsOfDuty work (duty.Vote row)) (voted_plan work row details) steps v (only_voted work row details own) f
 task_own work (task.Choose row details) steps v own f = own_follows (IsOfChoice work row) (choose_plan work row details) steps v (only_choose work row details) f
 task_own work (task.Aggregate row details proof) steps v own f = own_follows (IsOfAggregate work row details proof) (aggregate_plan work row details proof) steps v (only_aggregate work row details proof) f
 
@@ -284,6 +292,11 @@ again_proposes work (duty.Block row) (granted.Block block) m steps v is f = prop
 again_proposes work d granted.Reveal m steps v is f = absurd cc
 again_proposes work (duty.Vote row) (granted.Block block) m steps v is f = propose_follows row.pubkey m Stop steps v tt f
 again_proposes work (duty.Block row) (granted.Vote details) m steps v is f = propose_follows row.pubkey m Stop steps v tt f
+
+pub cast_proposes : (work : SlotWork) (row : AttesterRow) (details : AttestationData) (steps : List DutyStep) (v : Option Ended) → Follows Fits (task_plan work (task.Vote row details)) steps v
+    → AllPropose row.pubkey (vote_message work.domains details) steps
+cast_proposes work row details steps v f = propose_follows row.pubkey (vote_message work.domains details) (voted_plan work row details) steps v
+    (only_proposes row.pubkey (vote_message work.domains details) work.moment (granted.Vote details) (vote_request work details) (vote_post row details)) f
 
 -- ---- what it gives
 
@@ -400,6 +413,11 @@ gives_vote work row r f =
     let t : Task = task.Fresh (duty.Vote row) in
     gives_got work.altair t (failure_of work.altair t (Asks (ask.Data work.slot row.committee_index), r)) over (vote_of row (answer_reply r)) (λ details. voted_plan work row details) over_so (ask_failure work.altair t (ask.Data work.slot row.committee_index) r f) (gives_voted work t row)
 
+gives_data : (work : SlotWork) (row : AttesterRow) → Gives work.altair (task.Data row) None (data_plan work row)
+gives_data work row r f =
+    let t : Task = task.Data row in
+    gives_got work.altair t (failure_of work.altair t (Asks (ask.Data work.slot row.committee_index), r)) over (vote_of row (answer_reply r)) (λ details. Done (said details)) over_so (ask_failure work.altair t (ask.Data work.slot row.committee_index) r f) (λ details. refl)
+
 gives_made : (work : SlotWork) (t : Task) (row : ProposerRow) (block : AnyBlock) → Gives work.altair t None (made_plan work row block)
 gives_made work t row block = gives_publish work.altair t row.pubkey (block_message work.domains block) work.moment (granted.Block block) (block_request work block) (block_post block)
 
@@ -449,5 +467,7 @@ task_result work (task.Again (duty.Block row) granted.Reveal) steps e f = let t 
 task_result work (task.Again (duty.Vote row) granted.Reveal) steps e f = gives_follows work.altair (task.Again (duty.Vote row) granted.Reveal) None Stop steps e tt f
 task_result work (task.Again (duty.Vote row) (granted.Block block)) steps e f = gives_follows work.altair (task.Again (duty.Vote row) (granted.Block block)) None Stop steps e tt f
 task_result work (task.Again (duty.Block row) (granted.Vote details)) steps e f = gives_follows work.altair (task.Again (duty.Block row) (granted.Vote details)) None Stop steps e tt f
+task_result work (task.Data row) steps e f = gives_follows work.altair (task.Data row) None (data_plan work row) steps e (gives_data work row) f
+task_result work (task.Vote row details) steps e f = let t : Task = task.Vote row details in gives_follows work.altair t None (voted_plan work row details) steps e (gives_voted work t row details) f
 task_result work (task.Choose row details) steps e f = gives_follows work.altair (task.Choose row details) None (choose_plan work row details) steps e (gives_choose work row details) f
 task_result work (task.Aggregate row details proof) steps e f = gives_follows work.altair (task.Aggregate row details proof) None (aggregate_plan work row details proof) steps e (gives_aggregate work row details proof) f

@@ -9,6 +9,7 @@ use Rattle.duty_plans.specs.declared.task.Task.{Task}
 use Rattle.duty_plans.specs.Ends.{last_result, left_after, merged, place_after, place_by, results_of}
 use Rattle.duty_plans.specs.Choices.{ends_after, next_by, next_place, report_of, reports}
 use Rattle.duty_plans.specs.Tasks.{tasks_by}
+use Rattle.duty_plans.specs.Votes.{end_by, vote_ends}
 
 -- ---- how duties ended
 
@@ -106,3 +107,19 @@ next_within c at i next h turn = by c.aggregation turn where
   by : (o : Option Aggregation) → next ≡ next_by o at → next ≤ i + 1
   by None is = omega arith
   by (Some x) is = omega arith
+
+-- ---- how votes ended
+
+next_vote : (asked ends : List Ended) (i at next : ℕ) (c r : Ended) → i < length asked → c ≡ get_or asked i c → r ≡ end_by c.aggregation c (drop at ends) → next ≡ next_place c at
+    → vote_ends (drop i asked) (drop at ends) ≡ r ∷ vote_ends (drop (i + 1) asked) (drop next ends)
+next_vote asked ends i at next c r l is by turn =
+    at_drop_more (λ x. vote_ends x (drop at ends)) asked i c l
+    ∙ ap (λ (x : Ended). vote_ends (x ∷ drop (i + 1) asked) (drop at ends)) (sym is)
+    ∙ ap (λ (x : Ended). x ∷ vote_ends (drop (i + 1) asked) (ends_after c.aggregation (drop at ends))) (sym by)
+    ∙ ap (λ (x : List Ended). r ∷ vote_ends (drop (i + 1) asked) x) (after_place c.aggregation at ends ∙ ap (λ n. drop n ends) (sym turn))
+
+pub votes_more : (asked ends got now : List Ended) (i at next : ℕ) (c r : Ended) → i < length asked → c ≡ get_or asked i c → r ≡ end_by c.aggregation c (drop at ends) → next ≡ next_place c at
+    → now ≡ got ++ r ∷ [] → got ++ vote_ends (drop i asked) (drop at ends) ≡ vote_ends asked ends → now ++ vote_ends (drop (i + 1) asked) (drop next ends) ≡ vote_ends asked ends
+votes_more asked ends got now i at next c r l is by turn pushed so =
+    let rest : List Ended = vote_ends (drop (i + 1) asked) (drop next ends) in
+    ap (λ (x : List Ended). x ++ rest) pushed ∙ append_assoc got (r ∷ []) rest ∙ ap (λ (x : List Ended). got ++ x) (sym (next_vote asked ends i at next c r l is by turn)) ∙ so

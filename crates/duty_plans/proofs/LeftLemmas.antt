@@ -41,7 +41,7 @@ use Rattle.duty_plans.specs.Guards.{granted_by, granted_in}
 use Rattle.duty_plans.specs.Messages.{aggregate_message, aggregate_post, block_message, block_post, block_request, vote_message, vote_post, vote_request}
 use Rattle.duty_plans.specs.Reading.{aggregate_of, block_of, grant_of, posted_of, signature_of, vote_of}
 use Rattle.duty_plans.specs.Steps.{DutyCall, DutyReply, DutyStep, DutyPlan, Calls, Replies, Signed, Answered, Taken, Fits, desk_calls, step_calls}
-use Rattle.duty_plans.specs.Plans.{answer_reply, desk_reply, post_reply, sign_reply, aggregate_plan, aggregated_plan, allowed_plan, block_plan, choose_plan, chosen_by, gathered_plan, granted_plan, made_plan, post_plan, proof_plan, publish_plan, revealed_plan, sent, settles, task_plan, under, vote_plan, voted_plan, with_got}
+use Rattle.duty_plans.specs.Plans.{answer_reply, desk_reply, post_reply, sign_reply, aggregate_plan, aggregated_plan, allowed_plan, block_plan, choose_plan, chosen_by, data_plan, gathered_plan, granted_plan, made_plan, post_plan, proof_plan, publish_plan, revealed_plan, said, sent, settles, task_plan, under, vote_plan, voted_plan, with_got}
 use Rattle.duty_plans.specs.Repeats.{HadLeave, IsLeft}
 use Rattle.duty_plans.specs.Tasks.{IsOwnTask, IsOwnUnsent, duty_of, owner_of, unsent_message}
 use Rattle.duty_plans.proofs.DutyLemmas.{block_got, grant_got, vote_got}
@@ -185,7 +185,11 @@ leaves_block work row so r f =
     let three = (two ++ granted_in []) ++ granted_in (step_calls (Calls (call.Settle grant outcome.Sent), t)) in
     leaves_got work D three over (block_of work.altair row (answer_reply a)) (λ block. made_plan work row block) (over_none work D) (λ block is. leaves_made work row block three (block_got work.altair row (answer_reply a) block is))))
 
--- of an aggregate nothing is left
+-- of a question nothing is left
+leaves_data : (work : SlotWork) (row : AttesterRow) (so : Given) → Leaves work (duty.Vote row) so (data_plan work row)
+leaves_data work row so r f = leaves_got work (duty.Vote row) (so ++ granted_in []) over (vote_of row (answer_reply r)) (λ details. Done (said details)) (over_none work (duty.Vote row)) (λ details e. tt)
+
+-- nor of an aggregate
 leaves_choose : (work : SlotWork) (row : AttesterRow) (details : AttestationData) (so : Given) → Leaves work (duty.Vote row) so (choose_plan work row details)
 leaves_choose work row details so r f =
     let D : Duty = duty.Vote row in
@@ -226,5 +230,7 @@ task_left work (task.Again (duty.Block row) granted.Reveal) steps e own f = leav
 task_left work (task.Again (duty.Vote row) granted.Reveal) steps e own f = absurd own
 task_left work (task.Again (duty.Vote row) (granted.Block block)) steps e own f = absurd own
 task_left work (task.Again (duty.Block row) (granted.Vote details)) steps e own f = absurd own
+task_left work (task.Data row) steps e own f = leaves_follows work (duty.Vote row) [] (data_plan work row) steps e (leaves_data work row []) f
+task_left work (task.Vote row details) steps e own f = leaves_follows work (duty.Vote row) [] (voted_plan work row details) steps e (leaves_voted work row details [] own) f
 task_left work (task.Choose row details) steps e own f = leaves_follows work (duty.Vote row) [] (choose_plan work row details) steps e (leaves_choose work row details []) f
 task_left work (task.Aggregate row details proof) steps e own f = leaves_follows work (duty.Vote row) [] (aggregate_plan work row details proof) steps e (leaves_aggregate work row details proof []) f

@@ -13,3 +13,4 @@ pub mod Owning
 pub mod Slots
 pub mod Repeats
 pub mod Choices
+pub mod Votes

@@ -12,6 +12,7 @@ use Rattle.signer_link.specs.declared.request.PlainRequest.{PlainRequest}
 use Rattle.node_calls.specs.Aggregation.{aggregation_bits}
 use Rattle.node_calls.specs.declared.answer.AttesterRow.{AttesterRow}
 use Rattle.node_calls.specs.declared.answer.ProposerRow.{ProposerRow}
+use Rattle.node_calls.specs.declared.ask.Ask.TheVariants as ask
 use Rattle.node_calls.specs.declared.post.Post.{Post}
 use Rattle.node_calls.specs.declared.post.Post.TheVariants as post
 use Rattle.duty_schedule.specs.Checking.{block_members, data_members, first_that_differs}
@@ -21,7 +22,7 @@ use Rattle.duty_plans.specs.declared.task.Task.{Task}
 use Rattle.duty_plans.specs.declared.task.Task.TheVariants as task
 use Rattle.duty_plans.specs.declared.work.SlotWork.{SlotWork}
 use Rattle.duty_plans.specs.Messages.{aggregate_request, block_message, block_request, details_root, reveal_request, slot_request, vote_message, vote_request}
-use Rattle.duty_plans.specs.Steps.{DutyCall, DutyStep, Signs, Reveals, Posts}
+use Rattle.duty_plans.specs.Steps.{DutyCall, DutyStep, Asks, Signs, Reveals, Posts}
 
 -- the grant is of this key for this message
 pub record IsGrantOf (grant : OpenGrant) (owner : PubKey) (m : Message) : Type 0 where
@@ -73,6 +74,13 @@ IsOfDuty work d (Posts grant p) = PostsOwn work d grant p
 IsOfDuty work d (Reveals grant q) = RevealsOwn work d grant q
 IsOfDuty work d c = Unit {0}
 
+-- ---- of a question for what a committee is to vote
+
+-- nothing is called of the desk, signed or posted
+abbrev pub IsOfData : SlotWork → AttesterRow → DutyCall → Type 0
+IsOfData work row (Asks a) = a ≡ ask.Data work.slot row.committee_index
+IsOfData work row c = ⊥
+
 -- ---- of an aggregate
 
 -- of the choice of its aggregator only the slot is signed, and nothing is posted
@@ -98,6 +106,8 @@ IsOfAggregate work row details proof c = Unit {0}
 abbrev pub IsOwn : SlotWork → Task → DutyCall → Type 0
 IsOwn work (task.Fresh d) = IsOfDuty work d
 IsOwn work (task.Again d unsent) = IsOfDuty work d
+IsOwn work (task.Data row) = IsOfData work row
+IsOwn work (task.Vote row details) = IsOfDuty work (duty.Vote row)
 IsOwn work (task.Choose row details) = IsOfChoice work row
 IsOwn work (task.Aggregate row details proof) = IsOfAggregate work row details proof
 

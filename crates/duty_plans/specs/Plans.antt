@@ -122,6 +122,14 @@ voted_plan work row details = publish_plan row.pubkey (vote_message work.domains
 abbrev pub vote_plan : SlotWork → AttesterRow → DutyPlan Ended
 vote_plan work row = asks (ask.Data work.slot row.committee_index) (λ a. with_got over (vote_of row a) (λ details. voted_plan work row details))
 
+-- it is known of the votes of a committee that this is to be voted
+abbrev pub said : AttestationData → Ended
+said details = record { result = ended.Sent; unsent = None; aggregation = Some (votes.Voted details) }
+
+-- the same question alone
+abbrev pub data_plan : SlotWork → AttesterRow → DutyPlan Ended
+data_plan work row = asks (ask.Data work.slot row.committee_index) (λ a. with_got over (vote_of row a) (λ details. Done (said details)))
+
 -- ---- a block
 
 abbrev pub made_plan : SlotWork → ProposerRow → AnyBlock → DutyPlan Ended
@@ -182,6 +190,8 @@ again_plan work d unsent = Stop
 abbrev pub task_plan : SlotWork → Task → DutyPlan Ended
 task_plan work (task.Fresh d) = duty_plan work d
 task_plan work (task.Again d unsent) = again_plan work d unsent
+task_plan work (task.Data row) = data_plan work row
+task_plan work (task.Vote row details) = voted_plan work row details
 task_plan work (task.Choose row details) = choose_plan work row details
 task_plan work (task.Aggregate row details proof) = aggregate_plan work row details proof
 

@@ -28,6 +28,8 @@ failed_duty altair (duty.Vote row) a = failed_in (vote_of row a)
 abbrev pub failed_answer : Option ℕ → Task → Result Answer NoAnswer → Option DutyResult
 failed_answer altair (task.Fresh d) a = failed_duty altair d a
 failed_answer altair (task.Again d unsent) a = failed_duty altair d a
+failed_answer altair (task.Data row) a = failed_in (vote_of row a)
+failed_answer altair (task.Vote row details) a = None
 failed_answer altair (task.Choose row details) a = None
 failed_answer altair (task.Aggregate row details proof) a = failed_in (aggregate_of details a)
 

@@ -38,6 +38,8 @@ again_tasks ds ends = tasks_by again_of ds ends
 abbrev pub duty_of : Task → Duty
 duty_of (task.Fresh d) = d
 duty_of (task.Again d unsent) = d
+duty_of (task.Data row) = duty.Vote row
+duty_of (task.Vote row details) = duty.Vote row
 duty_of (task.Choose row details) = duty.Vote row
 duty_of (task.Aggregate row details proof) = duty.Vote row
 
@@ -61,5 +63,7 @@ IsOwnUnsent altair d unsent = ⊥
 abbrev pub IsOwnTask : Option ℕ → Task → Type 0
 IsOwnTask altair (task.Fresh d) = Unit {0}
 IsOwnTask altair (task.Again d unsent) = IsOwnUnsent altair d unsent
+IsOwnTask altair (task.Data row) = Unit {0}
+IsOwnTask altair (task.Vote row details) = first_that_differs (data_members row details) ≡ None
 IsOwnTask altair (task.Choose row details) = first_that_differs (data_members row details) ≡ None
 IsOwnTask altair (task.Aggregate row details proof) = (first_that_differs (data_members row details) ≡ None) × (is_aggregator proof row.committee_length ≡ true)

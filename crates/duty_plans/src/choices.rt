@@ -103,7 +103,7 @@ fn report_of(one: &Ended, aggregates: &[Ended], at: usize) -> Option<DutyResult>
 }
 
 /// The place after it, if it is chosen.
-fn next_place(one: &Ended, at: usize) -> usize
+pub(crate) fn next_place(one: &Ended, at: usize) -> usize
     requires { at < 18446744073709551615 }
     ensures { result ≡ next_place one.now at }
 {

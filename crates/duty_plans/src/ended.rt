@@ -1,5 +1,6 @@
 //! How a duty ended, and what of it can be done again.
 ghost use Rattle.std.specs.Prelude.{◌≡◌, ◌<◌, IfOk, drop};
+ghost use Rattle.duty_plans.specs.Plans.{said};
 ghost use Rattle.duty_plans.specs.Ends.{aggregation_of, barred, is_repeated, last_result, left_by, merged, over, place_after, results_of};
 
 use crate::result::{DutyResult, Unsigned};
@@ -116,6 +117,17 @@ fn aggregation_of(unsent: &Unsent) -> Option<Aggregation>
     match unsent {
         Unsent::Vote(details) => Some(Aggregation::Voted(*details)),
         Unsent::Reveal | Unsent::Block(_) => None,
+    }
+}
+
+/// The end of a question for what a committee is to vote, where a node said this. Takes no memory.
+pub fn said(details: AttestationData) -> Ended
+    ensures { result ≡ said details }
+{
+    Ended {
+        result: DutyResult::Sent,
+        unsent: None,
+        aggregation: Some(Aggregation::Voted(details)),
     }
 }
 

@@ -71,6 +71,7 @@ pub fn grant_in(reply: DeskReply) -> Got<Grant>
         DeskReply::GenesisDiffers { kept: _, given: _ } => Got::Nothing,
         DeskReply::TooManyKeys { have: _, new: _ } => Got::Nothing,
         DeskReply::NotClosing(_) | DeskReply::Busy { grants: _ } => Got::Nothing,
+        DeskReply::Recorded | DeskReply::Unfit => Got::Nothing,
     }
 }
 

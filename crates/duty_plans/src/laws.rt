@@ -2,6 +2,8 @@
 ghost use Rattle.std.specs.Prelude.{◌≡◌, List, Some};
 ghost use Rattle.std.specs.declared.option.Option.{Option};
 ghost use Rattle.duty_schedule.specs.declared.rows.Duty.{Duty};
+ghost use Rattle.node_calls.specs.declared.answer.AttesterRow.{AttesterRow};
+ghost use Rattle.phase0_types.specs.declared.attestation.AttestationData.{AttestationData};
 ghost use Rattle.slash_defs.specs.declared.message.Message.{Message};
 ghost use Rattle.call_plans.specs.Paths.{Carries};
 ghost use Rattle.call_plans.specs.Plans.{Follows};
@@ -11,6 +13,7 @@ ghost use Rattle.duty_plans.specs.declared.task.Task.{Task};
 ghost use Rattle.duty_plans.specs.declared.work.SlotWork.{SlotWork};
 ghost use Rattle.duty_plans.specs.Guards.{PostedGranted};
 ghost use Rattle.duty_plans.specs.Hands.{Free};
+ghost use Rattle.duty_plans.specs.Messages.{vote_message};
 ghost use Rattle.duty_plans.specs.Owning.{AllOwn};
 ghost use Rattle.duty_plans.specs.Plans.{slot_plan, task_plan};
 ghost use Rattle.duty_plans.specs.Repeats.{AllPropose, GoesOn, IsLeft};
@@ -40,16 +43,20 @@ pub fn duty_law()
 {}
 
 /// What is done once more of a duty asks the desk for leave for no message but that of what was left, for the duty's key,
-/// where that has one: a block whose reveal was not signed is begun once more, and no message was granted for it.
+/// where that has one: a block whose reveal was not signed is begun once more, and no message was granted for it. A vote
+/// for data asks for leave for no message but that data's, for the validator's key.
 /// What is left of a duty is the duty's own, the desk gave leave for its message in the duty's steps, and the duty ended
 /// since the service failed or answered something else, or no node took what was posted.
 pub fn repeat_law()
     ensures same { (work : SlotWork) (duty : Duty) (unsent : Unsent) (m : Message) (steps : List DutyStep) (v : Option Ended) → unsent_message work.domains unsent ≡ Some m
         → Follows Fits (task_plan work (Task.Again duty unsent)) steps v → AllPropose (owner_of duty) m steps }
+    ensures cast { (work : SlotWork) (row : AttesterRow) (details : AttestationData) (steps : List DutyStep) (v : Option Ended)
+        → Follows Fits (task_plan work (Task.Vote row details)) steps v → AllPropose row.pubkey (vote_message work.domains details) steps }
     ensures left { (work : SlotWork) (task : Task) (steps : List DutyStep) (e : Ended) → IsOwnTask work.altair task → Follows Fits (task_plan work task) steps (Some e) → IsLeft work task steps e }
 {}
 
-/// What a duty goes on with. Of a vote it is data that is the duty's. Of the choice of an aggregator it is the same data, and
+/// What a duty goes on with. Of a vote it is data that is the duty's. Of the question for what its committee is to vote it is
+/// such data as a node said in the steps of the question. Of the choice of an aggregator it is the data of the vote, and
 /// a signature that the service gave, in the steps of the choice and under a grant of the duty's key, for the slot, where that
 /// chooses the validator. Of all else it is nothing.
 pub fn aggregate_law()

@@ -8,10 +8,11 @@ mod laws;
 mod result;
 mod setup;
 mod task;
+mod votes;
 mod work;
 
 pub use choices::{aggregate_tasks, choose_tasks, reports};
-pub use ended::{Aggregation, Ended, Unsent, barred, left_by, merged, over, results_of};
+pub use ended::{Aggregation, Ended, Unsent, barred, left_by, merged, over, results_of, said};
 pub use got::{
     AggregateDiffers, Got, aggregate_in, block_in, check_aggregate, details_root, grant_in,
     posted_in, signature_in, vote_in,
@@ -20,4 +21,5 @@ pub use laws::{aggregate_law, duty_law, lane_law, repeat_law};
 pub use result::{DutyResult, Refusal, Unsigned};
 pub use setup::DutySetup;
 pub use task::{Task, again_tasks, fresh};
+pub use votes::{data_tasks, message_of, vote_ends, vote_message, vote_tasks};
 pub use work::SlotWork;

@@ -16,6 +16,10 @@ pub enum Task {
     Fresh(Duty),
     /// What was granted for it and not sent, once more.
     Again(Duty, Unsent),
+    /// What the committee of this validator is to vote.
+    Data(AttesterRow),
+    /// The vote of this validator for this data.
+    Vote(AttesterRow, AttestationData),
     /// Whether the validator of this vote aggregates the votes of its committee, which are for this data.
     Choose(AttesterRow, AttestationData),
     /// The aggregate of the votes for this data, by a validator that this proof chooses.
@@ -30,6 +34,8 @@ impl Task {
         match self {
             Task::Fresh(duty) => Ok(Task::Fresh(*duty)),
             Task::Again(duty, unsent) => Ok(Task::Again(*duty, unsent.copy(alloc)?)),
+            Task::Data(row) => Ok(Task::Data(*row)),
+            Task::Vote(row, details) => Ok(Task::Vote(*row, *details)),
             Task::Choose(row, details) => Ok(Task::Choose(*row, *details)),
             Task::Aggregate(row, details, proof) => Ok(Task::Aggregate(*row, *details, *proof)),
         }

@@ -35,7 +35,7 @@ above_less k l [] h all = tt
 above_less k l (y ∷ ks) h all = (key_total.trans k l y h all.0, above_less k l ks h all.1)
 
 -- keys that come after this one each, in order, are above it and sorted
-rising : (k : PubKey) (books : List (PubKey × Book)) → are_in_order (Some k) books ≡ true → AllByRecursion (λ y. key_cmp k y ≡ Less) (keys_of books) × IsStrictlySortedBy key_cmp (keys_of books)
+rising : {X : Type 0} (k : PubKey) (books : List (PubKey × X)) → are_in_order (Some k) books ≡ true → AllByRecursion (λ y. key_cmp k y ≡ Less) (keys_of books) × IsStrictlySortedBy key_cmp (keys_of books)
 unfolding IsStrictlySortedBy
 rising k [] h = (tt, tt)
 rising k (listed ∷ books) h =
@@ -44,12 +44,12 @@ rising k (listed ∷ books) h =
     let rest = rising listed.0 books parts.1 in
     ((first, above_less k listed.0 (keys_of books) first rest.0), rest)
 
-sorted : (books : List (PubKey × Book)) → are_in_order None books ≡ true → IsStrictlySortedBy key_cmp (keys_of books)
+sorted : {X : Type 0} (books : List (PubKey × X)) → are_in_order None books ≡ true → IsStrictlySortedBy key_cmp (keys_of books)
 unfolding IsStrictlySortedBy
 sorted [] h = tt
 sorted (listed ∷ books) h = rising listed.0 books h
 
-pub in_order_once : (books : List (PubKey × Book)) → are_in_order None books ≡ true → EachOnce books
+pub in_order_once : {X : Type 0} (books : List (PubKey × X)) → are_in_order None books ≡ true → EachOnce books
 in_order_once books h = AllPairs-from_IsDistinct same_keys (keys_of books) (IsDistinct-from_sorted key_cmp (keys_of books) (sorted books h))
 
 pub pruned_once : (few from : ℕ) (books : List (PubKey × Book)) → EachOnce books → EachOnce (pruning_books few from books)

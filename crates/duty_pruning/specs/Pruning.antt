@@ -53,9 +53,9 @@ is_after None key = true
 is_after (Some before) key = is_lt (key_cmp before key)
 
 -- whether each key comes after the one before it
-abbrev pub are_in_order : Option PubKey → List (PubKey × Book) → Bool
+abbrev pub are_in_order : {X : Type 0} → Option PubKey → List (PubKey × X) → Bool
 are_in_order before [] = true
-are_in_order before (listed ∷ books) = is_after before listed.0 && are_in_order (Some listed.0) books
+are_in_order before (one ∷ listed) = is_after before one.0 && are_in_order (Some one.0) listed
 
 -- an export lists its keys in their order; of another file nothing is forgotten
 abbrev pub pruning_file : ℕ → ℕ → File → File

@@ -3,4 +3,4 @@
 
 mod pruning;
 
-pub use pruning::pruning_file;
+pub use pruning::{is_after, pruning_file};

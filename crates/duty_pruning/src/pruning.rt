@@ -71,8 +71,8 @@ fn are_in_order(books: &[(PubKey, Book)]) -> bool
     true
 }
 
-/// Whether a key comes after the one before it, if there is one.
-fn is_after(before: Option<PubKey>, key: PubKey) -> bool
+/// Whether a key comes after the one before it, if there is one. Takes no memory.
+pub fn is_after(before: Option<PubKey>, key: PubKey) -> bool
     ensures { result ≡ is_after before key }
 {
     match before {

@@ -4,6 +4,7 @@ use Rattle.std.specs.Prelude.{if◌then◌else◌}
 use Rattle.edge_kit.specs.declared.bytes.PubKey.{PubKey}
 use Rattle.slash_defs.specs.declared.book.Book.{Book}
 use Rattle.slash_defs.specs.declared.book.File.{File}
+use Rattle.slash_defs.specs.declared.message.Message.{Message}
 use Rattle.desk_machine.specs.declared.call.KeyStanding.{KeyStanding}
 use Rattle.desk_machine.specs.declared.call.DeskCall.{DeskCall}
 use Rattle.desk_machine.specs.declared.call.DeskCall.TheVariants as call
@@ -27,13 +28,15 @@ use Rattle.duty_plans.specs.declared.task.Task.{Task}
 use Rattle.duty_plans.specs.Choices.{aggregate_tasks, reports}
 use Rattle.duty_plans.specs.Ends.{merged, results_of}
 use Rattle.duty_plans.specs.Tasks.{again_tasks, fresh}
+use Rattle.duty_plans.specs.Votes.{data_tasks, vote_ends, vote_tasks}
 use Rattle.duty_plans.specs.declared.setup.DutySetup.{DutySetup}
 use Rattle.duty_plans.specs.declared.work.SlotWork.{SlotWork}
 use Rattle.duty_turns.specs.Lines.{aggregate_lines, duty_lines, none_line}
+use Rattle.duty_turns.specs.Recording.{free_of, recorded}
 use Rattle.duty_turns.specs.Standing.{Standing, indices_of, with_attesters, with_fork, with_indices, with_proposers}
 use Rattle.duty_turns.specs.Times.{again_start, aggregates_start, epoch_of, is_first_slot, is_missed, next_slot, slot_start, votes_start}
 use Rattle.duty_turns.specs.TurnSteps.{TurnCall, TurnPlan, TurnReply, TurnStep, Fits, Due, LanesRefreshed, LooksUp, Own, Owned, Refreshed, Refreshes, RefreshesLanes, Waits, Woke, Worked, Works, Writes, Wrote}
-use Rattle.duty_turns.specs.Turns.{NextPlan, PartPlan, active_of, after_wait, again_plan, aggregates_plan, left_plan, tried_plan, answered_plan, ask_plan, asked_plan, asks, at_moment, at_slot, attesters_plan, blocks_in, by_32, calls, choices_of, chooses_plan, close_plan, due_plan, duties_plan, epoch_plan, epochs_plan, exported, exports, failed_plan, finish_plan, found, gathers_plan, index_plan, is_worth_compacting, keys_of_turn, lanes_refreshed, listed_plan, lived_plan, liveness_plan, looks_up, merges, missing_epochs, missing_keys, noted, notes_of, notes_plan, on_standing, own_answer, own_reply, prunes, puts, ready_plan, refreshed, refreshes, refreshes_lanes, renew_plan, renewed_now, renewed_plan, renews, report_plan, shortens, sized, then_on, to_renew, told_plan, turn_plan, unless_short, voters_plan, votes_in, votes_plan, waits, watch_plan, with_active, woken, woken_plan, work_of, worked, works, writes, written, wrote}
+use Rattle.duty_turns.specs.Turns.{NextPlan, PartPlan, active_of, after_wait, again_plan, aggregates_plan, left_plan, tried_plan, answered_plan, ask_plan, asked_plan, asks, at_moment, at_slot, attesters_plan, blocks_in, by_32, calls, casts, choices_of, chooses_plan, close_plan, due_plan, duties_plan, epoch_plan, epochs_plan, exported, exports, failed_plan, finish_plan, found, gathers_plan, index_plan, is_worth_compacting, keys_of_turn, lanes_refreshed, listed_plan, lived_plan, liveness_plan, looks_up, merges, missing_epochs, missing_keys, noted, notes_of, notes_plan, on_standing, own_answer, own_reply, prunes, puts, ready_plan, records, records_free, records_votes, refreshed, refreshes, refreshes_lanes, renew_plan, renewed_now, renewed_plan, renews, report_plan, shortens, sized, then_on, to_renew, told_plan, turn_plan, unless_short, voters_plan, votes_in, votes_plan, waits, watch_plan, with_active, woken, woken_plan, work_of, worked, works, writes, written, wrote}
 use Rattle.duty_turns.specs.declared.held.DutyEnd.{DutyEnd}
 use Rattle.duty_turns.specs.declared.held.DutyEnd.TheVariants as end
 use Rattle.duty_safety.proofs.AskedLemmas.{At, asked_stays}
@@ -226,6 +229,26 @@ module _ (keep_epochs : Option ℕ) (epoch : ℕ) where
   failed_quiet s (reply.HasFailed true) = done_quiet (Err end.Disk)
   failed_quiet s r = done_quiet (Ok s)
 
+  -- ---- votes that are recorded together, and then cast
+
+  records_quiet : (now : ℕ) (ms : List (PubKey × Message)) (p : NextPlan) → Quiet p → Quiet (records now ms p)
+  records_quiet now [] p h = h
+  records_quiet now (m ∷ ms) p h = calls_quiet (call.Record (m ∷ ms) now) (λ r. unless_short r p) (λ from. tt) (unless_short_quiet p h)
+
+  records_free_quiet : (work : SlotWork) (tasks : List Task) (p : NextPlan) → Quiet p → (r : DeskReply) → Quiet (records_free work tasks r p)
+  records_free_quiet work tasks p h (reply.Keys listed) = records_quiet work.moment (recorded work.domains (free_of listed) tasks) p h
+  records_free_quiet work tasks p h r = stop_quiet
+
+  records_votes_quiet : (work : SlotWork) (tasks : List Task) (p : NextPlan) → Quiet p → Quiet (records_votes work tasks p)
+  records_votes_quiet work [] p h = h
+  records_votes_quiet work (t ∷ tasks) p h = calls_quiet call.Keys (λ r. records_free work (t ∷ tasks) r p) (λ from. tt) (records_free_quiet work (t ∷ tasks) p h)
+
+  casts_quiet : (work : SlotWork) (place : ℕ) (votes : List Duty) (next : List Ended → NextPlan) → ((ends : List Ended) → Quiet (next ends)) → Quiet (casts work place votes next)
+  casts_quiet work place votes next h =
+      let cast : List Ended → NextPlan = λ asked. works work place (vote_tasks votes asked) (λ ends. next (vote_ends asked ends)) in
+      works_quiet work place (data_tasks votes) (λ asked. records_votes work (vote_tasks votes asked) (cast asked))
+      (λ asked. records_votes_quiet work (vote_tasks votes asked) (cast asked) (works_quiet work place (vote_tasks votes asked) (λ ends. next (vote_ends asked ends)) (λ ends. h (vote_ends asked ends))))
+
 -- ---- what is old is forgotten
 
 module _ (keep epoch : ℕ) (next : NextPlan) (h : Quiet (Some keep) epoch next) where
@@ -314,9 +337,9 @@ votes_quiet setup s ds proposed reached =
     let place = length (blocks_in ds) in
     let all : List Duty = blocks_in ds ++ votes_in ds in
     let after : List Ended → NextPlan = λ cast. again_plan setup s all (proposed ++ cast) in
-    if_quiet setup.keep_epochs (epoch_of s.slot) (is_missed setup.genesis_time s.slot (votes_start setup.genesis_time s.slot) reached) (close_plan setup s.slot (blocks_in ds) (results_of proposed) next) (works (work_of setup s) place (fresh (votes_in ds)) after)
+    if_quiet setup.keep_epochs (epoch_of s.slot) (is_missed setup.genesis_time s.slot (votes_start setup.genesis_time s.slot) reached) (close_plan setup s.slot (blocks_in ds) (results_of proposed) next) (casts (work_of setup s) place (votes_in ds) after)
     (close_quiet setup s.slot (blocks_in ds) (results_of proposed) next)
-    (works_quiet setup.keep_epochs (epoch_of s.slot) (work_of setup s) place (fresh (votes_in ds)) after (λ cast. left_quiet setup s all (proposed ++ cast) (again_tasks all (proposed ++ cast))))
+    (casts_quiet setup.keep_epochs (epoch_of s.slot) (work_of setup s) place (votes_in ds) after (λ cast. left_quiet setup s all (proposed ++ cast) (again_tasks all (proposed ++ cast))))
 
 due_quiet : (setup : DutySetup) (s : Standing) (ds : List Duty) → Quiet setup.keep_epochs (epoch_of s.slot) (due_plan setup s ds)
 due_quiet setup s ds =

@@ -3,6 +3,8 @@ use Rattle.std.proofs.Common.{◌≡◌, ◌+◌, ℕ, suc, Bool, true, false, L
 use Rattle.std.specs.Prelude.{if◌then◌else◌}
 use Rattle.std.proofs.lemmas.List.{length-append, length-map}
 use Rattle.edge_kit.specs.declared.bytes.PubKey.{PubKey}
+use Rattle.slash_defs.specs.declared.message.Message.{Message}
+use Rattle.desk_machine.specs.declared.call.DeskCall.{DeskCall}
 use Rattle.desk_machine.specs.declared.call.DeskCall.TheVariants as call
 use Rattle.desk_machine.specs.declared.call.DeskReply.{DeskReply}
 use Rattle.desk_machine.specs.declared.call.DeskReply.TheVariants as reply
@@ -15,25 +17,27 @@ use Rattle.duty_schedule.specs.declared.rows.Duty.TheVariants as duty
 use Rattle.call_plans.specs.Plans.{Ask as Step, Done, Stop, Follows}
 use Rattle.call_plans.proofs.PlanLemmas.{follows_split}
 use Rattle.duty_plans.proofs.SlotLemmas.{each_done}
-use Rattle.duty_plans.specs.Steps.{Calls, DutyStep}
+use Rattle.duty_plans.specs.Steps.{Calls, DutyStep, Replies}
 use Rattle.duty_plans.specs.declared.ended.Ended.{Ended}
 use Rattle.duty_plans.specs.declared.result.DutyResult.{DutyResult}
 use Rattle.duty_plans.specs.declared.task.Task.{Task}
 use Rattle.duty_plans.specs.declared.task.Task.TheVariants as task
-use Rattle.duty_plans.specs.Choices.{aggregate_tasks, reports}
+use Rattle.duty_plans.specs.Choices.{aggregate_tasks, ends_after, reports}
 use Rattle.duty_plans.specs.Ends.{left_after, merged, results_of}
 use Rattle.duty_plans.specs.Tasks.{again_tasks, fresh}
+use Rattle.duty_plans.specs.Votes.{data_tasks, vote_ends, vote_tasks}
 use Rattle.duty_plans.specs.declared.setup.DutySetup.{DutySetup}
 use Rattle.duty_plans.specs.declared.work.SlotWork.{SlotWork}
 use Rattle.duty_turns.specs.declared.held.DutyEnd.TheVariants as end
 use Rattle.duty_turns.specs.Lanes.{DidShares, HasEach, dealt}
 use Rattle.duty_turns.specs.Lines.{aggregate_lines, duty_lines}
+use Rattle.duty_turns.specs.Recording.{free_of, recorded}
 use Rattle.duty_turns.specs.Standing.{Standing}
 use Rattle.duty_turns.specs.Times.{again_start, aggregates_start, is_first_slot, next_slot, slot_start, votes_start}
-use Rattle.duty_turns.specs.TurnSteps.{Fits, TurnCall, TurnPlan, TurnReply, TurnStep, LooksUp, Own, Refreshes, RefreshesLanes, Waits, Works, Writes, Due, Refreshed, LanesRefreshed, Woke, Worked, Wrote}
-use Rattle.duty_turns.specs.Turns.{Next, NextPlan, active_of, asked_plan, at_slot, blocks_in, calls, choices_of, finish_plan, lanes_refreshed, own_reply, puts, refreshed, refreshes, refreshes_lanes, is_worth_compacting, report_plan, shortens, sized, unless_short, votes_in, waits, with_active, woken, work_of, works}
+use Rattle.duty_turns.specs.TurnSteps.{Fits, TurnCall, TurnPlan, TurnReply, TurnStep, LooksUp, Own, Owned, Refreshes, RefreshesLanes, Waits, Works, Writes, Due, Refreshed, LanesRefreshed, Woke, Worked, Wrote}
+use Rattle.duty_turns.specs.Turns.{Next, NextPlan, active_of, asked_plan, at_slot, blocks_in, calls, casts, choices_of, finish_plan, lanes_refreshed, own_reply, puts, records, records_free, records_votes, refreshed, refreshes, refreshes_lanes, is_worth_compacting, report_plan, shortens, sized, unless_short, votes_in, waits, with_active, woken, work_of, works}
 use Rattle.duty_safety.specs.OnTime.{AllWaits, IsWait, Wait, again_on_time, aggregates_on_time, cast_plan, chooses_on_time, done_plan, gathers_on_time, left_on_time, listed_on_time, on_time_turn, ready_on_time, told_on_time, tried_on_time}
-use Rattle.duty_safety.specs.Told.{AllDone, AllTold, AreGathered, ArePublished, AreTried, EachDoneIn, ToldIfNext}
+use Rattle.duty_safety.specs.Told.{AllDone, AllTold, AreGathered, AreKept, ArePublished, AreRecorded, AreTried, EachDoneIn, ToldIfNext}
 use Rattle.duty_safety.proofs.AskedLemmas.{At, asked_stays}
 
 -- ---- what follows a call
@@ -64,6 +68,17 @@ waits_so moment f [] x h = absurd h
 waits_so moment f ((c, Woke reached) ∷ rest) x h = (reached, rest, ap (λ (d : TurnCall). (d, Woke reached) ∷ rest) h.0, h.2)
 waits_so moment f ((c, r) ∷ rest) x h = absurd (stop_never rest x h.2)
 
+-- the desk replied to a call of the loop's own
+calls_so : {X : Type 0} (c : DeskCall) (f : DeskReply → TurnPlan X) (steps : List TurnStep) (x : X) → Follows Fits (calls c f) steps (Some x)
+    → (r : DeskReply) × (rest : List TurnStep) × (steps ≡ (Own (Calls c), Owned (Replies r)) ∷ rest) × Follows Fits (f r) rest (Some x)
+calls_so c f [] x h = absurd h
+calls_so c f ((d, Owned (Replies r)) ∷ rest) x h = (r, rest, ap (λ (e : TurnCall). (e, Owned (Replies r)) ∷ rest) h.0, h.2)
+calls_so c f ((d, r) ∷ rest) x h = absurd h.1
+
+unless_short_so : {X : Type 0} (r : DeskReply) (next : TurnPlan X) (steps : List TurnStep) (x : X) → Follows Fits (unless_short r next) steps (Some x) → Follows Fits next steps (Some x)
+unless_short_so reply.OutOfMemory next steps x h = absurd (stop_never steps x h)
+unless_short_so r next steps x h = h
+
 not_next : (steps : List TurnStep) (t : Standing) → Follows Fits (Done (Err end.Write)) steps (Some (Ok t)) → ⊥
 not_next [] t h = cc
 not_next (s ∷ steps) t h = h
@@ -75,6 +90,80 @@ puts_so text next [] t h = absurd h
 puts_so text next ((c, Wrote true piece) ∷ rest) t h =
     (rest, ap (λ (d : TurnCall). (d, Wrote true piece) ∷ rest) h.0 ∙ ap (λ (p : List ℕ). (Writes text, Wrote true p) ∷ rest) h.1, h.2)
 puts_so text next ((c, r) ∷ rest) t h = absurd (not_next rest t h.2)
+
+-- ---- votes that are recorded together, and then cast
+
+-- the first of these steps are such, and the others follow a plan
+record Split {X : Type 0} (kind : List TurnStep → Type 0) (next : TurnPlan X) (steps : List TurnStep) (x : X) : Type 0 where
+  front : List TurnStep
+  rest : List TurnStep
+  are : steps ≡ front ++ rest
+  is : kind front
+  on : Follows Fits next rest (Some x)
+
+records_so : {X : Type 0} (now : ℕ) (ms : List (PubKey × Message)) (next : TurnPlan X) (steps : List TurnStep) (x : X) → Follows Fits (records now ms next) steps (Some x) → Split (AreKept now ms) next steps x
+records_so now [] next steps x h = record { front = []; rest = steps; are = refl; is = refl; on = h }
+records_so now (m ∷ ms) next steps x h =
+    let kept = calls_so (call.Record (m ∷ ms) now) (λ r. unless_short r next) steps x h in
+    let step : TurnStep = (Own (Calls (call.Record (m ∷ ms) now)), Owned (Replies kept.0)) in
+    record { front = step ∷ []; rest = kept.1; are = kept.2; is = (kept.0, refl); on = unless_short_so kept.0 next kept.1 x kept.3 }
+
+-- the desk told how all keys stand, and was asked to keep the messages of those that may sign
+told_so : {X : Type 0} (work : SlotWork) (t : Task) (tasks : List Task) (r : DeskReply) (next : TurnPlan X) (steps rest : List TurnStep) (x : X) → steps ≡ (Own (Calls call.Keys), Owned (Replies r)) ∷ rest
+    → Follows Fits (records_free work (t ∷ tasks) r next) rest (Some x) → Split (AreRecorded work (t ∷ tasks)) next steps x
+told_so work t tasks (reply.Keys listed) next steps rest x e h =
+    let kept = records_so work.moment (recorded work.domains (free_of listed) (t ∷ tasks)) next rest x h in
+    let step : TurnStep = (Own (Calls call.Keys), Owned (Replies (reply.Keys listed))) in
+    record { front = step ∷ kept.front; rest = kept.rest; are = e ∙ ap (λ (l : List TurnStep). step ∷ l) kept.are; is = (listed, kept.front, refl, kept.is); on = kept.on }
+told_so work t tasks r next steps rest x e h = absurd (stop_never rest x h)
+
+recorded_so : {X : Type 0} (work : SlotWork) (tasks : List Task) (next : TurnPlan X) (steps : List TurnStep) (x : X) → Follows Fits (records_votes work tasks next) steps (Some x) → Split (AreRecorded work tasks) next steps x
+recorded_so work [] next steps x h = record { front = []; rest = steps; are = refl; is = refl; on = h }
+recorded_so work (t ∷ tasks) next steps x h =
+    let told = calls_so call.Keys (λ r. records_free work (t ∷ tasks) r next) steps x h in
+    told_so work t tasks told.0 next steps told.1 x told.2 told.3
+
+record Cast {X : Type 0} (work : SlotWork) (place : ℕ) (votes : List Duty) (f : List Ended → TurnPlan X) (steps : List TurnStep) (x : X) : Type 0 where
+  asking : List (List DutyStep)
+  asked : List Ended
+  records : List TurnStep
+  voting : List (List DutyStep)
+  cast : List Ended
+  rest : List TurnStep
+  are : steps ≡ (Works work place (data_tasks votes), Worked asking (Some asked)) ∷ (records ++ (Works work place (vote_tasks votes asked), Worked voting (Some cast)) ∷ rest)
+  questions : AllDone work place (data_tasks votes) asking asked
+  each : length asked ≡ length (data_tasks votes)
+  kept : AreRecorded work (vote_tasks votes asked) records
+  done : AllDone work place (vote_tasks votes asked) voting cast
+  on : Follows Fits (f (vote_ends asked cast)) rest (Some x)
+
+-- a step, then some, and then another step
+step_between : (a b : TurnStep) (p q m r s : List TurnStep) → p ≡ a ∷ q → q ≡ m ++ r → r ≡ b ∷ s → p ≡ a ∷ (m ++ b ∷ s)
+step_between a b p q m r s e f g = cc
+
+casts_so : {X : Type 0} (work : SlotWork) (place : ℕ) (votes : List Duty) (f : List Ended → TurnPlan X) (steps : List TurnStep) (x : X) → Follows Fits (casts work place votes f) steps (Some x) → Cast work place votes f steps x
+casts_so {X} work place votes f steps x h =
+    let voting : List Ended → TurnPlan X = λ asked. works work place (vote_tasks votes asked) (λ cast. f (vote_ends asked cast)) in
+    let asked = works_so work place (data_tasks votes) (λ ends. records_votes work (vote_tasks votes ends) (voting ends)) steps x h in
+    let tasks = vote_tasks votes asked.1 in
+    let kept = recorded_so work tasks (voting asked.1) asked.2 x asked.6 in
+    let cast = works_so work place tasks (λ ends. f (vote_ends asked.1 ends)) kept.rest x kept.on in
+    let first : TurnStep = (Works work place (data_tasks votes), Worked asked.0 (Some asked.1)) in
+    let second : TurnStep = (Works work place tasks, Worked cast.0 (Some cast.1)) in
+    record {
+      asking = asked.0;
+      asked = asked.1;
+      records = kept.front;
+      voting = cast.0;
+      cast = cast.1;
+      rest = cast.2;
+      are = step_between first second steps asked.2 kept.front kept.rest cast.2 asked.3 kept.are cast.3;
+      questions = asked.4;
+      each = asked.5;
+      kept = kept.is;
+      done = cast.4;
+      on = cast.6;
+    }
 
 -- ---- blocks and votes are all that is due
 
@@ -98,13 +187,22 @@ all_due answers slot active ds due =
 fresh_count : (ds : List Duty) (ends : List Ended) → length ends ≡ length (fresh ds) → length ends ≡ length ds
 fresh_count ds ends h = h ∙ length-map ds task.Fresh
 
-as_many : (ds : List Duty) (proposed cast : List Ended) → length proposed ≡ length (fresh (blocks_in ds)) → length cast ≡ length (fresh (votes_in ds)) → blocks_in ds ++ votes_in ds ≡ ds
-    → length (proposed ++ cast) ≡ length ds
-as_many ds proposed cast left right all =
+data_count : (ds : List Duty) → length (data_tasks (votes_in ds)) ≡ length (votes_in ds)
+data_count [] = refl
+data_count (duty.Block row ∷ ds) = data_count ds
+data_count (duty.Vote row ∷ ds) = ap suc (data_count ds)
+
+vote_count : (asked cast : List Ended) → length (vote_ends asked cast) ≡ length asked
+vote_count [] cast = refl
+vote_count (e ∷ asked) cast = ap suc (vote_count asked (ends_after e.aggregation cast))
+
+as_many : (ds : List Duty) (proposed asked cast : List Ended) → length proposed ≡ length (fresh (blocks_in ds)) → length asked ≡ length (data_tasks (votes_in ds)) → blocks_in ds ++ votes_in ds ≡ ds
+    → length (proposed ++ vote_ends asked cast) ≡ length ds
+as_many ds proposed asked cast left right all =
     let both = ap (λ (l : List Duty). length l) all in
     let one = fresh_count (blocks_in ds) proposed left in
-    let two = fresh_count (votes_in ds) cast right in
-    omega (arith, length-append proposed cast, length-append (blocks_in ds) (votes_in ds))
+    let two : length (vote_ends asked cast) ≡ length (votes_in ds) = vote_count asked cast ∙ right ∙ data_count ds in
+    omega (arith, length-append proposed (vote_ends asked cast), length-append (blocks_in ds) (votes_in ds))
 
 count_merged : (ends again : List Ended) → length (merged ends again) ≡ length ends
 count_merged [] again = refl
@@ -231,8 +329,8 @@ closed_so setup s ds ends (k ∷ tasks) steps t f =
 -- ---- from the look-up on
 
 -- steps after one another
-in_order : (o a b c : TurnStep) (p q r s t : List TurnStep) → p ≡ a ∷ q → q ≡ b ∷ r → r ≡ c ∷ s → s ≡ t → o ∷ p ≡ o ∷ a ∷ b ∷ c ∷ t
-in_order o a b c p q r s t e f g h = cc
+in_order : (o a b c d : TurnStep) (p q r m s t : List TurnStep) → p ≡ a ∷ q → q ≡ b ∷ r → r ≡ c ∷ (m ++ d ∷ s) → s ≡ t → o ∷ p ≡ o ∷ a ∷ b ∷ c ∷ (m ++ d ∷ t)
+in_order o a b c d p q r m s t e f g h = cc
 
 told_due : (setup : DutySetup) (s : Standing) (active : List PubKey) (ds : List Duty) (steps : List TurnStep) (t : Standing) → IsDue s.answers s.slot active ds → Follows Fits (done_plan setup s ds) steps (Some (Ok t))
     → AllTold setup s.slot ((LooksUp s.answers s.slot active, Due ds) ∷ steps)
@@ -243,9 +341,9 @@ told_due setup s active ds steps t due f =
     let both : List Duty = blocks_in ds ++ votes_in ds in
     let blocks = works_so work 0 (fresh (blocks_in ds)) (λ proposed. waits moment (λ reached. cast_plan setup s ds proposed)) steps (Ok t) f in
     let woke = waits_so moment (λ reached. cast_plan setup s ds blocks.1) blocks.2 (Ok t) blocks.6 in
-    let votes = works_so work place (fresh (votes_in ds)) (λ cast. again_on_time setup s both (blocks.1 ++ cast)) woke.1 (Ok t) woke.3 in
-    let ends : List Ended = blocks.1 ++ votes.1 in
-    let close = closed_so setup s both ends (again_tasks both ends) votes.2 t votes.6 in
+    let votes = casts_so work place (votes_in ds) (λ ends. again_on_time setup s both (blocks.1 ++ ends)) woke.1 (Ok t) woke.3 in
+    let ends : List Ended = blocks.1 ++ vote_ends votes.asked votes.cast in
+    let close = closed_so setup s both ends (again_tasks both ends) votes.rest t votes.on in
     let text = duty_lines s.slot both close.results in
     let all = all_due s.answers s.slot active ds due in
     let tried = subst (λ (l : List Duty). AreTried setup s.slot work ends (again_tasks l ends) close.tries close.results) all close.tried in
@@ -253,7 +351,8 @@ told_due setup s active ds steps t due f =
     let looked : TurnStep = (LooksUp s.answers s.slot active, Due ds) in
     let first : TurnStep = (Works work 0 (fresh (blocks_in ds)), Worked blocks.0 (Some blocks.1)) in
     let second : TurnStep = (Waits moment, Woke woke.0) in
-    let third : TurnStep = (Works work place (fresh (votes_in ds)), Worked votes.0 (Some votes.1)) in
+    let third : TurnStep = (Works work place (data_tasks (votes_in ds)), Worked votes.asking (Some votes.asked)) in
+    let fourth : TurnStep = (Works work place (vote_tasks (votes_in ds) votes.asked), Worked votes.voting (Some votes.cast)) in
     record {
       front = [];
       answers = s.answers;
@@ -263,22 +362,27 @@ told_due setup s active ds steps t due f =
       made = blocks.0;
       proposed = blocks.1;
       reached = woke.0;
-      voted = votes.0;
-      cast = votes.1;
+      asking = votes.asking;
+      asked = votes.asked;
+      records = votes.records;
+      voting = votes.voting;
+      cast = votes.cast;
       tries = close.tries;
       results = close.results;
       text = text;
       gathers = close.gathers;
       behind = close.behind;
-      are = in_order looked first second third steps blocks.2 woke.1 votes.2 (close.tries ++ (Writes text, Wrote true text) ∷ (close.gathers ++ close.behind)) blocks.3 woke.2 votes.3 close.are;
+      are = in_order looked first second third fourth steps blocks.2 woke.1 votes.records votes.rest (close.tries ++ (Writes text, Wrote true text) ∷ (close.gathers ++ close.behind)) blocks.3 woke.2 votes.are close.are;
       found = due;
       work_slot = refl;
       blocks = blocks.4;
-      votes = votes.4;
+      questions = votes.questions;
+      kept = votes.kept;
+      votes = votes.done;
       tried = tried;
       lines = ap (λ (l : List Duty). duty_lines s.slot l close.results) all;
       gathered = gathered;
-      each = tried_count setup s.slot work ends (again_tasks ds ends) close.tries close.results tried ∙ as_many ds blocks.1 votes.1 blocks.5 votes.5 all;
+      each = tried_count setup s.slot work ends (again_tasks ds ends) close.tries close.results tried ∙ as_many ds blocks.1 votes.asked votes.cast blocks.5 votes.each all;
     }
 
 -- ---- up to the look-up
@@ -298,7 +402,10 @@ more_told setup slot xs ys (Ok t) h = record {
   made = h.made;
   proposed = h.proposed;
   reached = h.reached;
-  voted = h.voted;
+  asking = h.asking;
+  asked = h.asked;
+  records = h.records;
+  voting = h.voting;
   cast = h.cast;
   tries = h.tries;
   results = h.results;
@@ -309,6 +416,8 @@ more_told setup slot xs ys (Ok t) h = record {
   found = h.found;
   work_slot = h.work_slot;
   blocks = h.blocks;
+  questions = h.questions;
+  kept = h.kept;
   votes = h.votes;
   tried = h.tried;
   lines = h.lines;

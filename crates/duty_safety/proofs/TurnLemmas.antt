@@ -5,6 +5,7 @@ use Rattle.std.proofs.lemmas.Bool.{le-ltb}
 use Rattle.edge_kit.specs.declared.bytes.PubKey.{PubKey}
 use Rattle.slash_defs.specs.declared.book.Book.{Book}
 use Rattle.slash_defs.specs.declared.book.File.{File}
+use Rattle.slash_defs.specs.declared.message.Message.{Message}
 use Rattle.edge_clock.specs.Clocks.{IsWaited}
 use Rattle.desk_machine.specs.declared.call.DeskCall.{DeskCall}
 use Rattle.desk_machine.specs.declared.call.DeskCall.TheVariants as call
@@ -20,15 +21,18 @@ use Rattle.duty_plans.specs.declared.task.Task.{Task}
 use Rattle.duty_plans.specs.Choices.{aggregate_tasks, reports}
 use Rattle.duty_plans.specs.Ends.{merged, results_of}
 use Rattle.duty_plans.specs.Tasks.{again_tasks, fresh}
+use Rattle.duty_plans.specs.Votes.{data_tasks, vote_ends, vote_tasks}
 use Rattle.duty_plans.specs.declared.setup.DutySetup.{DutySetup}
+use Rattle.duty_plans.specs.declared.work.SlotWork.{SlotWork}
 use Rattle.duty_turns.specs.declared.held.DutyEnd.{DutyEnd}
 use Rattle.duty_turns.specs.declared.held.DutyEnd.TheVariants as end
 use Rattle.duty_turns.specs.Lines.{aggregate_lines, duty_lines}
+use Rattle.duty_turns.specs.Recording.{free_of, recorded}
 use Rattle.duty_turns.specs.Standing.{Standing}
 use Rattle.duty_pruning.specs.Pruning.{pruning_file}
 use Rattle.duty_turns.specs.Times.{again_start, aggregates_start, epoch_of, is_first_slot, is_missed, next_slot, slot_of, slot_start, votes_start}
 use Rattle.duty_turns.specs.TurnSteps.{Does, Fits, House, TurnCall, TurnPlan, TurnReply, TurnStep, LooksUp, Own, Refreshes, RefreshesLanes, Waits, Works, Writes, Woke, Wrote}
-use Rattle.duty_turns.specs.Turns.{Next, NextPlan, active_of, after_wait, again_plan, aggregates_plan, left_plan, tried_plan, asked_plan, at_moment, at_slot, blocks_in, calls, choices_of, chooses_plan, close_plan, due_plan, exported, exports, failed_plan, finish_plan, found, gathers_plan, keys_of_turn, lanes_refreshed, listed_plan, merges, next_turn, own_reply, prunes, puts, ready_plan, refreshed, refreshes, refreshes_lanes, is_worth_compacting, report_plan, shortens, sized, told_plan, turn_plan, turns_plan, unless_short, votes_in, votes_plan, waits, with_active, woken, woken_plan, work_of, worked, works, wrote}
+use Rattle.duty_turns.specs.Turns.{Next, NextPlan, active_of, after_wait, again_plan, aggregates_plan, left_plan, tried_plan, asked_plan, at_moment, at_slot, blocks_in, calls, casts, choices_of, chooses_plan, close_plan, due_plan, exported, exports, failed_plan, finish_plan, found, gathers_plan, keys_of_turn, lanes_refreshed, listed_plan, merges, next_turn, own_reply, prunes, puts, ready_plan, records, records_free, records_votes, refreshed, refreshes, refreshes_lanes, is_worth_compacting, report_plan, shortens, sized, told_plan, turn_plan, turns_plan, unless_short, votes_in, votes_plan, waits, with_active, woken, woken_plan, work_of, worked, works, wrote}
 use Rattle.duty_safety.specs.OnTime.{AllWaits, AreOnTime, IsWait, Wait, WakesInSlot, again_on_time, aggregates_on_time, cast_plan, chooses_on_time, done_plan, gathers_on_time, left_on_time, listed_on_time, on_time_turn, on_time_turns, ready_on_time, told_on_time, tried_on_time}
 use Rattle.duty_safety.proofs.KeepLemmas.{Keeps, found_keeps, keeps_ask, keeps_bind, keeps_done, keeps_else, keeps_if, keeps_stop, lanes_refreshed_keeps, refreshed_keeps, woken_keeps, worked_keeps}
 use Rattle.duty_safety.proofs.AskedLemmas.{At, asked_stays}
@@ -123,6 +127,36 @@ shortens_keeps W first s p q h =
     keeps_if W (From first) (is_first_slot s.slot) (calls call.Size (λ r. sized r p)) p (calls call.Size (λ r. sized r q)) q
     (keeps_ask W (From first) (Own (Calls call.Size)) (λ r. sized (own_reply r) p) (λ r. sized (own_reply r) q) (λ r w. sized_keeps W first (own_reply r) p q h)) h
 
+works_keep : (W : Wait) (first : ℕ) (work : SlotWork) (place : ℕ) (tasks : List Task) (f g : List Ended → NextPlan) → ((ends : List Ended) → Keeps W (From first) (f ends) (g ends))
+    → Keeps W (From first) (works work place tasks f) (works work place tasks g)
+works_keep W first work place tasks f g h = keeps_ask W (From first) (Works work place tasks) (λ r. worked r f) (λ r. worked r g) (λ r is. worked_keeps W (From first) r f g h)
+
+-- ---- votes that are recorded together, and then cast
+
+records_keep : (W : Wait) (first now : ℕ) (ms : List (PubKey × Message)) (p q : NextPlan) → Keeps W (From first) p q → Keeps W (From first) (records now ms p) (records now ms q)
+records_keep W first now [] p q h = h
+records_keep W first now (m ∷ ms) p q h =
+    keeps_ask W (From first) (Own (Calls (call.Record (m ∷ ms) now))) (λ r. unless_short (own_reply r) p) (λ r. unless_short (own_reply r) q) (λ r is. unless_short_keeps W first (own_reply r) p q h)
+
+records_free_keep : (W : Wait) (first : ℕ) (work : SlotWork) (tasks : List Task) (r : DeskReply) (p q : NextPlan) → Keeps W (From first) p q → Keeps W (From first) (records_free work tasks r p) (records_free work tasks r q)
+records_free_keep W first work tasks (reply.Keys listed) p q h = records_keep W first work.moment (recorded work.domains (free_of listed) tasks) p q h
+records_free_keep W first work tasks r p q h = keeps_stop W (From first)
+
+records_votes_keep : (W : Wait) (first : ℕ) (work : SlotWork) (tasks : List Task) (p q : NextPlan) → Keeps W (From first) p q → Keeps W (From first) (records_votes work tasks p) (records_votes work tasks q)
+records_votes_keep W first work [] p q h = h
+records_votes_keep W first work (t ∷ tasks) p q h =
+    keeps_ask W (From first) (Own (Calls call.Keys)) (λ r. records_free work (t ∷ tasks) (own_reply r) p) (λ r. records_free work (t ∷ tasks) (own_reply r) q)
+    (λ r is. records_free_keep W first work (t ∷ tasks) (own_reply r) p q h)
+
+casts_keep : (W : Wait) (first : ℕ) (work : SlotWork) (place : ℕ) (votes : List Duty) (f g : List Ended → NextPlan) → ((ends : List Ended) → Keeps W (From first) (f ends) (g ends))
+    → Keeps W (From first) (casts work place votes f) (casts work place votes g)
+casts_keep W first work place votes f g h =
+    let old : List Ended → NextPlan = λ asked. works work place (vote_tasks votes asked) (λ cast. f (vote_ends asked cast)) in
+    let new : List Ended → NextPlan = λ asked. works work place (vote_tasks votes asked) (λ cast. g (vote_ends asked cast)) in
+    works_keep W first work place (data_tasks votes) (λ asked. records_votes work (vote_tasks votes asked) (old asked)) (λ asked. records_votes work (vote_tasks votes asked) (new asked))
+    (λ asked. records_votes_keep W first work (vote_tasks votes asked) (old asked) (new asked)
+    (works_keep W first work place (vote_tasks votes asked) (λ cast. f (vote_ends asked cast)) (λ cast. g (vote_ends asked cast)) (λ cast. h (vote_ends asked cast))))
+
 -- ---- a turn
 
 module _ (setup : DutySetup) (W : Wait) (first : ℕ) (cap : first < 2 ^ 64) (bounds : Bounds setup W first) where
@@ -135,8 +169,7 @@ module _ (setup : DutySetup) (W : Wait) (first : ℕ) (cap : first < 2 ^ 64) (bo
       let all = aggregates_on_time setup s choices chosen tasks in
       keeps_else W (From first) (is_missed setup.genesis_time s.slot moment reached) (report_plan setup s.slot choices (reports chosen []) (after_wait setup.genesis_time moment reached s)) all all
       (bounds s.slot moment reached h (aggregates_slot setup.genesis_time s.slot) w)
-      (keeps_ask W (From first) (Works (work_of setup s) 0 tasks) (λ r. worked r after) (λ r. worked r after)
-      (λ r is. worked_keeps W (From first) r after after (λ ends. report_keeps W first setup s.slot choices (reports chosen ends) next (slot_behind first s.slot cap h))))
+      (works_keep W first (work_of setup s) 0 tasks after after (λ ends. report_keeps W first setup s.slot choices (reports chosen ends) next (slot_behind first s.slot cap h)))
 
   gathers_keep : (s : Standing) (choices : List Task) (chosen : List Ended) (tasks : List Task) → first ≤ s.slot → Keeps W (From first) (gathers_plan setup s choices chosen tasks) (gathers_on_time setup s choices chosen tasks)
   gathers_keep s choices chosen [] h = report_keeps W first setup s.slot choices (reports chosen []) (at_slot (next_slot s.slot) s) (slot_behind first s.slot cap h)
@@ -151,8 +184,7 @@ module _ (setup : DutySetup) (W : Wait) (first : ℕ) (cap : first < 2 ^ 64) (bo
   chooses_keep s (t ∷ choices) h =
       let old : List Ended → NextPlan = λ chosen. gathers_plan setup s (t ∷ choices) chosen (aggregate_tasks (t ∷ choices) chosen) in
       let new : List Ended → NextPlan = λ chosen. gathers_on_time setup s (t ∷ choices) chosen (aggregate_tasks (t ∷ choices) chosen) in
-      keeps_ask W (From first) (Works (work_of setup s) 0 (t ∷ choices)) (λ r. worked r old) (λ r. worked r new)
-      (λ r is. worked_keeps W (From first) r old new (λ chosen. gathers_keep s (t ∷ choices) chosen (aggregate_tasks (t ∷ choices) chosen) h))
+      works_keep W first (work_of setup s) 0 (t ∷ choices) old new (λ chosen. gathers_keep s (t ∷ choices) chosen (aggregate_tasks (t ∷ choices) chosen) h)
 
   told_keep : (s : Standing) (ds : List Duty) (ends : List Ended) (results : List DutyResult) → first ≤ s.slot → Keeps W (From first) (told_plan setup s ds ends results) (told_on_time setup s ds ends results)
   told_keep s ds ends results h =
@@ -167,8 +199,7 @@ module _ (setup : DutySetup) (W : Wait) (first : ℕ) (cap : first < 2 ^ 64) (bo
       let new : List Ended → NextPlan = λ again. told_on_time setup s ds ends (merged ends again) in
       keeps_else W (From first) (is_missed setup.genesis_time s.slot moment reached) (close_plan setup s.slot ds (results_of ends) (after_wait setup.genesis_time moment reached s)) (works (work_of setup s) 0 tasks old) (tried_on_time setup s ds ends tasks)
       (bounds s.slot moment reached h (again_slot setup.genesis_time s.slot) w)
-      (keeps_ask W (From first) (Works (work_of setup s) 0 tasks) (λ r. worked r old) (λ r. worked r new)
-      (λ r is. worked_keeps W (From first) r old new (λ again. told_keep s ds ends (merged ends again) h)))
+      (works_keep W first (work_of setup s) 0 tasks old new (λ again. told_keep s ds ends (merged ends again) h))
 
   left_keep : (s : Standing) (ds : List Duty) (ends : List Ended) (tasks : List Task) → first ≤ s.slot → Keeps W (From first) (left_plan setup s ds ends tasks) (left_on_time setup s ds ends tasks)
   left_keep s ds ends [] h = told_keep s ds ends (results_of ends) h
@@ -179,19 +210,18 @@ module _ (setup : DutySetup) (W : Wait) (first : ℕ) (cap : first < 2 ^ 64) (bo
       keeps_ask W (From first) (Waits moment) (λ x. woken x old) (λ x. woken x new) (λ x is. woken_keeps W (From first) moment x old new is (λ reached on. tried_keep s ds ends (t ∷ tasks) reached h on))
 
   cast_keeps : (s : Standing) (ds : List Duty) (proposed : List Ended) → first ≤ s.slot
-      → Keeps W (From first) (works (work_of setup s) (length (blocks_in ds)) (fresh (votes_in ds)) (λ cast. again_plan setup s (blocks_in ds ++ votes_in ds) (proposed ++ cast))) (cast_plan setup s ds proposed)
+      → Keeps W (From first) (casts (work_of setup s) (length (blocks_in ds)) (votes_in ds) (λ cast. again_plan setup s (blocks_in ds ++ votes_in ds) (proposed ++ cast))) (cast_plan setup s ds proposed)
   cast_keeps s ds proposed h =
       let all : List Duty = blocks_in ds ++ votes_in ds in
       let old : List Ended → NextPlan = λ cast. again_plan setup s all (proposed ++ cast) in
       let new : List Ended → NextPlan = λ cast. again_on_time setup s all (proposed ++ cast) in
-      keeps_ask W (From first) (Works (work_of setup s) (length (blocks_in ds)) (fresh (votes_in ds))) (λ r. worked r old) (λ r. worked r new)
-      (λ r w. worked_keeps W (From first) r old new (λ cast. left_keep s all (proposed ++ cast) (again_tasks all (proposed ++ cast)) h))
+      casts_keep W first (work_of setup s) (length (blocks_in ds)) (votes_in ds) old new (λ cast. left_keep s all (proposed ++ cast) (again_tasks all (proposed ++ cast)) h)
 
   votes_keep : (s : Standing) (ds : List Duty) (proposed : List Ended) (reached : ℕ) → first ≤ s.slot → W (votes_start setup.genesis_time s.slot) reached
       → Keeps W (From first) (votes_plan setup s ds proposed reached) (cast_plan setup s ds proposed)
   votes_keep s ds proposed reached h w =
       let moment = votes_start setup.genesis_time s.slot in
-      let cast = works (work_of setup s) (length (blocks_in ds)) (fresh (votes_in ds)) (λ ends. again_plan setup s (blocks_in ds ++ votes_in ds) (proposed ++ ends)) in
+      let cast = casts (work_of setup s) (length (blocks_in ds)) (votes_in ds) (λ ends. again_plan setup s (blocks_in ds ++ votes_in ds) (proposed ++ ends)) in
       keeps_else W (From first) (is_missed setup.genesis_time s.slot moment reached) (close_plan setup s.slot (blocks_in ds) (results_of proposed) (at_moment setup.genesis_time moment reached s)) cast (cast_plan setup s ds proposed)
       (bounds s.slot moment reached h (votes_slot setup.genesis_time s.slot) w) (cast_keeps s ds proposed h)
 
@@ -200,9 +230,9 @@ module _ (setup : DutySetup) (W : Wait) (first : ℕ) (cap : first < 2 ^ 64) (bo
       let moment = votes_start setup.genesis_time s.slot in
       let old : List Ended → NextPlan = λ proposed. waits moment (votes_plan setup s ds proposed) in
       let new : List Ended → NextPlan = λ proposed. waits moment (λ reached. cast_plan setup s ds proposed) in
-      keeps_ask W (From first) (Works (work_of setup s) 0 (fresh (blocks_in ds))) (λ r. worked r old) (λ r. worked r new) (λ r w. worked_keeps W (From first) r old new (λ proposed.
+      works_keep W first (work_of setup s) 0 (fresh (blocks_in ds)) old new (λ proposed.
       keeps_ask W (From first) (Waits moment) (λ x. woken x (votes_plan setup s ds proposed)) (λ x. woken x (λ reached. cast_plan setup s ds proposed)) (λ x is.
-      woken_keeps W (From first) moment x (votes_plan setup s ds proposed) (λ reached. cast_plan setup s ds proposed) is (λ reached on. votes_keep s ds proposed reached h on))))
+      woken_keeps W (From first) moment x (votes_plan setup s ds proposed) (λ reached. cast_plan setup s ds proposed) is (λ reached on. votes_keep s ds proposed reached h on)))
 
   ready_keeps : (slot : ℕ) (active : List PubKey) → first ≤ slot → (o : Option Standing) → At slot o → Keeps W (From first) (ready_plan setup active o) (ready_on_time setup active o)
   ready_keeps slot active h None e = keeps_done W (From first) (Err end.Write) tt

@@ -19,7 +19,7 @@ use Rattle.duty_turns.specs.Lines.{duty_lines}
 use Rattle.duty_turns.specs.Standing.{Standing}
 use Rattle.duty_turns.specs.Times.{again_start, aggregates_start, next_slot, slot_of, slot_start, votes_start}
 use Rattle.duty_turns.specs.TurnSteps.{TurnPlan, TurnStep, Waits, Woke}
-use Rattle.duty_turns.specs.Turns.{NextPlan, active_of, asked_plan, at_slot, blocks_in, calls, choices_of, finish_plan, looks_up, next_turn, puts, refreshes, refreshes_lanes, report_plan, shortens, votes_in, waits, with_active, work_of, works}
+use Rattle.duty_turns.specs.Turns.{NextPlan, active_of, asked_plan, at_slot, blocks_in, calls, casts, choices_of, finish_plan, looks_up, next_turn, puts, refreshes, refreshes_lanes, report_plan, shortens, votes_in, waits, with_active, work_of, works}
 
 -- what is said of a wait: of the moment that was waited for and the moment that was reached
 abbrev pub Wait : Type 1
@@ -73,7 +73,7 @@ again_on_time setup s ds ends = left_on_time setup s ds ends (again_tasks ds end
 
 -- the votes are cast, and a line is written of each duty
 abbrev pub cast_plan : DutySetup → Standing → List Duty → List Ended → NextPlan
-cast_plan setup s ds proposed = works (work_of setup s) (length (blocks_in ds)) (fresh (votes_in ds)) (λ cast. again_on_time setup s (blocks_in ds ++ votes_in ds) (proposed ++ cast))
+cast_plan setup s ds proposed = casts (work_of setup s) (length (blocks_in ds)) (votes_in ds) (λ cast. again_on_time setup s (blocks_in ds ++ votes_in ds) (proposed ++ cast))
 
 -- what is due is done: blocks at once, votes a third into the slot
 abbrev pub done_plan : DutySetup → Standing → List Duty → NextPlan

@@ -1,6 +1,11 @@
 -- What was done and told of all that was found due in a turn.
 use Rattle.std.specs.Prelude.{◌≡◌, ◌<◌, ◌+◌, ℕ, List, [], ◌∷◌, ◌++◌, length, Ok, Err, Some, true}
 use Rattle.edge_kit.specs.declared.bytes.PubKey.{PubKey}
+use Rattle.slash_defs.specs.declared.message.Message.{Message}
+use Rattle.desk_machine.specs.declared.call.KeyStanding.{KeyStanding}
+use Rattle.desk_machine.specs.declared.call.DeskCall.TheVariants as call
+use Rattle.desk_machine.specs.declared.call.DeskReply.{DeskReply}
+use Rattle.desk_machine.specs.declared.call.DeskReply.TheVariants as reply
 use Rattle.duty_schedule.specs.Answers.{TakenAnswer}
 use Rattle.duty_schedule.specs.Due.{IsDue}
 use Rattle.duty_schedule.specs.declared.rows.Duty.{Duty}
@@ -10,14 +15,16 @@ use Rattle.duty_plans.specs.declared.task.Task.{Task}
 use Rattle.duty_plans.specs.Choices.{aggregate_tasks, reports}
 use Rattle.duty_plans.specs.Ends.{merged, results_of}
 use Rattle.duty_plans.specs.Tasks.{again_tasks, fresh}
+use Rattle.duty_plans.specs.Votes.{data_tasks, vote_ends, vote_tasks}
 use Rattle.duty_plans.specs.declared.setup.DutySetup.{DutySetup}
 use Rattle.duty_plans.specs.declared.work.SlotWork.{SlotWork}
 use Rattle.duty_plans.specs.Slots.{EachDone}
-use Rattle.duty_plans.specs.Steps.{DutyStep}
+use Rattle.duty_plans.specs.Steps.{DutyStep, Calls, Replies}
 use Rattle.duty_turns.specs.Lanes.{dealt}
+use Rattle.duty_turns.specs.Recording.{free_of, recorded}
 use Rattle.duty_turns.specs.Lines.{aggregate_lines, duty_lines}
 use Rattle.duty_turns.specs.Times.{again_start, aggregates_start, votes_start}
-use Rattle.duty_turns.specs.TurnSteps.{TurnStep, LooksUp, Waits, Works, Writes, Due, Woke, Worked, Wrote}
+use Rattle.duty_turns.specs.TurnSteps.{TurnStep, LooksUp, Own, Owned, Waits, Works, Writes, Due, Woke, Worked, Wrote}
 use Rattle.duty_turns.specs.Turns.{Next, blocks_in, choices_of, votes_in}
 
 -- each lane, from one on, did the tasks that are dealt to it, one after another, each with the end that is dealt to the lane with it,
@@ -57,9 +64,21 @@ AreGathered setup slot work (t ∷ choices) steps = (made : List (List DutyStep)
     × AllDone work 0 (t ∷ choices) made chosen × (length chosen ≡ length (t ∷ choices))
     × ArePublished setup slot work (aggregate_tasks (t ∷ choices) chosen) published ends × (text ≡ aggregate_lines slot (t ∷ choices) (reports chosen ends))
 
--- The duties that are due at the slot were looked up. Blocks were done at once, and votes a third into the slot, in lanes, each duty with
--- an end of its own steps; what was left of them was tried once more; then a line was written of each, blocks before votes; and then
--- aggregates of the votes were published.
+-- the desk was asked to keep these messages together, if there is one
+abbrev pub AreKept : ℕ → List (PubKey × Message) → List TurnStep → Type 0
+AreKept now [] steps = steps ≡ []
+AreKept now (m ∷ ms) steps = (r : DeskReply) × (steps ≡ (Own (Calls (call.Record (m ∷ ms) now)), Owned (Replies r)) ∷ [])
+
+-- so those of these votes, if there is one: of the keys that may sign by how the desk told that all stand, and the first of each key
+abbrev pub AreRecorded : SlotWork → List Task → List TurnStep → Type 0
+AreRecorded work [] steps = steps ≡ []
+AreRecorded work (t ∷ tasks) steps = (listed : List (PubKey × KeyStanding)) × (more : List TurnStep) × (steps ≡ (Own (Calls call.Keys), Owned (Replies (reply.Keys listed))) ∷ more)
+    × AreKept work.moment (recorded work.domains (free_of listed) (t ∷ tasks)) more
+
+-- The duties that are due at the slot were looked up. Blocks were done at once, in lanes, each with an end of its own steps.
+-- A third into the slot nodes were asked in lanes what each vote is to be for; the messages of all votes for what they said were handed to the
+-- desk together; and these votes were cast in lanes. What was left of all was tried once more; then a line was written of each duty, blocks
+-- before votes; and then aggregates of the votes were published.
 pub record AllTold (setup : DutySetup) (slot : ℕ) (steps : List TurnStep) : Type 0 where
   pub front : List TurnStep
   pub answers : List TakenAnswer
@@ -69,7 +88,10 @@ pub record AllTold (setup : DutySetup) (slot : ℕ) (steps : List TurnStep) : Ty
   pub made : List (List DutyStep)
   pub proposed : List Ended
   pub reached : ℕ
-  pub voted : List (List DutyStep)
+  pub asking : List (List DutyStep)
+  pub asked : List Ended
+  pub records : List TurnStep
+  pub voting : List (List DutyStep)
   pub cast : List Ended
   pub tries : List TurnStep
   pub results : List DutyResult
@@ -77,14 +99,17 @@ pub record AllTold (setup : DutySetup) (slot : ℕ) (steps : List TurnStep) : Ty
   pub gathers : List TurnStep
   pub behind : List TurnStep
   pub are : steps ≡ front ++ (LooksUp answers slot active, Due due) ∷ (Works work 0 (fresh (blocks_in due)), Worked made (Some proposed)) ∷ (Waits (votes_start setup.genesis_time slot), Woke reached)
-      ∷ (Works work (length (blocks_in due)) (fresh (votes_in due)), Worked voted (Some cast)) ∷ (tries ++ (Writes text, Wrote true text) ∷ (gathers ++ behind))
+      ∷ (Works work (length (blocks_in due)) (data_tasks (votes_in due)), Worked asking (Some asked)) ∷ (records
+      ++ (Works work (length (blocks_in due)) (vote_tasks (votes_in due) asked), Worked voting (Some cast)) ∷ (tries ++ (Writes text, Wrote true text) ∷ (gathers ++ behind)))
   pub found : IsDue answers slot active due
   pub work_slot : work.slot ≡ slot
   pub blocks : AllDone work 0 (fresh (blocks_in due)) made proposed
-  pub votes : AllDone work (length (blocks_in due)) (fresh (votes_in due)) voted cast
-  pub tried : AreTried setup slot work (proposed ++ cast) (again_tasks due (proposed ++ cast)) tries results
+  pub questions : AllDone work (length (blocks_in due)) (data_tasks (votes_in due)) asking asked
+  pub kept : AreRecorded work (vote_tasks (votes_in due) asked) records
+  pub votes : AllDone work (length (blocks_in due)) (vote_tasks (votes_in due) asked) voting cast
+  pub tried : AreTried setup slot work (proposed ++ vote_ends asked cast) (again_tasks due (proposed ++ vote_ends asked cast)) tries results
   pub lines : text ≡ duty_lines slot due results
-  pub gathered : AreGathered setup slot work (choices_of setup due (proposed ++ cast)) gathers
+  pub gathered : AreGathered setup slot work (choices_of setup due (proposed ++ vote_ends asked cast)) gathers
   pub each : length results ≡ length due
 
 -- where the turn went on to the next

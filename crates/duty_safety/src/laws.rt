@@ -46,8 +46,8 @@ pub fn desk_law<D: Disk>()
 {}
 
 /// Over a clock on time no duty is dropped. Turns each of whose waits is over in the slot for which it was, and not before
-/// its moment, are turns that drop nothing, whatever moment is reached. Over a clock that is told on time, from a slot
-/// that is not before the clock's start, no turn drops anything. In such a turn, where it goes on to the next, each duty that was
+/// its moment, are turns that drop nothing, whatever moment is reached. Over a clock that is on time, from a slot that is
+/// not before the clock's start, no turn drops anything. In such a turn, where it goes on to the next, each duty that was
 /// found due was done, and a line was written of each. `K` takes the desk's calls.
 pub fn on_time_law<K: DeskCalls>()
     ensures turn { (setup : DutySetup) (s : Standing) (steps : List TurnStep) (v : Option Next) → Follows Fits (turn_plan setup s) steps v
@@ -63,8 +63,8 @@ pub fn on_time_law<K: DeskCalls>()
 
 /// What a turn of the loop merges by its own calls, whatever replies come: only where not all is kept, and only the file
 /// that forgets what is old, at the epoch of the turn's slot, of a file that the desk exported by the step just before. So
-/// the loop brings nothing in that the desk did not have. What the lanes call is said by their own plans, which merge
-/// nothing.
+/// by a merge the loop brings nothing in that the desk did not have. What the lanes call is said by their own plans, which
+/// merge nothing.
 pub fn merge_law()
     ensures { (setup : DutySetup) (s : Standing) (steps : List TurnStep) (v : Option Next) → Follows Fits (turn_plan setup s) steps v
         → MergesOnly setup.keep_epochs (epoch_of s.slot) None steps }

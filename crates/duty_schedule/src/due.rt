@@ -9,11 +9,11 @@ use edge_kit::PubKey;
 use std::alloc::{AllocError, Global};
 use std::collections::BTreeSet;
 
-/// The active keys, to look them up. The error is want of memory.
-pub(crate) fn active_set(alloc: Global, active: &[PubKey]) -> Result<BTreeSet<PubKey>, AllocError>
-    ensures { IfOk result (IsFromIterResult key_order active.now) }
+/// These keys, to look them up. The error is want of memory.
+pub fn key_set(alloc: Global, keys: &[PubKey]) -> Result<BTreeSet<PubKey>, AllocError>
+    ensures { IfOk result (IsFromIterResult key_order keys.now) }
 {
-    active.iter().copied().collect(alloc)
+    keys.iter().copied().collect(alloc)
 }
 
 /// The rows at a slot whose key is active, by key and then by place. The error is want of memory.

@@ -13,6 +13,7 @@ mod slots;
 
 pub use aggregators::is_aggregator;
 pub use checks::{DataDiffers, DataMember, check_block, check_data};
+pub use due::key_set;
 pub use law::schedule_law;
 pub use rows::{Duty, DutyRows, Taken};
 pub use schedule::Schedule;

@@ -6,7 +6,7 @@ ghost use Rattle.duty_schedule.specs.Holding.{MovesOn};
 ghost use Rattle.duty_schedule.specs.Standing.{Stands};
 
 use crate::answer::{Basis, DutyAnswer};
-use crate::due::{active_set, due_rows};
+use crate::due::{due_rows, key_set};
 use crate::held::HeldAnswers;
 use crate::rows::{Duty, DutyRows, Taken};
 use crate::slots::epoch_of;
@@ -79,7 +79,7 @@ impl Schedule {
             → IsDue answers slot active.now duties.items) }
     {
         let epoch = epoch_of(slot);
-        let active = active_set(self.alloc, active)?;
+        let active = key_set(self.alloc, active)?;
         let proposers = self.proposers.rows(self.newest_epoch, epoch);
         let attesters = self.attesters.rows(self.newest_epoch, epoch);
         let blocks = due_rows(self.alloc, proposers, slot, &active)?;

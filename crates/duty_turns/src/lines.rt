@@ -116,6 +116,7 @@ fn owner_of(task: &Task) -> PubKey
 {
     match task {
         Task::Fresh(duty) | Task::Again(duty, _) => key_of(duty),
+        Task::Data(row) | Task::Vote(row, _) => row.pubkey,
         Task::Choose(row, _) | Task::Aggregate(row, _, _) => row.pubkey,
     }
 }

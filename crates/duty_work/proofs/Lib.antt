@@ -3,3 +3,4 @@ pub mod TurnLemmas
 pub mod RunLemmas
 pub mod PlacedLemmas
 pub mod PruneLemmas
+pub mod VoteLemmas

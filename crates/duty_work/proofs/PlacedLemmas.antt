@@ -28,6 +28,7 @@ use Rattle.duty_plans.specs.declared.task.Task.{Task}
 use Rattle.duty_plans.specs.declared.task.Task.TheVariants as task
 use Rattle.duty_plans.specs.Choices.{aggregate_by, aggregate_of, aggregate_tasks, choice_by, choice_of, choose_tasks}
 use Rattle.duty_plans.specs.Tasks.{again_by, again_of, again_tasks, fresh}
+use Rattle.duty_plans.specs.Votes.{data_tasks, vote_by, vote_task, vote_tasks}
 use Rattle.duty_turns.specs.Turns.{blocks_in, choices_of, is_block, votes_in}
 use Rattle.duty_workers.specs.Places as workers
 use Rattle.duty_asks.specs.Placed.{are_placed, has_place, have_places}
@@ -160,6 +161,26 @@ both_placed ds blocks votes first second h =
     (subst (λ (l : List Duty). workers.are_placed l ≡ true) (sym first) (kind_placed is_block ds h))
     (subst (λ (l : List Duty). workers.are_placed l ≡ true) (sym second) (kind_placed (λ d. not (is_block d)) ds h))
 
+pub data_placed : (ds : List Duty) → workers.are_placed ds ≡ true → workers.are_placed_tasks (data_tasks ds) ≡ true
+data_placed [] h = refl
+data_placed (duty.Vote row ∷ ds) h =
+    let q = and_parts (workers.has_place row) (workers.are_placed ds) h in
+    both_true (workers.has_place row) (workers.are_placed_tasks (data_tasks ds)) q.0 (data_placed ds q.1)
+data_placed (duty.Block row ∷ ds) h = data_placed ds h
+
+vote_placed : (d : Duty) (o : Option Aggregation) → workers.is_placed d ≡ true → workers.are_placed_tasks (vote_by d o) ≡ true
+vote_placed (duty.Vote row) (Some (votes.Voted details)) h = both_true (workers.has_place row) true h refl
+vote_placed (duty.Vote row) (Some (votes.Chosen details proof)) h = refl
+vote_placed (duty.Vote row) None h = refl
+vote_placed (duty.Block row) o h = refl
+
+pub cast_placed : (ds : List Duty) (ends : List Ended) → workers.are_placed ds ≡ true → workers.are_placed_tasks (vote_tasks ds ends) ≡ true
+cast_placed [] ends h = refl
+cast_placed (d ∷ ds) [] h = refl
+cast_placed (d ∷ ds) (e ∷ ends) h =
+    let q = and_parts (workers.is_placed d) (workers.are_placed ds) h in
+    all_joined workers.is_placed_task (vote_task d e) (vote_tasks ds ends) (vote_placed d e.aggregation q.0) (cast_placed ds ends q.1)
+
 choice_placed : (d : Duty) (o : Option Aggregation) → workers.is_placed d ≡ true → workers.are_placed_tasks (choice_by d o) ≡ true
 choice_placed (duty.Vote row) (Some (votes.Voted details)) h = both_true (workers.has_place row) true h refl
 choice_placed (duty.Vote row) (Some (votes.Chosen details proof)) h = refl
@@ -185,6 +206,8 @@ aggregate_placed (task.Choose row details) (Some (votes.Voted asked)) h = refl
 aggregate_placed (task.Choose row details) None h = refl
 aggregate_placed (task.Fresh d) o h = refl
 aggregate_placed (task.Again d unsent) o h = refl
+aggregate_placed (task.Data row) o h = refl
+aggregate_placed (task.Vote row details) o h = refl
 aggregate_placed (task.Aggregate row details proof) o h = refl
 
 pub aggregates_placed : (ts : List Task) (ends : List Ended) → workers.are_placed_tasks ts ≡ true → workers.are_placed_tasks (aggregate_tasks ts ends) ≡ true

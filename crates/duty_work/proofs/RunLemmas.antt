@@ -34,7 +34,7 @@ use Rattle.duty_plans.specs.declared.setup.DutySetup.{DutySetup}
 use Rattle.duty_plans.specs.declared.work.SlotWork.{SlotWork}
 use Rattle.duty_turns.specs.Standing.{Standing}
 use Rattle.duty_turns.specs.Times.{epoch_of, slot_start, votes_start}
-use Rattle.duty_turns.specs.Turns.{Next, NextPlan, PartPlan, active_of, again_plan, asked_plan, at_slot, blocks_in, calls, close_plan, due_plan, failed_plan, finish_plan, listed_plan, prunes, puts, ready_plan, refreshes, refreshes_lanes, report_plan, shortens, told_plan, turn_plan, votes_in, votes_plan, waits, with_active, woken_plan, work_of, works, wrote}
+use Rattle.duty_turns.specs.Turns.{Next, NextPlan, PartPlan, active_of, again_plan, asked_plan, at_slot, blocks_in, calls, casts, close_plan, due_plan, failed_plan, finish_plan, listed_plan, prunes, puts, ready_plan, refreshes, refreshes_lanes, report_plan, shortens, told_plan, turn_plan, votes_in, votes_plan, waits, with_active, woken_plan, work_of, works, wrote}
 use Rattle.duty_turns.specs.TurnSteps.{Does, Fits, House, SinkSeen}
 use Rattle.duty_turns.specs.declared.held.DutyEnd.{DutyEnd}
 use Rattle.duty_turns.specs.declared.held.DutyEnd.TheVariants as end
@@ -325,27 +325,29 @@ module _ {K : Type 0} (leads : Leads K) (start : Option ℕ) where
       tasks_short Holds s (work_of setup s) 0 (fresh (blocks_in ds)) (λ proposed. waits (votes_start setup.genesis_time s.slot) (votes_plan setup s ds proposed)) d ls ks ns o
       (subst (λ (l : List Duty). WorksDone leads (work_of setup s) 0 (fresh l) ls ks None) of work)
 
-  module _ (Holds : Standing → Type 0) (setup : DutySetup) (s : Standing) (d : K) (ls ks : List (Seat K)) (ns : List Seen) (o : SinkSeen) (ds blocks votes : List Duty) (ends : List Ended)
-      (first : blocks ≡ blocks_in ds) (of : votes ≡ votes_in ds) where
-    abbrev Cast : List Ended → NextPlan
+  module _ (Holds : Standing → Type 0) (setup : DutySetup) (s : Standing) (a m : House K) (ds blocks votes : List Duty) (ends : List Ended) (first : blocks ≡ blocks_in ds) (of : votes ≡ votes_in ds) where
+    abbrev pub Cast : List Ended → NextPlan
     Cast cast = again_plan setup s (blocks_in ds ++ votes_in ds) (ends ++ cast)
 
-    votes_so : (v : Option (List Ended)) → WorksDone leads (work_of setup s) (length blocks) (fresh votes) ls ks v → WorksDone leads (work_of setup s) (length (blocks_in ds)) (fresh (votes_in ds)) ls ks v
-    votes_so v work =
-        let done = subst (λ (l : List Duty). WorksDone leads (work_of setup s) (length blocks) (fresh l) ls ks v) of work in
-        subst (λ (l : List Duty). WorksDone leads (work_of setup s) (length l) (fresh (votes_in ds)) ls ks v) first done
+    casts_are : casts (work_of setup s) (length blocks) votes Cast ≡ casts (work_of setup s) (length (blocks_in ds)) (votes_in ds) Cast
+    casts_are = ap (λ (l : List Duty). casts (work_of setup s) (length l) votes Cast) first ∙ ap (λ (l : List Duty). casts (work_of setup s) (length (blocks_in ds)) l Cast) of
 
-    pub votes_short : WorksDone leads (work_of setup s) (length blocks) (fresh votes) ls ks None
-        → Turns leads start Holds (works (work_of setup s) (length (blocks_in ds)) (fresh (votes_in ds)) (λ cast. again_plan setup s (blocks_in ds ++ votes_in ds) (ends ++ cast))) (house d ls ns o) (house d ks ns o) (Err end.OutOfMemory)
-    votes_short work = tasks_short Holds s (work_of setup s) (length (blocks_in ds)) (fresh (votes_in ds)) Cast d ls ks ns o (votes_so None work)
+    pub votes_short : Carries Fits (Does leads start) (casts (work_of setup s) (length blocks) votes Cast) a m None
+        → Turns leads start Holds (casts (work_of setup s) (length (blocks_in ds)) (votes_in ds) (λ cast. again_plan setup s (blocks_in ds ++ votes_in ds) (ends ++ cast))) a m (Err end.OutOfMemory)
+    votes_short run = record { after = s; held = tt; runs = subst (λ (p : NextPlan). Carries Fits (Does leads start) p a m None) casts_are run }
 
-    pub votes_done : (b : House K) (cast : List Ended) (result : Result (Unit {0}) DutyEnd) → WorksDone leads (work_of setup s) (length blocks) (fresh votes) ls ks (Some cast)
-        → Turns leads start Holds (again_plan setup s (blocks ++ votes) (ends ++ cast)) (house d ks ns o) b result
-        → Turns leads start Holds (works (work_of setup s) (length (blocks_in ds)) (fresh (votes_in ds)) (λ cast. again_plan setup s (blocks_in ds ++ votes_in ds) (ends ++ cast))) (house d ls ns o) b result
-    votes_done b cast result work rest =
+    pub votes_done : (b : House K) (cast : List Ended) (result : Result (Unit {0}) DutyEnd) → Comes Fits (Does leads start) (casts (work_of setup s) (length blocks) votes Cast) (Cast cast) a m
+        → Turns leads start Holds (again_plan setup s (blocks ++ votes) (ends ++ cast)) m b result
+        → Turns leads start Holds (casts (work_of setup s) (length (blocks_in ds)) (votes_in ds) (λ cast. again_plan setup s (blocks_in ds ++ votes_in ds) (ends ++ cast))) a b result
+    votes_done b cast result come rest =
         let all : blocks ++ votes ≡ blocks_in ds ++ votes_in ds = ap (λ (l : List Duty). l ++ votes) first ∙ ap (λ (l : List Duty). blocks_in ds ++ l) of in
-        tasks_done Holds (work_of setup s) (length (blocks_in ds)) (fresh (votes_in ds)) Cast d ls ks ns o b cast result (votes_so (Some cast) work)
-        (subst (λ (l : List Duty). Turns leads start Holds (again_plan setup s l (ends ++ cast)) (house d ks ns o) b result) all rest)
+        let meant = subst (λ (l : List Duty). Turns leads start Holds (again_plan setup s l (ends ++ cast)) m b result) all rest in
+        let whole = casts (work_of setup s) (length (blocks_in ds)) (votes_in ds) Cast in
+        record {
+          after = meant.after;
+          held = meant.held;
+          runs = comes_run Fits (Does leads start) a m b whole (Cast cast) (next_value meant.after result) (subst (λ (p : NextPlan). Comes Fits (Does leads start) p (Cast cast) a m) casts_are come) meant.runs;
+        }
 
   -- the duties and their ends are those that were meant
   pub ended_as : (Holds : Standing → Type 0) (setup : DutySetup) (s : Standing) (a b : House K) (ds es : List Duty) (ends fs : List Ended) (result : Result (Unit {0}) DutyEnd) → ds ≡ es → ends ≡ fs

@@ -17,7 +17,7 @@ use Rattle.duty_plans.specs.Tasks.{again_tasks, fresh}
 use Rattle.duty_plans.specs.declared.setup.DutySetup.{DutySetup}
 use Rattle.duty_turns.specs.Standing.{Standing}
 use Rattle.duty_turns.specs.Times.{again_start, aggregates_start, is_missed, next_slot, slot_start, votes_start}
-use Rattle.duty_turns.specs.Turns.{after_wait, again_plan, aggregates_plan, at_moment, at_slot, blocks_in, calls, chooses_plan, close_plan, finish_plan, first_standing, gathers_plan, left_plan, listed_plan, next_turn, refreshes, refreshes_lanes, report_plan, shortens, told_plan, tried_plan, turn_plan, turns_plan, votes_in, votes_plan, waits, woken_plan, work_of, works}
+use Rattle.duty_turns.specs.Turns.{after_wait, again_plan, aggregates_plan, at_moment, at_slot, blocks_in, calls, casts, chooses_plan, close_plan, finish_plan, first_standing, gathers_plan, left_plan, listed_plan, next_turn, refreshes, refreshes_lanes, report_plan, shortens, told_plan, tried_plan, turn_plan, turns_plan, votes_in, votes_plan, waits, woken_plan, work_of, works}
 use Rattle.duty_turns.specs.TurnSteps.{Does, Fits, House, TurnPlan}
 use Rattle.duty_turns.specs.declared.held.DutyEnd.{DutyEnd}
 use Rattle.duty_turns.specs.declared.held.DutyEnd.TheVariants as end
@@ -46,7 +46,7 @@ pub votes_late : (setup : DutySetup) (s : Standing) (ds : List Duty) (ends : Lis
 votes_late setup s ds ends reached late = rw late refl
 
 pub votes_now : (setup : DutySetup) (s : Standing) (ds : List Duty) (ends : List Ended) (reached : ℕ) → is_missed setup.genesis_time s.slot (votes_start setup.genesis_time s.slot) reached ≡ false
-    → votes_plan setup s ds ends reached ≡ works (work_of setup s) (length (blocks_in ds)) (fresh (votes_in ds)) (λ cast. again_plan setup s (blocks_in ds ++ votes_in ds) (ends ++ cast))
+    → votes_plan setup s ds ends reached ≡ casts (work_of setup s) (length (blocks_in ds)) (votes_in ds) (λ cast. again_plan setup s (blocks_in ds ++ votes_in ds) (ends ++ cast))
 votes_now setup s ds ends reached now = rw now refl
 
 -- nothing is left of the duties, or something

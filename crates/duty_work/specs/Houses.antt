@@ -8,6 +8,7 @@ use Rattle.client_calls.specs.Seats.{SignerSeen}
 use Rattle.node_fallback.specs.Seen.{Seen}
 use Rattle.edge_clock.specs.Clocks.{IsNow}
 use Rattle.call_plans.specs.Paths.{Carries, Comes}
+use Rattle.duty_plans.specs.declared.ended.Ended.{Ended}
 use Rattle.duty_plans.specs.declared.setup.DutySetup.{DutySetup}
 use Rattle.duty_plans.specs.Hands.{Free}
 use Rattle.duty_plans.specs.Seats.{Seat, at_seat}
@@ -60,6 +61,11 @@ abbrev pub CalledOn : {K : Type 0} → (K → List (DeskCall × DeskReply) → K
 CalledOn leads start plan next a b (Ok done) = Comes Fits (Does leads start) plan next a b
 CalledOn leads start plan next a b (Err e) = Carries Fits (Does leads start) plan a b None
 
+-- votes were cast, before what follows of how they ended, or memory ran out in it
+abbrev pub CastOn : {K : Type 0} → (K → List (DeskCall × DeskReply) → K → Type 0) → Option ℕ → NextPlan → (List Ended → NextPlan) → House K → House K → Option (List Ended) → Type 0
+CastOn leads start plan next_by a b (Some ends) = Comes Fits (Does leads start) plan (next_by ends) a b
+CastOn leads start plan next_by a b None = Carries Fits (Does leads start) plan a b None
+
 -- whether memory ran out at a call
 abbrev pub short_by : DeskReply → Result (Unit {0}) AllocError
 short_by reply.OutOfMemory = Err (record {})
@@ -80,6 +86,15 @@ IsMerged reply.OutOfMemory = Unit {0}
 IsMerged (reply.Full size wanted) = Unit {0}
 IsMerged (reply.Merged keys) = Unit {0}
 IsMerged r = ⊥
+
+-- the replies of a desk that was to keep messages together
+abbrev pub IsRecorded : DeskReply → Type 0
+IsRecorded reply.Recorded = Unit {0}
+IsRecorded reply.Unfit = Unit {0}
+IsRecorded reply.Disk = Unit {0}
+IsRecorded reply.OutOfMemory = Unit {0}
+IsRecorded (reply.Full size wanted) = Unit {0}
+IsRecorded r = ⊥
 
 -- a turn, or what is left of it, was carried out
 pub record Turns {K : Type 0} (leads : K → List (DeskCall × DeskReply) → K → Type 0) (start : Option ℕ) (Holds : Standing → Type 0) (plan : NextPlan) (a b : House K) (result : Result (Unit {0}) DutyEnd) : Type 0 where

@@ -5,6 +5,8 @@
 mod aggregate;
 mod closing;
 mod prune;
+mod recording;
+mod votes;
 mod work;
 
 pub use closing::close;

@@ -6,13 +6,14 @@ ghost use Rattle.duty_plans.specs.Tasks.{fresh};
 ghost use Rattle.duty_workers.specs.Working.{IsReady, WorksDone, lanes_seen};
 ghost use Rattle.duty_workers.specs.Places.{are_placed, are_placed_tasks};
 ghost use Rattle.duty_turns.specs.Standing.{Standing};
-ghost use Rattle.duty_turns.specs.Turns.{after_wait, again_plan, at_moment, blocks_in, due_plan, is_block, tried_plan, votes_in, votes_plan, work_of, works};
+ghost use Rattle.duty_turns.specs.Turns.{after_wait, again_plan, at_moment, blocks_in, casts, due_plan, is_block, tried_plan, votes_in, votes_plan, work_of};
 ghost use Rattle.duty_turns.specs.TurnSteps.{sink_seen};
 ghost use Rattle.duty_asks.specs.Placed.{HoldsPlaced};
 ghost use Rattle.duty_work.specs.Houses.{Turns, house};
 
 use crate::aggregate::{report_ended, report_merged};
 use crate::closing::close_ended;
+use crate::votes::cast_votes;
 use desk_machine::DeskCalls;
 use duty_plans::{DutySetup, Ended, Task, again_tasks, fresh};
 use duty_schedule::{Duty, Schedule};
@@ -66,7 +67,7 @@ pub fn do_due<
         return Err(DutyEnd::OutOfMemory);
     };
     let reached = clock.wait_until(rt, votes_start(setup.genesis_time, held.slot));
-    cast_votes(
+    vote_at(
         rt, alloc, setup, clock, reached, due, blocks, proposed, held, desk, lanes, out,
     )
 }
@@ -134,7 +135,7 @@ pub(crate) fn do_tasks<
 
 /// Has the votes cast, whose places are after those of the blocks, unless the moment that was reached is of a later slot,
 /// or before that at which votes are cast. Then the next turn is that of the slot that was reached.
-fn cast_votes<
+fn vote_at<
     T: Threads + Wait + Sync,
     K: DeskCalls + Send,
     S: Signer + Send,
@@ -215,7 +216,7 @@ fn cast_now<
     ensures ready { K.ready desk.new }
     ensures lanes { All (IsReady K.ready) lanes.new }
     ensures runs { (nodes : List Seen) (s : Standing) → HoldsPlaced held.old s → Turns K.leads (C.start clock.now) (HoldsPlaced held.new)
-        (works (work_of setup.now s) (length (blocks_in due.now)) (fresh (votes_in due.now)) (λ cast. again_plan setup.now s (blocks_in due.now ++ votes_in due.now) (proposed.items ++ cast)))
+        (casts (work_of setup.now s) (length (blocks_in due.now)) (votes_in due.now) (λ cast. again_plan setup.now s (blocks_in due.now ++ votes_in due.now) (proposed.items ++ cast)))
         (house desk.old (lanes_seen S.told S.faults S.denials N.told N.faults lanes.old) nodes (sink_seen O.held O.faults out.old))
         (house desk.new (lanes_seen S.told S.faults S.denials N.told N.faults lanes.new) nodes (sink_seen O.held O.faults out.new)) result }
 {
@@ -223,7 +224,7 @@ fn cast_now<
         return Err(DutyEnd::OutOfMemory);
     };
     let votes = votes.as_slice();
-    let Ok(cast) = do_duties(rt, alloc, setup, blocks.len(), votes, held, lanes) else {
+    let Ok(cast) = cast_votes(rt, alloc, setup, blocks.len(), votes, held, desk, lanes) else {
         return Err(DutyEnd::OutOfMemory);
     };
     end_both(

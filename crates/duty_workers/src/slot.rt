@@ -11,7 +11,7 @@ ghost use Rattle.duty_workers.specs.Places.{are_placed_tasks, is_placed, is_plac
 ghost use Rattle.client_calls.specs.Seats.{signer_seen};
 
 use crate::block::{propose, propose_block};
-use crate::vote::{cast_vote, vote_for};
+use crate::vote::{ask_data, cast_vote, vote_for};
 use altair_blocks::AnyBlock;
 use block_copies::block_copy;
 use desk_machine::DeskCalls;
@@ -94,6 +94,8 @@ fn carry_out<K: DeskCalls, S: Signer, N: Node + Drop>(
     match task {
         Task::Fresh(duty) => do_duty(alloc, work, duty, desk, signer, nodes),
         Task::Again(duty, unsent) => try_again(alloc, work, duty, unsent, desk, signer, nodes),
+        Task::Data(row) => ask_data::<K, N>(work, row, nodes),
+        Task::Vote(row, details) => vote_for(alloc, work, row, *details, desk, signer, nodes),
         Task::Choose(row, details) => choose(work, row, *details, desk, signer),
         Task::Aggregate(row, details, proof) => {
             aggregate(work, row, details, *proof, desk, signer, nodes)

@@ -1,15 +1,16 @@
 //! A vote: what its committee is to vote, the desk's leave, the signature, the post.
-ghost use Rattle.std.specs.Prelude.{◌≡◌, ◌≤◌, option_map, true};
+ghost use Rattle.std.specs.Prelude.{◌≡◌, ◌≤◌, [], option_map, true};
 ghost use Rattle.std.specs.Result.{result_ok};
 ghost use Rattle.desk_machine.specs.Machine.{moment_limit};
 ghost use Rattle.desk_machine.specs.declared.call.Outcome.{Outcome};
 ghost use Rattle.node_calls.specs.Aggregation.{aggregation_bits};
 ghost use Rattle.client_calls.specs.Seats.{SignerSeen, signer_seen};
 ghost use Rattle.call_plans.specs.Paths.{Carries};
+ghost use Rattle.call_plans.specs.Plans.{Done, Follows};
 ghost use Rattle.duty_plans.specs.Ends.{barred, left_by, over};
 ghost use Rattle.duty_plans.specs.Hands.{Free, Holds};
-ghost use Rattle.duty_plans.specs.Messages.{vote_message, vote_post, vote_request};
-ghost use Rattle.duty_plans.specs.Plans.{granted_plan, post_plan, under, vote_plan, voted_plan, with_got};
+ghost use Rattle.duty_plans.specs.Messages.{vote_post, vote_request};
+ghost use Rattle.duty_plans.specs.Plans.{data_plan, granted_plan, post_plan, said, under, vote_plan, voted_plan, with_got};
 ghost use Rattle.duty_plans.specs.Seats.{Does, at_seat, nodes_seen};
 ghost use Rattle.duty_plans.specs.Steps.{Fits};
 ghost use Rattle.duty_sends.specs.Hands.{HasMessage, MayEnd, given_hand};
@@ -17,8 +18,8 @@ ghost use Rattle.duty_workers.specs.Places.{has_place};
 
 use desk_machine::{DeskCall, DeskCalls, Grant, Outcome};
 use duty_plans::{
-    DutyResult, Ended, Got, SlotWork, Unsent, barred, grant_in, left_by, over, signature_in,
-    vote_in,
+    DutyResult, Ended, Got, SlotWork, Unsent, barred, grant_in, left_by, over, said, signature_in,
+    vote_in, vote_message,
 };
 use duty_sends::{send, settle};
 use edge_kit::Sig;
@@ -26,10 +27,35 @@ use node_calls::{Ask, AttesterRow, Node, Post, aggregation_bits};
 use node_fallback::Nodes;
 use phase0_blocks::Attestation;
 use phase0_types::{AttestationData, BoundedList};
-use sign_roots::Domains;
 use signer_link::{SignObject, SignRequest, Signer};
-use slash_defs::Message;
 use std::alloc::{AllocError, Global};
+
+/// Asks the nodes what the committee of a vote is to vote.
+pub(crate) fn ask_data<K: DeskCalls, N: Node + Drop>(
+    work: &SlotWork,
+    row: &AttesterRow,
+    nodes: &mut Nodes<N>,
+) -> Result<Ended, AllocError>
+    ensures runs { (desk : K) (s : SignerSeen) → Carries Fits (Does K.leads) (data_plan work.now row.now)
+        (at_seat desk Free s (nodes_seen N.told N.faults nodes.old)) (at_seat desk Free s (nodes_seen N.told N.faults nodes.new)) (result_ok result) }
+{
+    let answer = nodes.ask(&Ask::Data {
+        slot: work.slot,
+        committee_index: row.committee_index,
+    });
+    end_of(vote_in(row, answer))
+}
+
+/// How the question ended, where this was answered.
+fn end_of(details: Got<AttestationData>) -> Result<Ended, AllocError>
+    ensures { Follows Fits (with_got over details (λ d. Done (said d))) [] (result_ok result) }
+{
+    match details {
+        Got::Given(details) => Ok(said(details)),
+        Got::Failed(result) => Ok(over(result)),
+        Got::Nothing => Err(AllocError),
+    }
+}
 
 /// Casts the vote of a duty.
 pub(crate) fn cast_vote<K: DeskCalls, S: Signer, N: Node + Drop>(
@@ -105,7 +131,7 @@ pub(crate) fn vote_for<K: DeskCalls, S: Signer, N: Node + Drop>(
     };
     let reply = desk.call(DeskCall::Propose {
         key: row.pubkey,
-        message: message_of(&work.domains, &details),
+        message: vote_message(&work.domains, &details),
         now: work.moment,
     });
     sign(
@@ -118,17 +144,6 @@ pub(crate) fn vote_for<K: DeskCalls, S: Signer, N: Node + Drop>(
         signer,
         nodes,
     )
-}
-
-/// What is signed of a vote.
-fn message_of(domains: &Domains, details: &AttestationData) -> Message
-    ensures { result ≡ vote_message domains.now details.now }
-{
-    Message::Vote {
-        source: details.source.epoch,
-        target: details.target.epoch,
-        root: domains.attestation_root(details),
-    }
 }
 
 /// What goes to the signing service for a vote.

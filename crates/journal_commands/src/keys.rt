@@ -90,7 +90,7 @@ fn show_desk<D: Disk, O: Sink>(alloc: Global, desk: &mut Desk<D>, out: &mut O) -
         DeskReply::Full { size: _, wanted: _ } => unreachable!(),
         DeskReply::Closed(_) => unreachable!(),
         DeskReply::Exported(_) => unreachable!(),
-        DeskReply::Pruned(_) => unreachable!(),
+        DeskReply::Pruned(_) | DeskReply::Recorded | DeskReply::Unfit => unreachable!(),
         DeskReply::HasFailed(_) | DeskReply::NotClosing(_) => unreachable!(),
         DeskReply::Size { size: _, weight: _ } => unreachable!(),
         DeskReply::Refused(_) => unreachable!(),

@@ -148,7 +148,7 @@ fn merge_file<D: Disk, O: Sink>(
         DeskReply::Busy { .. } | DeskReply::Compacted { .. } => unreachable!(),
         DeskReply::Closed(_) => unreachable!(),
         DeskReply::Exported(_) => unreachable!(),
-        DeskReply::Pruned(_) => unreachable!(),
+        DeskReply::Pruned(_) | DeskReply::Recorded | DeskReply::Unfit => unreachable!(),
         DeskReply::Keys(_) => unreachable!(),
         DeskReply::HasFailed(_) | DeskReply::NotClosing(_) => unreachable!(),
         DeskReply::Size { size: _, weight: _ } => unreachable!(),

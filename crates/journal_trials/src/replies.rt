@@ -48,6 +48,8 @@ fn plain_words(reply: &DeskReply) -> &'static str {
         DeskReply::Disk => "disk failed",
         DeskReply::LastGeneration => "last generation",
         DeskReply::OutOfMemory => "out of memory",
+        DeskReply::Recorded => "recorded",
+        DeskReply::Unfit => "unfit",
         _ => "another reply",
     }
 }
@@ -79,6 +81,8 @@ pub fn push_reply(text: &mut String, reply: DeskReply) -> Option<()>
         | DeskReply::Disk
         | DeskReply::LastGeneration
         | DeskReply::OutOfMemory
+        | DeskReply::Recorded
+        | DeskReply::Unfit
         | DeskReply::Merged { keys: _ }
         | DeskReply::Exported(_)
         | DeskReply::Pruned(_)

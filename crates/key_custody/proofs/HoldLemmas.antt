@@ -17,7 +17,7 @@ use Rattle.protect_record.specs.Standing.{Stands}
 use Rattle.protect_record.proofs.MemberLemmas.{contains_cases, contains_none}
 use Rattle.protect_record.proofs.BoundLemmas.{floors_of-append, greater_floors-assoc, greater_floors-comm, greater_floors-same}
 use Rattle.record_join.specs.Keys.{key_cmp, kept_of, with_key, with_kept}
-use Rattle.record_join.specs.BooksPasts.{EachOnce, known_past, gained, own_grown_from, with_file_book, with_file}
+use Rattle.record_join.specs.BooksPasts.{EachOnce, known_past, gained, own_grown, own_grown_from, with_file_book, with_file, with_messages}
 use Rattle.record_join.specs.BooksPastsLaws.{gained_listed}
 use Rattle.record_join.specs.KeyLaws.{same_key, kept_here, kept_apart, changed}
 use Rattle.record_replay.specs.Pruning.{pruning_of}
@@ -97,10 +97,16 @@ grew_pruned : (xs : Kept) (k : PubKey) (o : Option Past) → Grew xs (pruned_key
 grew_pruned xs k None = grew_self xs
 grew_pruned xs k (Some p) = grew_file xs ((k, pruning_of p) ∷ [])
 
+grew_messages : (xs : Kept) (listed : List (PubKey × Message)) → Grew xs (with_messages xs listed)
+grew_messages xs [] = grew_self xs
+grew_messages xs (one ∷ listed) =
+    grew_on xs (own_grown xs one.0 one.1) (with_messages xs (one ∷ listed)) (grew_own xs one.0 one.1 (kept_of xs one.0) refl) (grew_messages (own_grown xs one.0 one.1) listed)
+
 pub grew_lasting : (a : State) (c : DeskCall) → Grew a.keys (lasting_after a c).keys
 grew_lasting a (call.Merge file) = grew_file a.keys file.books
 grew_lasting a (call.Activate k now) = grew_known a.keys k (is_some (kept_of a.keys k)) refl
 grew_lasting a (call.Propose k m now) = grew_own a.keys k m (kept_of a.keys k) refl
+grew_lasting a (call.Record ps now) = grew_messages a.keys ps
 grew_lasting a (call.Prune k) = grew_pruned a.keys k (past_of a k)
 grew_lasting a (call.Allow k now) = grew_self a.keys
 grew_lasting a (call.Answer k e l now) = grew_self a.keys
@@ -148,6 +154,7 @@ pub active_lasting : (a : State) (key : PubKey) (c : DeskCall) → CanLast a c �
 active_lasting a key (call.Merge file) can apart h = h
 active_lasting a key (call.Activate k now) can apart h = active_put a.states key k h
 active_lasting a key (call.Propose k m now) can apart h = h
+active_lasting a key (call.Record ps now) can apart h = h
 active_lasting a key (call.Prune k) can apart h = h
 active_lasting a key (call.Allow k now) can apart h = h
 active_lasting a key (call.Answer k e l now) can apart h = h
@@ -200,6 +207,7 @@ pub leaves : (a : State) (c : DeskCall) (r : DeskReply) → Reply a c r → Leav
 leaves a (call.Merge file) (reply.Merged n) ok = is_done a (call.Merge file) (after a (call.Merge file) (reply.Merged n)) tt refl refl refl
 leaves a (call.Activate k now) reply.Active ok = is_done a (call.Activate k now) (after a (call.Activate k now) reply.Active) tt refl refl refl
 leaves a (call.Propose k m now) (reply.Granted g) ok = is_done a (call.Propose k m now) (after a (call.Propose k m now) (reply.Granted g)) tt refl refl refl
+leaves a (call.Record ps now) reply.Recorded ok = is_done a (call.Record ps now) (after a (call.Record ps now) reply.Recorded) tt refl refl refl
 leaves a (call.Prune k) (reply.Pruned book) ok = is_done a (call.Prune k) (after a (call.Prune k) (reply.Pruned book)) tt refl refl refl
 leaves a (call.Allow k now) (reply.Granted g) ok = as_before a (call.Allow k now) (after a (call.Allow k now) (reply.Granted g)) refl refl refl
 leaves a (call.Answer k e l now) reply.Noted ok = as_before a (call.Answer k e l now) (after a (call.Answer k e l now) reply.Noted) refl refl refl
@@ -212,6 +220,7 @@ leaves a (call.Activate k now) reply.Disk ok = is_torn a (call.Activate k now) (
 leaves a (call.Propose k m now) reply.Disk ok = is_torn a (call.Propose k m now) (after a (call.Propose k m now) reply.Disk) (λ e. tt) refl refl refl
 leaves a (call.Allow k now) reply.Disk ok = is_torn a (call.Allow k now) (after a (call.Allow k now) reply.Disk) (λ e. tt) refl refl refl
 leaves a (call.FinishClose k) reply.Disk ok = is_torn a (call.FinishClose k) (after a (call.FinishClose k) reply.Disk) (fails_closing a k ok) refl refl refl
+leaves a (call.Record ps now) reply.Disk ok = is_torn a (call.Record ps now) (after a (call.Record ps now) reply.Disk) (λ e. tt) refl refl refl
 leaves a (call.Prune k) reply.Disk ok = is_torn a (call.Prune k) (after a (call.Prune k) reply.Disk) (λ e. tt) refl refl refl
 leaves a call.Compact reply.Disk ok = is_torn a call.Compact (after a call.Compact reply.Disk) (λ e. tt) refl refl refl
 leaves a (call.Answer k e l now) reply.Disk ok = absurd ok
@@ -429,6 +438,7 @@ pub whole_lasting : (a : State) (c : DeskCall) → CanLast a c → WholeIn a.key
 whole_lasting a (call.Merge file) can w = λ q e. w q (was_none a.keys (lasting_after a (call.Merge file)).keys q (grew_lasting a (call.Merge file)) e)
 whole_lasting a (call.Activate k now) can w = whole_activated a.keys a.states k w
 whole_lasting a (call.Propose k m now) can w = λ q e. w q (was_none a.keys (lasting_after a (call.Propose k m now)).keys q (grew_lasting a (call.Propose k m now)) e)
+whole_lasting a (call.Record ps now) can w = λ q e. w q (was_none a.keys (lasting_after a (call.Record ps now)).keys q (grew_lasting a (call.Record ps now)) e)
 whole_lasting a (call.Prune k) can w = λ q e. w q (was_none a.keys (lasting_after a (call.Prune k)).keys q (grew_lasting a (call.Prune k)) e)
 whole_lasting a (call.Allow k now) can w = w
 whole_lasting a (call.Answer k e l now) can w = w

@@ -1,14 +1,15 @@
 -- A key that is neither active nor being closed stays so until it is activated, and its past stays but for merges and prunes of it.
 use Rattle.std.proofs.Common.{◌≡◌, ◌≢◌, ◌⊎◌, inl, inr, Bool, true, false, cond, List, [], ◌∷◌, Option, Some, None, refl, sym, ◌∙◌, ap, subst}
-use Rattle.std.specs.Prelude.{IsSome, is_some, option_map}
+use Rattle.std.specs.Prelude.{Contains, IsSome, is_some, option_map}
 use Rattle.std.specs.BTreeMap.{is_at}
 use Rattle.std.proofs.lemmas.Map.Made.{lookup-map_values}
 use Rattle.edge_kit.specs.declared.bytes.PubKey.{PubKey}
 use Rattle.slash_defs.specs.declared.book.Book.{Book}
 use Rattle.slash_defs.specs.declared.message.Message.{Message}
 use Rattle.protect_record.specs.Pasts.{Past, no_past, with_book, with_own}
+use Rattle.protect_record.proofs.MemberLemmas.{contains_first, contains_later}
 use Rattle.record_join.specs.Keys.{key_cmp, kept_of, with_key, with_kept}
-use Rattle.record_join.specs.BooksPasts.{known_past, own_grown_from, with_file, with_file_book}
+use Rattle.record_join.specs.BooksPasts.{known_past, own_grown, own_grown_from, with_file, with_file_book, with_messages}
 use Rattle.record_join.specs.KeyLaws.{same_key, apart_back, kept_apart, changed}
 use Rattle.record_replay.specs.Pruning.{pruning_of}
 use Rattle.record_replay.specs.Replaying.{lasting_state, lasting_states, with_known}
@@ -96,6 +97,7 @@ rests_after a key (call.Settle g o) reply.Settled ok apart h = h
 rests_after a key (call.BeginClose k) reply.CloseBegun ok apart h =
     (rests_with_kept key k a.states Closing (some_there (kept_of a.states k) Active ok.1) (λ e. not_active key a.states h.0 (subst (λ (q : PubKey). kept_of a.states q ≡ Some Active) e ok.1)) h.0, h.1)
 rests_after a key (call.FinishClose k) (reply.Closed book) ok apart h = (closes_rest a key k h ok.0.1.1, h.1)
+rests_after a key (call.Record ps now) reply.Recorded ok apart h = h
 rests_after a key (call.Prune k) (reply.Pruned book) ok apart h = h
 rests_after a key call.Compact (reply.Compacted before size) ok apart h = h
 rests_after a key (call.Merge file) reply.Disk ok apart h = (h.0, torn_rests key a.torn (lasting_after a (call.Merge file)) h.1 (λ e. h.0))
@@ -107,6 +109,7 @@ rests_after a key (call.FinishClose k) reply.Disk ok apart h =
       fails : MayFail a (call.FinishClose k) → IsSome a.torn ⊎ ((a.torn ≡ None) × Proceeds a (call.FinishClose k))
       fails (inl some) = inl some
       fails (inr x) = inr (x.0, x.1)
+rests_after a key (call.Record ps now) reply.Disk ok apart h = (h.0, torn_rests key a.torn (lasting_after a (call.Record ps now)) h.1 (λ e. h.0))
 rests_after a key (call.Prune k) reply.Disk ok apart h = (h.0, torn_rests key a.torn (lasting_after a (call.Prune k)) h.1 (λ e. h.0))
 rests_after a key call.Compact reply.Disk ok apart h = (h.0, torn_rests key a.torn (lasting_after a call.Compact) h.1 (λ e. h.0))
 rests_after a key (call.Answer k e l now) reply.Disk ok apart h = absurd ok
@@ -168,6 +171,25 @@ grown_same a key k m h active = at (kept_of a.keys k) refl where
   at None e = refl
   at (Some past) e = changed a.keys k key (with_own past m) (some_there (kept_of a.keys k) past e) ∙ here past (is_at (key_cmp k) key) refl
 
+-- messages of active keys
+grown_other : (pasts : List (PubKey × Past)) (key k : PubKey) (m : Message) → (k ≡ key → ⊥) → kept_of (own_grown pasts k m) key ≡ kept_of pasts key
+grown_other pasts key k m other = at (kept_of pasts k) refl where
+  here : (past : Past) (t : Bool) → is_at (key_cmp k) key ≡ t → cond t (Some (with_own past m)) (kept_of pasts key) ≡ kept_of pasts key
+  here past true e = absurd (other (same_key k key e))
+  here past false e = refl
+
+  at : (o : Option Past) → kept_of pasts k ≡ o → kept_of (own_grown_from pasts k m o) key ≡ kept_of pasts key
+  at None e = refl
+  at (Some past) e = changed pasts k key (with_own past m) (some_there (kept_of pasts k) past e) ∙ here past (is_at (key_cmp k) key) refl
+
+messages_other : (pasts : List (PubKey × Past)) (key : PubKey) (listed : List (PubKey × Message)) → ((one : PubKey × Message) → Contains listed one → one.0 ≡ key → ⊥) → kept_of (with_messages pasts listed) key ≡ kept_of pasts key
+messages_other pasts key [] apart = refl
+messages_other pasts key (one ∷ listed) apart =
+    messages_other (own_grown pasts one.0 one.1) key listed (λ x c. apart x (contains_later one listed x c)) ∙ grown_other pasts key one.0 one.1 (apart one (contains_first one listed))
+
+messages_rest : (a : State) (key : PubKey) (listed : List (PubKey × Message)) → Rests key a → ((one : PubKey × Message) → Contains listed one → IsActive a one.0) → kept_of (with_messages a.keys listed) key ≡ kept_of a.keys key
+messages_rest a key listed h active = messages_other a.keys key listed (λ one c e. not_active key a.states h.0 (subst (λ (q : PubKey). kept_of a.states q ≡ Some Active) e (active one c)))
+
 torn_past : (key : PubKey) (o : Option Past) (t : Option Lasting) (l : Lasting) → PastTorn key o t → (t ≡ None → kept_of l.keys key ≡ o) → PastTorn key o (torn_first t l)
 torn_past key o None l h new = new refl
 torn_past key o (Some first) l h new = h
@@ -200,9 +222,12 @@ pruned_apart key k pasts (Some past) other = at (is_at (key_cmp key) k) refl whe
 
 pub past_after : (a : State) (key : PubKey) (o : Option Past) (c : DeskCall) (r : DeskReply) → Reply a c r → ¬ (Activates key (Made c r)) → ¬ (MergesOrPrunes key (Made c r)) → Rests key a → PastIs key o a → PastIs key o (after a c r)
 past_after a key o (call.Merge file) (reply.Merged n) ok apart kept h p = (file_apart key a.keys file.books (not_listed (kept_of file.books key) kept) ∙ p.0, p.1)
+past_after a key o (call.Record ps now) reply.Recorded ok apart kept h p = (messages_rest a key ps h (λ one c. (ok.1 one c).0.0) ∙ p.0, p.1)
 past_after a key o (call.Prune k) (reply.Pruned book) ok apart kept h p = (pruned_apart key k a.keys (past_of a k) kept ∙ p.0, p.1)
 past_after a key o (call.Merge file) reply.Disk ok apart kept h p =
     (p.0, torn_past key o a.torn (lasting_after a (call.Merge file)) p.1 (λ e. file_apart key a.keys file.books (not_listed (kept_of file.books key) kept) ∙ p.0))
+past_after a key o (call.Record ps now) reply.Disk ok apart kept h p =
+    (p.0, torn_past key o a.torn (lasting_after a (call.Record ps now)) p.1 (λ e. messages_rest a key ps h (λ one c. (failed_proceeds a (call.Record ps now) ok e one c).0.0) ∙ p.0))
 past_after a key o (call.Prune k) reply.Disk ok apart kept h p = (p.0, torn_past key o a.torn (lasting_after a (call.Prune k)) p.1 (λ e. pruned_apart key k a.keys (past_of a k) kept ∙ p.0))
 past_after a key o (call.Activate k now) reply.Active ok apart kept h p = (known_same key k a.keys apart ∙ p.0, p.1)
 past_after a key o (call.Propose k m now) (reply.Granted g) ok apart kept h p = (grown_same a key k m h ok.0.1.0.0 ∙ p.0, p.1)
@@ -251,6 +276,7 @@ genesis_after a (call.Answer k e l now) reply.Noted = refl
 genesis_after a (call.Settle g u) reply.Settled = refl
 genesis_after a (call.BeginClose k) reply.CloseBegun = refl
 genesis_after a (call.FinishClose k) (reply.Closed book) = refl
+genesis_after a (call.Record ps now) reply.Recorded = refl
 genesis_after a (call.Prune k) (reply.Pruned book) = refl
 genesis_after a call.Compact (reply.Compacted before size) = refl
 genesis_after a c reply.Disk = refl

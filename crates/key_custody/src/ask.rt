@@ -95,5 +95,6 @@ fn read(reply: DeskReply) -> Replied
             second: _,
         } => Replied::Nothing,
         DeskReply::Refused(_) | DeskReply::OutOfMemory => Replied::Nothing,
+        DeskReply::Recorded | DeskReply::Unfit => Replied::Nothing,
     }
 }

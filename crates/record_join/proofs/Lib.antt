@@ -10,3 +10,4 @@ pub mod LawLemmas
 pub mod RepeatLemmas
 pub mod JudgeLemmas
 pub mod BeginLemmas
+pub mod AllLemmas

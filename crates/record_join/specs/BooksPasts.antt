@@ -1,5 +1,5 @@
 -- Which pasts the kept records stand for, and what each change makes of them.
-use Rattle.std.specs.Prelude.{◌≡◌, ◌≢◌, ℕ, ◌+◌, ◌<◌, ◌≤◌, List, AllPairs, Option, None, Some, IsSomeAnd, is_some, not, count_by, fold, length}
+use Rattle.std.specs.Prelude.{◌≡◌, ◌≢◌, ℕ, ◌+◌, ◌<◌, ◌≤◌, false, List, AllPairs, Contains, Option, None, Some, IsSomeAnd, is_some, not, count_by, fold, length}
 use Rattle.std.specs.Map.{keys_of}
 use Rattle.edge_kit.specs.declared.bytes.PubKey.{PubKey}
 use Rattle.slash_defs.specs.declared.book.Book.{Book}
@@ -45,6 +45,14 @@ gain gains pasts listed = put_past pasts listed.0 (gains (known_past (kept_of pa
 abbrev pub with_file_book : List (PubKey × Past) → PubKey × Book → List (PubKey × Past)
 with_file_book pasts listed = gain with_book pasts listed
 
+-- the key is kept, and its past lets the message pass and does not have it yet
+abbrev pub IsNewTo : List (PubKey × Past) → PubKey × Message → Type 0
+IsNewTo pasts one = IsSomeAnd (kept_of pasts one.0) (λ past. Passes past one.1 × (repeats past one.1 ≡ false))
+
+-- so it is with each of these
+abbrev pub AreNew : List (PubKey × Past) → List (PubKey × Message) → Type 0
+AreNew pasts listed = (one : PubKey × Message) → Contains listed one → IsNewTo pasts one
+
 -- with each book of a file, in its order
 abbrev pub with_file : List (PubKey × Past) → List (PubKey × Book) → List (PubKey × Past)
 with_file pasts books = fold with_file_book pasts books
@@ -82,6 +90,10 @@ own_grown_from pasts key m (Some past) = with_kept pasts key (with_own past m)
 -- where the key is kept, its own messages gain one
 abbrev pub own_grown : List (PubKey × Past) → PubKey → Message → List (PubKey × Past)
 own_grown pasts key m = own_grown_from pasts key m (kept_of pasts key)
+
+-- and so those of each of these keys, one after another
+abbrev pub with_messages : List (PubKey × Past) → List (PubKey × Message) → List (PubKey × Past)
+with_messages pasts listed = fold (λ before one. own_grown before one.0 one.1) pasts listed
 
 -- the past forbids the message by this verdict, the first of the table that holds
 pub record IsRefusal (past : Past) (m : Message) (v : Verdict) : Type 0 where

@@ -1,5 +1,5 @@
 -- How the kept records judge a message.
-use Rattle.std.specs.Prelude.{◌≡◌, ◌≢◌, ◌↔◌, Bool, List, Option, None, Some, IsTrue, IsSomeAnd}
+use Rattle.std.specs.Prelude.{◌≡◌, ◌≢◌, ◌↔◌, Bool, List, Contains, Option, None, Some, IsTrue, IsSomeAnd}
 use Rattle.edge_kit.specs.declared.bytes.PubKey.{PubKey}
 use Rattle.slash_defs.specs.declared.message.Message.{Message}
 use Rattle.protect_record.specs.Parts.{Parts, SameParts, HasRoom}
@@ -28,11 +28,23 @@ pub record HasJudged (old new : List (PubKey × Parts)) (key : PubKey) (m : Mess
 abbrev pub IsReadyFor : List (PubKey × Parts) → PubKey → Message → Type 0
 IsReadyFor kept key m = IsSomeAnd (kept_of kept key) (λ parts. IsVerdict parts m verdict.Pass × HasRoom parts m)
 
+-- so it is with each of these
+abbrev pub AreReadyFor : List (PubKey × Parts) → List (PubKey × Message) → Type 0
+AreReadyFor kept listed = (one : PubKey × Message) → Contains listed one → IsReadyFor kept one.0 one.1
+
 -- the record lets the message pass, has room for it, and keeps it already or not
 pub record IsFoundReady (old new : List (PubKey × Parts)) (key : PubKey) (m : Message) (repeat : Bool) : Type 0 where
   pub is_judged : HasJudged old new key m verdict.Pass
   pub room : HasRoom is_judged.roomy m
   pub found : IsTrue repeat ↔ IsKeptIn is_judged.roomy m
+
+-- the key's own record lets the message pass and does not keep it yet
+abbrev pub IsNewIn : List (PubKey × Parts) → PubKey × Message → Type 0
+IsNewIn kept one = IsSomeAnd (kept_of kept one.0) (λ parts. IsVerdict parts one.1 verdict.Pass × ¬ (IsKeptIn parts one.1))
+
+-- so it is with each of these
+abbrev pub AreNewIn : List (PubKey × Parts) → List (PubKey × Message) → Type 0
+AreNewIn kept listed = (one : PubKey × Message) → Contains listed one → IsNewIn kept one
 
 -- by how the message was judged
 abbrev pub JudgesKept : List (PubKey × Parts) → List (PubKey × Parts) → PubKey → Message → Judged → Type 0

@@ -6,18 +6,18 @@ ghost use Rattle.edge_kit.specs.declared.bytes.PubKey.{PubKey};
 ghost use Rattle.protect_record.specs.Parts.{Parts, SameParts};
 ghost use Rattle.protect_record.specs.Pasts.{Past, no_past};
 ghost use Rattle.record_join.specs.Keys.{key_cmp, kept_of, with_key, EachKey};
-ghost use Rattle.record_join.specs.BooksPasts.{BooksStand, Judges, JudgesPast, IsBeginFault, IsMergeFault, EachOnce, KeepsOthers, own_grown, with_file, joined, new_keys, key_limit};
+ghost use Rattle.record_join.specs.BooksPasts.{BooksStand, Judges, JudgesPast, IsBeginFault, IsMergeFault, AreNew, EachOnce, KeepsOthers, own_grown, with_file, with_messages, joined, new_keys, key_limit};
 ghost use Rattle.record_join.specs.KeyByKey.{AreBooks, EachTakes, StandsOf, Takes, TakesBook, TakesMessage, TakesRecord};
 ghost use Rattle.record_join.specs.Preparing.{AreTaken, IsPrepared, Knows};
-ghost use Rattle.record_join.specs.Taking.{IsReadyFor, JudgesBy};
+ghost use Rattle.record_join.specs.Taking.{AreNewIn, AreReadyFor, IsReadyFor, JudgesBy};
 
 use crate::fault::{BeginFault, MergeFault};
 use crate::fresh::{insert_new, make_fresh};
 use crate::join::{join_records, prepare_records};
-use crate::judgement::Judged;
+use crate::judgement::{Judged, JudgedAll};
 use crate::limit::{new_records, over_limit};
 use crate::merge::{merge_books, prepare_books};
-use crate::message::{add, judge};
+use crate::message::{add, add_all, judge, judge_all};
 use crate::room::take_out;
 use edge_kit::{Items, PubKey};
 use protect_record::Record;
@@ -199,6 +199,30 @@ impl Books {
         ensures stands { (pasts : List (PubKey × Past)) → BooksStand self.old pasts → BooksStand self.new (own_grown pasts key.now message.now) }
     {
         add(&mut self.kept, key, message);
+    }
+
+    /// Judges messages, each of another key, by the pasts of their keys, and makes room for them there, up to the
+    /// first that does not pass, is kept already, or has no room. Each record keeps what it kept.
+    pub fn judge_all(&mut self, listed: &[(PubKey, Message)]) -> JudgedAll
+        requires { EachOnce listed.now }
+        ensures same { EachKey SameParts self.old self.new }
+        ensures ready { result ≡ JudgedAll.Ready → AreReadyFor self.new listed.now }
+        ensures own { result ≡ JudgedAll.Ready → AreNewIn self.old listed.now }
+        ensures new { result ≡ JudgedAll.Ready → (pasts : List (PubKey × Past)) → BooksStand self.old pasts → AreNew pasts listed.now }
+        ensures unfit { result ≡ JudgedAll.Unfit → (pasts : List (PubKey × Past)) → BooksStand self.old pasts → ¬ (AreNew pasts listed.now) }
+        ensures stands { (pasts : List (PubKey × Past)) → BooksStand self.old pasts → BooksStand self.new pasts }
+    {
+        judge_all(&mut self.kept, listed)
+    }
+
+    /// Takes messages that were judged ready, each of another key, into the pasts of their keys. Takes no memory.
+    pub fn add_all(&mut self, listed: &[(PubKey, Message)])
+        requires once { EachOnce listed.now }
+        requires ready { AreReadyFor self.old listed.now }
+        ensures each { EachTakes TakesMessage listed.now self.old self.new }
+        ensures stands { (pasts : List (PubKey × Past)) → BooksStand self.old pasts → BooksStand self.new (with_messages pasts listed.now) }
+    {
+        add_all(&mut self.kept, listed);
     }
 
     /// Keeps a key that is not kept with this record. A key that is kept stays as it is.

@@ -16,3 +16,14 @@ pub enum Judged {
         repeat: bool,
     },
 }
+
+/// How messages, each of another key, were judged by the pasts of their keys.
+#[derive(Clone, Copy, PartialEq, Eq, Debug)]
+pub enum JudgedAll {
+    /// Each passes, its past does not have it yet, and there is room to add it.
+    Ready,
+    /// One does not pass, or its past has it already.
+    Unfit,
+    /// One passes, and there is no room to keep it.
+    NoRoom,
+}

@@ -14,6 +14,6 @@ mod room;
 
 pub use books::{Books, Fresh, Keys};
 pub use fault::{BeginFault, MergeFault};
-pub use judgement::Judged;
+pub use judgement::{Judged, JudgedAll};
 pub use laws::{books_join_laws, books_stand_law, key_laws, prepared_law, repeat_law, takes_law};
 pub use limit::KEY_LIMIT;

@@ -1,12 +1,15 @@
 //! A message that is judged by the record of its key, and added to it.
 ghost use Rattle.std.specs.Prelude.{◌≡◌, Bool, List, IsTrue, length};
+ghost use Rattle.protect_record.specs.Parts.{SameParts};
 ghost use Rattle.edge_kit.specs.declared.bytes.PubKey.{PubKey};
 ghost use Rattle.protect_record.specs.Pasts.{Past};
-ghost use Rattle.record_join.specs.BooksPasts.{BooksStand, own_grown};
-ghost use Rattle.record_join.specs.KeyByKey.{Takes, TakesMessage};
-ghost use Rattle.record_join.specs.Taking.{IsReadyFor, JudgesKept};
+ghost use Rattle.record_join.specs.BooksPasts.{AreNew, BooksStand, EachOnce, own_grown, with_messages};
+ghost use Rattle.record_join.specs.KeyByKey.{EachTakes, Takes, TakesMessage};
+ghost use Rattle.record_join.specs.Keys.{EachKey};
+ghost use Rattle.record_join.specs.Taking.{AreNewIn, AreReadyFor, IsReadyFor, JudgesKept};
+ghost use Rattle.record_join.specs.declared.judgement.JudgedAll.TheVariants as JudgedAll;
 
-use crate::judgement::Judged;
+use crate::judgement::{Judged, JudgedAll};
 use edge_kit::PubKey;
 use protect_record::{Record, Verdict};
 use slash_defs::Message;
@@ -46,5 +49,42 @@ pub fn add(kept: &mut BTreeMap<PubKey, Record>, key: &PubKey, message: &Message)
 {
     if let Some(record) = kept.get_mut(key) {
         record.add(message);
+    }
+}
+
+/// Judges messages, each of another key, by the records of their keys, and makes room for them there, up to the first that
+/// does not pass, is kept already, or has no room.
+pub fn judge_all(kept: &mut BTreeMap<PubKey, Record>, listed: &[(PubKey, Message)]) -> JudgedAll
+    requires { EachOnce listed.now }
+    ensures same { EachKey SameParts kept.old.entries kept.new.entries }
+    ensures ready { result ≡ JudgedAll.Ready → AreReadyFor kept.new.entries listed.now }
+    ensures own { result ≡ JudgedAll.Ready → AreNewIn kept.old.entries listed.now }
+    ensures new { result ≡ JudgedAll.Ready → (pasts : List (PubKey × Past)) → BooksStand kept.old.entries pasts → AreNew pasts listed.now }
+    ensures unfit { result ≡ JudgedAll.Unfit → (pasts : List (PubKey × Past)) → BooksStand kept.old.entries pasts → ¬ (AreNew pasts listed.now) }
+{
+    'messages: for one in listed {
+        match judge(kept, &one.0, &one.1, true) {
+            Judged::Ready { repeat } => {
+                if repeat {
+                    return JudgedAll::Unfit;
+                }
+            }
+            Judged::Unknown | Judged::Refused(_) => return JudgedAll::Unfit,
+            Judged::NoRoom => return JudgedAll::NoRoom,
+        }
+    }
+    JudgedAll::Ready
+}
+
+/// Adds messages, each of another key, to the records of their keys, which let them pass and have room for them.
+pub fn add_all(kept: &mut BTreeMap<PubKey, Record>, listed: &[(PubKey, Message)])
+    requires once { EachOnce listed.now }
+    requires ready { AreReadyFor kept.old.entries listed.now }
+    ensures each { EachTakes TakesMessage listed.now kept.old.entries kept.new.entries }
+    ensures stands { (pasts : List (PubKey × Past)) → BooksStand kept.old.entries pasts → BooksStand kept.new.entries (with_messages pasts listed.now) }
+    ensures len { length kept.new.entries ≡ length kept.old.entries }
+{
+    'messages: for one in listed {
+        add(kept, &one.0, &one.1);
     }
 }

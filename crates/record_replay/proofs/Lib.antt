@@ -8,3 +8,4 @@ pub mod ChangeLemmas
 pub mod PruningLemmas
 pub mod GatherLemmas
 pub mod BooksLemmas
+pub mod MessageLemmas

@@ -14,6 +14,10 @@ abbrev pub message_item : PubKey → Message → JournalItem
 message_item key (message.Block slot root) = item.Block key (record { slot = slot; root = Some root })
 message_item key (message.Vote source target root) = item.Vote key (record { target = target; source = source; root = Some root })
 
+-- own messages, each of its key
+abbrev pub message_items : List (PubKey × Message) → List JournalItem
+message_items listed = map (λ one. message_item one.0 one.1) listed
+
 abbrev pub floors_item : PubKey → Floors → JournalItem
 floors_item key floors = item.Floors key floors.block floors.vote
 

@@ -1,7 +1,7 @@
 //! The items that are written of each change.
 ghost use Rattle.std.specs.Prelude.{◌≡◌, ◌++◌, map, IfOk, OnOk};
 ghost use Rattle.record_codec.specs.declared.item.JournalItem.TheVariants as item;
-ghost use Rattle.record_replay.specs.Batches.{book_items, file_items, message_item};
+ghost use Rattle.record_replay.specs.Batches.{book_items, file_items, message_item, message_items};
 
 use edge_kit::PubKey;
 use protect_record::floors_of_book;
@@ -34,6 +34,23 @@ pub fn message_item(key: PubKey, message: &Message) -> JournalItem
             },
         },
     }
+}
+
+/// The items of own messages, each of its key, in their order.
+///
+/// # Errors
+///
+/// `AllocError` where memory was wanted.
+pub fn message_items(
+    alloc: Global,
+    listed: &[(PubKey, Message)],
+) -> Result<Vec<JournalItem>, AllocError>
+    ensures { IfOk result (λ items. items.items ≡ message_items listed.now) }
+{
+    listed
+        .iter()
+        .map(|one| message_item(one.0, &one.1))
+        .collect(alloc)
 }
 
 /// The items of a book of a key: its blocks, its votes and its floors.

@@ -9,7 +9,7 @@ mod laws;
 mod payloads;
 mod state;
 
-pub use batches::{book_items, file_items, message_item};
+pub use batches::{book_items, file_items, message_item, message_items};
 pub use fault::ReplayFault;
 pub use laws::{pruning_law, record_law, replay_laws};
 pub use payloads::{Replayed, replay};

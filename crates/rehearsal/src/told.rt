@@ -57,7 +57,7 @@ pub(crate) fn read(reply: DeskReply) -> Result<Told, AllocError>
         DeskReply::AlreadyClosing | DeskReply::Noted | DeskReply::Settled => Ok(Told::Other),
         DeskReply::Unknown | DeskReply::NotActive | DeskReply::Closing => Ok(Told::Other),
         DeskReply::Exported(_) => Ok(Told::Other),
-        DeskReply::Pruned(_) => Ok(Told::Other),
+        DeskReply::Pruned(_) | DeskReply::Recorded | DeskReply::Unfit => Ok(Told::Other),
         DeskReply::Keys(_) => Ok(Told::Other),
         DeskReply::HasFailed(_) | DeskReply::NotClosing(_) | DeskReply::Refused(_) => {
             Ok(Told::Other)

@@ -57,6 +57,7 @@ rests_step a key (call.Propose k m now) (reply.Granted g) ok apart h = h
 rests_step a key (call.Allow k now) (reply.Granted g) ok apart h = h
 rests_step a key (call.Answer k e l now) reply.Noted ok apart h = h
 rests_step a key (call.Settle g o) reply.Settled ok apart h = h
+rests_step a key (call.Record ps now) reply.Recorded ok apart h = h
 rests_step a key (call.Prune k) (reply.Pruned book) ok apart h = h
 rests_step a key call.Compact (reply.Compacted before size) ok apart h = h
 rests_step a key c reply.Disk ok apart h = h

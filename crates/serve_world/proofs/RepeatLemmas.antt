@@ -14,7 +14,7 @@ use Rattle.protect_record.specs.Passing.{Passes}
 use Rattle.protect_record.specs.Pasts.{Past, no_past, with_own, with_book, IsPastBlock, IsPastVote}
 use Rattle.protect_record.specs.Standing.{Stands}
 use Rattle.record_join.specs.Keys.{key_cmp, kept_of, with_key, with_kept}
-use Rattle.record_join.specs.BooksPasts.{known_past, own_grown_from, with_file, with_file_book}
+use Rattle.record_join.specs.BooksPasts.{known_past, own_grown, own_grown_from, with_file, with_file_book, with_messages}
 use Rattle.record_join.specs.KeyLaws.{same_key, at_itself, kept_here, kept_apart, changed}
 use Rattle.record_join.specs.Repeats.{IsRepeat, repeats}
 use Rattle.record_join.specs.RepeatLaws.{repeats_decides}
@@ -79,10 +79,15 @@ module _ (key : PubKey) (m : Message) where
   has_pruned xs k None h = h
   has_pruned xs k (Some p) h = has_file xs ((k, pruning_of p) ∷ []) h
 
+  has_messages : (xs : Kept) (listed : List (PubKey × Message)) → HasOwn xs → HasOwn (with_messages xs listed)
+  has_messages xs [] h = h
+  has_messages xs (one ∷ listed) h = has_messages (own_grown xs one.0 one.1) listed (has_own xs one.0 one.1 (kept_of xs one.0) refl h)
+
   has_lasting : (a : State) (c : DeskCall) → HasOwn a.keys → HasOwn (lasting_after a c).keys
   has_lasting a (call.Merge file) h = has_file a.keys file.books h
   has_lasting a (call.Activate k now) h = has_known a.keys k (is_some (kept_of a.keys k)) refl h
   has_lasting a (call.Propose k n now) h = has_own a.keys k n (kept_of a.keys k) refl h
+  has_lasting a (call.Record ps now) h = has_messages a.keys ps h
   has_lasting a (call.Prune k) h = has_pruned a.keys k (past_of a k) h
   has_lasting a (call.Allow k now) h = h
   has_lasting a (call.Answer k e l now) h = h

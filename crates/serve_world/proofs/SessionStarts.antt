@@ -28,6 +28,7 @@ after_call state (call.Answer key epoch live now) reply.Noted = refl
 after_call state (call.Settle grant o) reply.Settled = refl
 after_call state (call.BeginClose key) reply.CloseBegun = refl
 after_call state (call.FinishClose key) (reply.Closed book) = refl
+after_call state (call.Record ps now) reply.Recorded = refl
 after_call state (call.Prune key) (reply.Pruned book) = refl
 after_call state call.Compact (reply.Compacted before size) = refl
 after_call state c reply.Disk = refl

@@ -61,6 +61,7 @@ activated_call state (call.Propose k m now) (reply.Granted grant) key can off tu
 activated_call state (call.Allow k now) (reply.Granted grant) key can off turned = true_false (is_active (key_state state.states key)) turned off
 activated_call state (call.Answer k epoch live now) reply.Noted key can off turned = true_false (is_active (key_state state.states key)) turned off
 activated_call state (call.Settle grant o) reply.Settled key can off turned = true_false (is_active (key_state state.states key)) turned off
+activated_call state (call.Record ps now) reply.Recorded key can off turned = true_false (is_active (key_state state.states key)) turned off
 activated_call state (call.Prune k) (reply.Pruned book) key can off turned = true_false (is_active (key_state state.states key)) turned off
 activated_call state call.Compact (reply.Compacted before size) key can off turned = true_false (is_active (key_state state.states key)) turned off
 activated_call state c reply.Disk key can off turned = true_false (is_active (key_state state.states key)) turned off
@@ -173,6 +174,7 @@ grants_still state (call.Activate k now) reply.Active key can still = still.1
 grants_still state (call.BeginClose k) reply.CloseBegun key can still = still.1
 grants_still state (call.FinishClose k) (reply.Closed book) key can still = still.1
 grants_still state (call.Answer k epoch live now) reply.Noted key can still = still.1
+grants_still state (call.Record ps now) reply.Recorded key can still = still.1
 grants_still state (call.Prune k) (reply.Pruned book) key can still = still.1
 grants_still state call.Compact (reply.Compacted before size) key can still = still.1
 grants_still state c reply.Disk key can still = still.1

@@ -19,7 +19,7 @@ use Rattle.desk_machine.specs.declared.call.DeskCall.TheVariants as call
 use Rattle.desk_machine.specs.declared.call.DeskReply.{DeskReply}
 use Rattle.desk_machine.specs.declared.call.DeskReply.TheVariants as reply
 use Rattle.session_run.specs.Durable.{CoversKey, IsDurable}
-use Rattle.session_run.proofs.KeptLemmas.{Kept, KeepsIn, keeps_call, keeps_all, file_keeps, known_keeps, grown_keeps, pruned_keeps, found_changed, some_of}
+use Rattle.session_run.proofs.KeptLemmas.{Kept, KeepsIn, keeps_call, keeps_all, file_keeps, known_keeps, grown_keeps, messages_keep, pruned_keeps, found_changed, some_of}
 
 pub covers_on : (old new : Kept) (key : PubKey) (m : Message) → KeepsIn old new → CoversKey old key m → CoversKey new key m
 covers_on old new key m keeps h =
@@ -38,6 +38,7 @@ lasting_keeps state (call.Settle grant outcome) = keeps_all state.keys
 lasting_keeps state (call.BeginClose key) = keeps_all state.keys
 lasting_keeps state (call.FinishClose key) = keeps_all state.keys
 lasting_keeps state (call.Export keys) = keeps_all state.keys
+lasting_keeps state (call.Record ps now) = messages_keep state.keys ps
 lasting_keeps state (call.Prune key) = pruned_keeps state.keys key (past_of state key)
 lasting_keeps state call.Keys = keeps_all state.keys
 lasting_keeps state call.HasFailed = keeps_all state.keys
@@ -53,6 +54,7 @@ torn_after state (call.Answer key epoch live now) reply.Noted = inl refl
 torn_after state (call.Settle grant outcome) reply.Settled = inl refl
 torn_after state (call.BeginClose key) reply.CloseBegun = inl refl
 torn_after state (call.FinishClose key) (reply.Closed book) = inl refl
+torn_after state (call.Record ps now) reply.Recorded = inl refl
 torn_after state (call.Prune key) (reply.Pruned book) = inl refl
 torn_after state call.Compact (reply.Compacted before size) = inl refl
 torn_after state c reply.Disk = inr refl

@@ -12,7 +12,7 @@ use Rattle.protect_record.specs.Pasts.{Past, no_past, with_own, with_book}
 use Rattle.protect_record.specs.Passing.{Passes}
 use Rattle.protect_record.specs.PastLaws.{passes-with_own, passes-with_book}
 use Rattle.record_join.specs.Keys.{key_cmp, kept_of, with_key, with_kept}
-use Rattle.record_join.specs.BooksPasts.{put_past, known_past, with_file_book, with_file, own_grown_from}
+use Rattle.record_join.specs.BooksPasts.{put_past, known_past, with_file_book, with_file, with_messages, own_grown, own_grown_from}
 use Rattle.record_join.specs.KeyLaws.{same_key}
 use Rattle.record_replay.specs.Pruning.{pruning_of}
 use Rattle.desk_machine.specs.States.{State, past_of}
@@ -146,11 +146,17 @@ pub pruned_keeps : (kept : Kept) (key : PubKey) (o : Option Past) → KeepsIn ke
 pruned_keeps kept key None = keeps_all kept
 pruned_keeps kept key (Some past) = file_keeps kept ((key, pruning_of past) ∷ [])
 
+pub messages_keep : (kept : Kept) (listed : List (PubKey × Message)) → KeepsIn kept (with_messages kept listed)
+messages_keep kept [] = keeps_all kept
+messages_keep kept (one ∷ listed) =
+    keeps_on kept (own_grown kept one.0 one.1) (with_messages kept (one ∷ listed)) (grown_keeps kept one.0 one.1 (kept_of kept one.0) refl) (messages_keep (own_grown kept one.0 one.1) listed)
+
 -- what a call leaves of the pasts
 pub keeps_call : (state : State) (c : DeskCall) (r : DeskReply) → KeepsIn state.keys (after state c r).keys
 keeps_call state (call.Merge file) (reply.Merged keys) = file_keeps state.keys file.books
 keeps_call state (call.Activate key now) reply.Active = known_keeps state.keys key (is_some (past_of state key)) refl
 keeps_call state (call.Propose key m now) (reply.Granted grant) = grown_keeps state.keys key m (past_of state key) refl
+keeps_call state (call.Record ps now) reply.Recorded = messages_keep state.keys ps
 keeps_call state (call.Prune key) (reply.Pruned book) = pruned_keeps state.keys key (past_of state key)
 keeps_call state (call.Allow key now) (reply.Granted grant) = keeps_all state.keys
 keeps_call state (call.Answer key epoch live now) reply.Noted = keeps_all state.keys

@@ -73,6 +73,7 @@ activated_call state (call.Propose k m now) (reply.Granted grant) key can off tu
 activated_call state (call.Allow k now) (reply.Granted grant) key can off turned = true_false (is_active (key_state state.states key)) turned off
 activated_call state (call.Answer k epoch live now) reply.Noted key can off turned = true_false (is_active (key_state state.states key)) turned off
 activated_call state (call.Settle grant o) reply.Settled key can off turned = true_false (is_active (key_state state.states key)) turned off
+activated_call state (call.Record ps now) reply.Recorded key can off turned = true_false (is_active (key_state state.states key)) turned off
 activated_call state (call.Prune k) (reply.Pruned book) key can off turned = true_false (is_active (key_state state.states key)) turned off
 activated_call state call.Compact (reply.Compacted before size) key can off turned = true_false (is_active (key_state state.states key)) turned off
 activated_call state c reply.Disk key can off turned = true_false (is_active (key_state state.states key)) turned off

@@ -44,6 +44,8 @@ IsPlainCall c = ⊥
 -- a grant or one of these replies comes to none of them
 abbrev pub IsPlainReply : DeskReply → Type 0
 IsPlainReply (reply.Granted grant) = ⊥
+IsPlainReply reply.Recorded = ⊥
+IsPlainReply reply.Unfit = ⊥
 IsPlainReply reply.Settled = ⊥
 IsPlainReply reply.CloseBegun = ⊥
 IsPlainReply reply.AlreadyClosing = ⊥

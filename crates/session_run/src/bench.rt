@@ -267,7 +267,7 @@ fn plain_answer(reply: DeskReply) -> Option<Answer>
         DeskReply::Watching { first, second } => Some(Answer::Watching { first, second }),
         DeskReply::Refused(verdict) => Some(Answer::Refused(verdict)),
         DeskReply::Granted(_grant) => unreachable!(),
-        DeskReply::Settled => unreachable!(),
+        DeskReply::Settled | DeskReply::Recorded | DeskReply::Unfit => unreachable!(),
         DeskReply::CloseBegun | DeskReply::AlreadyClosing => unreachable!(),
         DeskReply::Closed(_book) => unreachable!(),
         DeskReply::NotClosing(_) => unreachable!(),

@@ -4,8 +4,8 @@ use edge_kit::PubKey;
 use slash_defs::{Book, Message};
 use std::alloc::{AllocError, Global};
 
-/// The events, one on each line, with their moment first. Keys and roots are in hex; of a merged file stands
-/// how many keys it lists, of a pruning how many blocks and votes the record gained, of a closing how many
+/// The events, one on each line, with their moment first. Keys and roots are in hex; of a merged file stands how many keys it
+/// lists, of messages kept how many they are, of a pruning how many blocks and votes the record gained, of a closing how many
 /// were handed over, and of a compaction both sizes.
 pub fn words_of(alloc: Global, events: &[DeskEvent]) -> Result<String, AllocError> {
     let mut text = String::new(alloc);
@@ -48,6 +48,7 @@ fn event_words(alloc: Global, event: &Event) -> Result<String, AllocError> {
         Event::CloseBegun { key } => key_words(alloc, "close begun", key),
         Event::Closed { key, book } => book_words(alloc, "closed", key, book),
         Event::Pruned { key, book } => book_words(alloc, "pruned", key, book),
+        Event::Recorded { proposals } => format!(in alloc; "recorded {}", proposals.len()),
         Event::Compacted { before, after } => {
             format!(in alloc; "compacted {} {}", *before, *after)
         }

@@ -1,7 +1,7 @@
 //! A desk that notes what it did.
 ghost use Rattle.std.specs.Prelude.{◌≡◌};
 
-use check_sign::{DeskCall, DeskCalls, DeskEvent, DeskReply, Event, Outcome};
+use check_sign::{DeskCall, DeskCalls, DeskEvent, DeskReply, Event, Outcome, Proposals};
 use edge_kit::{Items, PubKey};
 use slash_defs::{Book, File, Message};
 use std::alloc::{AllocError, Global};
@@ -92,6 +92,8 @@ impl<K: DeskCalls> DeskCalls for Noting<K> {
 pub enum Asked {
     /// A file that lists a key at least.
     Merge(File),
+    /// One message at least.
+    Record(Proposals),
     Activate(PubKey),
     Propose(PubKey, Message),
     Allow(PubKey),
@@ -110,6 +112,7 @@ fn moment_of(call: &DeskCall) -> u64 {
     match call {
         DeskCall::Activate { now, .. } | DeskCall::Propose { now, .. } => *now,
         DeskCall::Allow { now, .. } | DeskCall::Answer { now, .. } => *now,
+        DeskCall::Record { now, .. } => *now,
         _ => 0,
     }
 }
@@ -118,6 +121,7 @@ fn moment_of(call: &DeskCall) -> u64 {
 fn asked_of(alloc: Global, call: &DeskCall) -> Result<Asked, AllocError> {
     Ok(match call {
         DeskCall::Merge { file } => return asked_merge(alloc, file),
+        DeskCall::Record { proposals, .. } => return asked_record(alloc, proposals),
         DeskCall::Activate { key, .. } => Asked::Activate(*key),
         DeskCall::Propose { key, message, .. } => Asked::Propose(*key, *message),
         DeskCall::Allow { key, .. } => Asked::Allow(*key),
@@ -159,10 +163,23 @@ fn asked_merge(alloc: Global, file: &File) -> Result<Asked, AllocError> {
     }))
 }
 
+/// What is kept of messages that are to be kept.
+fn asked_record(alloc: Global, proposals: &Proposals) -> Result<Asked, AllocError> {
+    if proposals.is_empty() {
+        return Ok(Asked::Nothing);
+    }
+    let mut kept: Vec<(PubKey, Message)> = Vec::new(alloc);
+    for one in proposals.as_slice() {
+        kept.push(*one)?;
+    }
+    Ok(Asked::Record(Items::from_vec(kept)))
+}
+
 /// What the desk did, by what was asked and what it replied.
 fn event_of(alloc: Global, asked: Asked, reply: &DeskReply) -> Result<Option<Event>, AllocError> {
     let event = match (asked, reply) {
         (Asked::Merge(file), DeskReply::Merged { .. }) => Event::Merged { file },
+        (Asked::Record(proposals), DeskReply::Recorded) => Event::Recorded { proposals },
         (Asked::Activate(key), DeskReply::Active) => Event::Activated { key },
         (Asked::Propose(key, message), DeskReply::Granted(grant)) => Event::Granted {
             key,

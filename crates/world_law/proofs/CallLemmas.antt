@@ -388,6 +388,8 @@ begun before w c key inv h =
 pub call_step : (before : Messages) (w : World) (c : ℕ) (cl : DeskCall) (r : DeskReply) → Invariant before w → Reply (w.desks c) cl r → IsLawfulNow before w (Call c cl r) → Invariant before (happens w (Call c cl r))
 call_step before w c (call.Merge file) (reply.Merged keys) inv h law =
     answered before w c (call.Merge file) (after (w.desks c) (call.Merge file) (reply.Merged keys)) [] inv (changes_ok (w.desks c) (call.Merge file) (reply.Merged keys) tt h) h.0.0 refl refl refl refl (λ k. no_deeds w c k) refl (λ x. x) (λ k e. absurd (not_opening e))
+call_step before w c (call.Record ps now) reply.Recorded inv h law =
+    answered before w c (call.Record ps now) (after (w.desks c) (call.Record ps now) reply.Recorded) [] inv (changes_ok (w.desks c) (call.Record ps now) reply.Recorded tt h) h.0 refl refl refl refl (λ k. no_deeds w c k) refl (λ x. x) (λ k e. absurd (not_opening e))
 call_step before w c (call.Prune key) (reply.Pruned book) inv h law =
     answered before w c (call.Prune key) (after (w.desks c) (call.Prune key) (reply.Pruned book)) [] inv (changes_ok (w.desks c) (call.Prune key) (reply.Pruned book) tt h) h.0.0 refl refl refl refl (λ k. no_deeds w c k) refl (λ x. x) (λ k e. absurd (not_opening e))
 call_step before w c call.Compact (reply.Compacted old_size new_size) inv h law =

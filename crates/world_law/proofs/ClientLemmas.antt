@@ -30,7 +30,7 @@ use Rattle.desk_machine.specs.declared.call.DeskReply.TheVariants as reply
 use Rattle.desk_machine.specs.Kinds.{IsOkOf}
 use Rattle.world_law.specs.Lawful.{HasCovered}
 use Rattle.world_law.proofs.KeyStanding.{BookCovers}
-use Rattle.world_law.proofs.PastLemmas.{KeepsIn, keeps_all, grown_keeps, known_keeps, file_keeps, pruned_keeps, found_changed}
+use Rattle.world_law.proofs.PastLemmas.{KeepsIn, keeps_all, grown_keeps, known_keeps, messages_keep, file_keeps, pruned_keeps, found_changed}
 
 -- ---- which keys a client has
 
@@ -122,6 +122,7 @@ CanFail (call.Activate key now) = Unit {0}
 CanFail (call.Propose key m now) = Unit {0}
 CanFail (call.Allow key now) = Unit {0}
 CanFail (call.FinishClose key) = Unit {0}
+CanFail (call.Record ps now) = Unit {0}
 CanFail (call.Prune key) = Unit {0}
 CanFail call.Compact = Unit {0}
 CanFail c = ⊥
@@ -154,6 +155,7 @@ changes_proceeding state (call.FinishClose key) p w = record {
       let P : PubKey → Type 0 = λ q. (held state.states q ≡ true) × (held (with_kept state.states key Closed) q ≡ false) × NoGrants state.grants q in
       subst P (sym same) (ap is_held p.1, ap is_held (found_changed state.states key Closed Closing p.1), λ g m says has is. none_open state.grants key p.2 g has is)
   at k false e = ap is_held (changed state.states key k Closed there ∙ rw (apart_back k key e) refl)
+changes_proceeding state (call.Record ps now) p w = record { kept = messages_keep state.keys ps; moved = λ k. refl }
 changes_proceeding state (call.Prune key) p w = record { kept = pruned_keeps state.keys key (past_of state key); moved = λ k. refl }
 changes_proceeding state call.Compact p w = record { kept = keeps_all state.keys; moved = λ k. refl }
 changes_proceeding state c p w = absurd w
@@ -191,6 +193,7 @@ changes_ok state (call.Settle grant outcome) reply.Settled ok h = changes_none s
 changes_ok state (call.BeginClose key) reply.CloseBegun ok h = changes_begun state key h.1
 changes_ok state (call.FinishClose key) (reply.Closed book) ok h = changes_proceeding state (call.FinishClose key) h.0.1 tt
 changes_ok state (call.Export keys) (reply.Exported file) ok h = changes_none state (call.Export keys) (λ k. refl)
+changes_ok state (call.Record ps now) reply.Recorded ok h = changes_proceeding state (call.Record ps now) h.1 tt
 changes_ok state (call.Prune key) (reply.Pruned book) ok h = changes_proceeding state (call.Prune key) h.0.1 tt
 changes_ok state call.Keys (reply.Keys listed) ok h = changes_none state call.Keys (λ k. refl)
 changes_ok state call.HasFailed (reply.HasFailed failed) ok h = changes_none state call.HasFailed (λ k. refl)
@@ -207,6 +210,7 @@ failed state (call.Activate key now) h = (h, tt)
 failed state (call.Propose key m now) h = (h, tt)
 failed state (call.Allow key now) h = (h, tt)
 failed state (call.FinishClose key) h = (h, tt)
+failed state (call.Record ps now) h = (h, tt)
 failed state (call.Prune key) h = (h, tt)
 failed state call.Compact h = (h, tt)
 failed state c h = absurd h

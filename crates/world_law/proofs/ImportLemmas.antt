@@ -19,7 +19,7 @@ use Rattle.world_law.specs.Worlds.{World, Event, client_of, state_after, happens
 use Rattle.world_law.specs.Worlds.Event.{Call, Send, Crash}
 use Rattle.world_law.specs.Lawful.{IsLawful}
 use Rattle.world_law.specs.Imports.{MergeImports, ImportsStay}
-use Rattle.world_law.proofs.PastLemmas.{KeepsIn, HasBook, keeps_all, grown_keeps, known_keeps, file_keeps, pruned_keeps, book_stays}
+use Rattle.world_law.proofs.PastLemmas.{KeepsIn, HasBook, keeps_all, grown_keeps, known_keeps, messages_keep, file_keeps, pruned_keeps, book_stays}
 use Rattle.world_law.proofs.ClientLemmas.{TornFits, changes_ok}
 use Rattle.world_law.proofs.WorldLemmas.{Messages, Invariant, client_cases}
 use Rattle.world_law.proofs.EventLemmas.{event_step, all_steps, begins_so}
@@ -43,6 +43,7 @@ call_keeps : (state : State) (c : DeskCall) (r : DeskReply) → KeepsIn state.ke
 call_keeps state (call.Merge file) (reply.Merged keys) = file_keeps state.keys file.books
 call_keeps state (call.Activate key now) reply.Active = known_keeps state.keys key (is_some (past_of state key)) refl
 call_keeps state (call.Propose key m now) (reply.Granted grant) = grown_keeps state.keys key m (past_of state key) refl
+call_keeps state (call.Record ps now) reply.Recorded = messages_keep state.keys ps
 call_keeps state (call.Prune key) (reply.Pruned book) = pruned_keeps state.keys key (past_of state key)
 call_keeps state (call.Allow key now) (reply.Granted grant) = keeps_all state.keys
 call_keeps state (call.Answer key epoch live now) reply.Noted = keeps_all state.keys

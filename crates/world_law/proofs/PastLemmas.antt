@@ -13,7 +13,7 @@ use Rattle.protect_record.specs.Pasts.{Past, no_past, with_own, with_book}
 use Rattle.protect_record.specs.Passing.{Passes, Covers}
 use Rattle.protect_record.specs.PastLaws.{passes-with_own, passes-with_book}
 use Rattle.record_join.specs.Keys.{key_cmp, kept_of, with_key, with_kept}
-use Rattle.record_join.specs.BooksPasts.{put_past, known_past, with_file_book, with_file, own_grown_from}
+use Rattle.record_join.specs.BooksPasts.{put_past, known_past, with_file_book, with_file, with_messages, own_grown, own_grown_from}
 use Rattle.record_join.specs.KeyLaws.{same_key}
 use Rattle.record_replay.specs.Pruning.{pruning_of}
 use Rattle.desk_machine.specs.Machine.{pruned_keys}
@@ -112,6 +112,11 @@ pub grown_keeps : (kept : Kept) (key : PubKey) (m : Message) (o : Option Past) �
 grown_keeps kept key m None e = keeps_all kept
 grown_keeps kept key m (Some past) e =
     changed kept key (with_own past m) (λ z is. let P : Past → Type 0 = λ y. Grows y (with_own past m) in subst P (some_inj past z (sym e ∙ is)) (own_grows past m))
+
+pub messages_keep : (kept : Kept) (listed : List (PubKey × Message)) → KeepsIn kept (with_messages kept listed)
+messages_keep kept [] = keeps_all kept
+messages_keep kept (one ∷ listed) =
+    keeps_on kept (own_grown kept one.0 one.1) (with_messages kept (one ∷ listed)) (grown_keeps kept one.0 one.1 (kept_of kept one.0) refl) (messages_keep (own_grown kept one.0 one.1) listed)
 
 pub known_keeps : (kept : Kept) (key : PubKey) (b : Bool) → is_some (kept_of kept key) ≡ b → KeepsIn kept (cond b kept (with_key kept key no_past))
 known_keeps kept key true e = keeps_all kept

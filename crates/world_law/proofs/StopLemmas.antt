@@ -105,6 +105,7 @@ succeeds_ok desk state (call.FinishClose key) stands w s =
     let P : Option Past → Type 0 = λ o. IsSomeAnd o (λ q. IsExport q (export_of found.0)) in
     let one : P (Some past.0) = record { parts = found.0; stands = found.2; value = refl } in
     (reply.Closed (export_of found.0), tt, (s, subst P (sym past.1) one))
+succeeds_ok desk state (call.Record ps now) stands w s = (reply.Recorded, tt, s)
 succeeds_ok desk state (call.Prune key) stands w s =
     let past = some_past (past_of state key) s.1 in
     let P : Option Past → Type 0 = λ o. IsSomeAnd o (λ q. pruning_of past.0 ≡ pruning_of q) in
@@ -148,6 +149,7 @@ after_torn genesis desk state (call.Answer key epoch live now) reply.Noted bytes
 after_torn genesis desk state (call.Settle grant outcome) reply.Settled bytes stands h t = torn_done genesis state (Some (call.Settle grant outcome)) bytes t
 after_torn genesis desk state (call.BeginClose key) reply.CloseBegun bytes stands h t = torn_done genesis state (Some (call.BeginClose key)) bytes t
 after_torn genesis desk state (call.FinishClose key) (reply.Closed book) bytes stands h t = torn_done genesis state (Some (call.FinishClose key)) bytes t
+after_torn genesis desk state (call.Record ps now) reply.Recorded bytes stands h t = torn_done genesis state (Some (call.Record ps now)) bytes t
 after_torn genesis desk state (call.Prune key) (reply.Pruned book) bytes stands h t = torn_done genesis state (Some (call.Prune key)) bytes t
 after_torn genesis desk state call.Compact (reply.Compacted before size) bytes stands h t = torn_done genesis state (Some call.Compact) bytes t
 after_torn genesis desk state c reply.Disk bytes stands h t = torn_left genesis desk state c bytes stands h t
@@ -159,6 +161,7 @@ after_call genesis desk state (call.Activate key now) reply.Active bytes stands 
 after_call genesis desk state (call.Propose key m now) (reply.Granted grant) bytes stands h (inl o) = call_done genesis state (call.Propose key m now) bytes h.0.0 (reply.Granted grant, tt, h) o
 after_call genesis desk state (call.BeginClose key) reply.CloseBegun bytes stands h (inl o) = undone genesis state (Some (call.BeginClose key)) bytes (opens_same genesis bytes (lasting_after state (call.BeginClose key)) state.states (closing_lasts state.states key h.1) o)
 after_call genesis desk state (call.FinishClose key) (reply.Closed book) bytes stands h (inl o) = call_done genesis state (call.FinishClose key) bytes h.0.0 (reply.Closed book, tt, h) o
+after_call genesis desk state (call.Record ps now) reply.Recorded bytes stands h (inl o) = call_done genesis state (call.Record ps now) bytes h.0 (reply.Recorded, tt, h) o
 after_call genesis desk state (call.Prune key) (reply.Pruned book) bytes stands h (inl o) = call_done genesis state (call.Prune key) bytes h.0.0 (reply.Pruned book, tt, h) o
 after_call genesis desk state call.Compact (reply.Compacted before size) bytes stands h (inl o) = call_done genesis state call.Compact bytes h.0.0 (reply.Compacted before size, tt, h) o
 after_call genesis desk state (call.Allow key now) (reply.Granted grant) bytes stands h (inl o) = undone genesis state (Some (call.Allow key now)) bytes o

@@ -173,6 +173,7 @@ call_tells state client (call.Allow key now) (reply.Granted grant) k start told 
 call_tells state client (call.Settle grant o) reply.Settled k start told leaves w = keeps state (call.Settle grant o) reply.Settled k start told w refl
 call_tells state client (call.BeginClose key) reply.CloseBegun k start told leaves w = keeps state (call.BeginClose key) reply.CloseBegun k start told w refl
 call_tells state client (call.FinishClose key) (reply.Closed book) k start told leaves w = keeps state (call.FinishClose key) (reply.Closed book) k start told w refl
+call_tells state client (call.Record ps now) reply.Recorded k start told leaves w = keeps state (call.Record ps now) reply.Recorded k start told w refl
 call_tells state client (call.Prune key) (reply.Pruned book) k start told leaves w = keeps state (call.Prune key) (reply.Pruned book) k start told w refl
 call_tells state client call.Compact (reply.Compacted before size) k start told leaves w = keeps state call.Compact (reply.Compacted before size) k start told w refl
 call_tells state client c reply.Disk k start told leaves w = keeps state c reply.Disk k start told w refl

@@ -14,4 +14,4 @@ pub returns-in_default-clause-runs : goal.returns-in_default-clause-runs
 returns-in_default-clause-runs g c = carries_cut Fits (Does g.K.DeskCalls.leads) _ _
 
 pub returns-clause-runs : goal.returns-clause-runs
-returns-clause-runs g c = rw (← c.message_of.ensures) (runs_leave g.K.DeskCalls.leads g.met.K.DeskCalls.leads_none _ _ _ _ _ (barred (granted.Vote c.args.details)) (call.Propose c.args.row.now.pubkey c.message_of.result c.args.work.now.moment) c.call-reply.result _ (λ x. granted_plan (granted.Vote c.args.details) (vote_request c.args.work.now c.args.details) (vote_post c.args.row.now c.args.details) x) _ c.call-reply.ensures.leads refl refl c.call-reply.ensures.kind c.call-reply.ensures.granted c.grant_in.ensures c.sign.ensures.runs)
+returns-clause-runs g c = rw (← c.vote_message.ensures) (runs_leave g.K.DeskCalls.leads g.met.K.DeskCalls.leads_none _ _ _ _ _ (barred (granted.Vote c.args.details)) (call.Propose c.args.row.now.pubkey c.vote_message.result c.args.work.now.moment) c.call-reply.result _ (λ x. granted_plan (granted.Vote c.args.details) (vote_request c.args.work.now c.args.details) (vote_post c.args.row.now c.args.details) x) _ c.call-reply.ensures.leads refl refl c.call-reply.ensures.kind c.call-reply.ensures.granted c.grant_in.ensures c.sign.ensures.runs)

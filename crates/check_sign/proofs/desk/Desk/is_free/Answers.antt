@@ -1,7 +1,7 @@
 use Rattle.std.proofs.Common.{rules, sym}
 use Rattle.check_sign.proofs.MachineLemmas.{opened, none_at, some_at, is_some_of}
 use Rattle.check_sign.proofs.ProposalLemmas.{active_at, closing_at, idle_at, is_up}
-use Rattle.check_sign.proofs.desk.Desk.may_sign.Goals as goal
+use Rattle.check_sign.proofs.desk.Desk.is_free.Goals as goal
 
 pub returns-in_default-clause-barred : goal.returns-in_default-clause-barred
 returns-in_default-clause-barred g c = λ state stands.

@@ -6,7 +6,7 @@ use Rattle.duty_turns.specs.Turns.{at_moment, blocks_in, votes_plan}
 use Rattle.duty_asks.specs.Placed.{HoldsPlaced}
 use Rattle.duty_work.proofs.RunLemmas.{closed_as, turns_as}
 use Rattle.duty_work.proofs.TurnLemmas.{missed_so, moved_so, votes_late, votes_now}
-use Rattle.duty_work.proofs.work.cast_votes.Goals as goal
+use Rattle.duty_work.proofs.work.vote_at.Goals as goal
 
 pub returns-then-is_missed-clause-runs : goal.returns-then-is_missed-clause-runs
 returns-then-is_missed-clause-runs g c = λ nodes s h.
