@@ -2,7 +2,7 @@
 # Grants per second of the built program with a journal, beside what the disk allows and beside SQLite, in one run.
 # The limit: a loop that does the two writes and two fsyncs of a grant, of the same sizes, on a file of the same folder. SQLite:
 # Python's sqlite3 inserting one row of the same columns a transaction with synchronous=FULL, in its default journal mode and in WAL.
-# Then: opening a journal of 100,000 batches of one block, beside reading the file.
+# Then: opening a journal of 100,000 batches of one block, beside reading the file; and what the votes of one slot wait for the disk (waiting.sh).
 # A program that is built is measured as it stands, else it is built first.
 # Usage: bench/grants.sh [GRANTS] [FOLDER]: so many grants (5000), the files in this folder (a temporary one).
 set -eu
@@ -102,3 +102,4 @@ for batches in (50_000, 100_000):
     assert out.returncode == 0, out
     print(f"opening {batches:,} batches, {os.path.getsize(path) / 1e6:.1f} MB: {took * 1e3:.0f} ms; reading the file alone: {read * 1e3:.1f} ms")
 PY
+PROGRAM=$program exec bench/waiting.sh

@@ -1,5 +1,5 @@
-/* A disk whose syncs take 10 milliseconds, for `waiting.sh`: loaded in front of the C library into the program (LD_PRELOAD). Nothing is synced. Each
-   sync adds a byte to the file that SYNCS names. */
+/* A disk whose syncs take long, for `waiting.sh`: loaded in front of the C library into a program (LD_PRELOAD). Nothing is synced. Each sync takes as
+   many microseconds as SYNC_MICROSECONDS says, 10,000 where it is not set, and adds a byte to the file that SYNCS names. */
 #define _GNU_SOURCE
 #include <fcntl.h>
 #include <stdlib.h>
@@ -18,9 +18,15 @@ static void count(void) {
 }
 
 static int take_time(void) {
-    struct timespec left = {.tv_sec = 0, .tv_nsec = 10 * 1000000L};
+    const char *told = getenv("SYNC_MICROSECONDS");
+    long long left = (told ? atoll(told) : 10000) * 1000;
+    struct timespec until;
     count();
-    while (clock_nanosleep(CLOCK_MONOTONIC, 0, &left, &left) != 0) {
+    clock_gettime(CLOCK_MONOTONIC, &until);
+    until.tv_nsec += left % 1000000000;
+    until.tv_sec += left / 1000000000 + until.tv_nsec / 1000000000;
+    until.tv_nsec %= 1000000000;
+    while (clock_nanosleep(CLOCK_MONOTONIC, TIMER_ABSTIME, &until, NULL) != 0) {
     }
     return 0;
 }
