@@ -43,7 +43,7 @@ impl<D: Disk> Desk<D> {
         self.call(DeskCall::Propose { key, message, now })
     }
 
-    /// Keeps messages, each of another key, by one batch and without a grant, exactly where each key is active, its
+    /// Keeps messages of different keys by one batch and without a grant, exactly where each key is active, its
     /// watch allows it, and its past lets the message pass and does not have it yet. A proposal of any of them is a
     /// repeat after that, and writes nothing. Refused by `Disk` where the disk failed, by `Unfit`, and by
     /// `OutOfMemory`, `Full` and `Disk`; a torn write leaves all of them or none.

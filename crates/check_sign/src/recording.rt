@@ -71,7 +71,7 @@ impl<D: Disk> Desk<D> {
     }
 }
 
-/// Takes messages in, each of another key, once they are on the disk. The `Err` says why not; the records then keep what
+/// Takes messages of different keys in, once they are on the disk. The `Err` says why not; the records then keep what
 /// they kept.
 fn keep_messages<D: Disk>(
     journal: &mut Journal<D>,

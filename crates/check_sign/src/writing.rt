@@ -115,7 +115,7 @@ pub fn write_message<D: Disk>(
     write_items(journal, alloc, &[message_item(key, message)])
 }
 
-/// Writes messages, each of another key, by one batch. None writes nothing.
+/// Writes messages of different keys by one batch. Where there is none, nothing is written.
 pub fn write_messages<D: Disk>(
     journal: &mut Journal<D>,
     alloc: Global,

@@ -39,7 +39,7 @@ abbrev pub last_generation : ℕ
 last_generation = 2 ^ 64 - 1
 
 -- what a call takes for granted: a moment within the limit, a grant that is open at this desk, a file that lists each key once, messages
--- each of another key
+-- of different keys
 abbrev pub MayCall : List OpenGrant → DeskCall → Type 0
 MayCall grants (call.Merge file) = EachOnce file.books
 MayCall grants (call.Activate key now) = now ≤ moment_limit

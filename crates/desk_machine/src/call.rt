@@ -12,7 +12,7 @@ use slash_defs::{Book, File, Message};
 /// Keys, in any order.
 pub type Keys = Items<PubKey>;
 
-/// Messages, each of another key.
+/// Messages of different keys.
 pub type Proposals = Items<(PubKey, Message)>;
 
 /// How a kept key stands.
@@ -83,7 +83,7 @@ pub enum DeskCall {
         message: Message,
         now: u64,
     },
-    /// Keeps messages, each of another key, of which each would be granted and is not kept yet: by one batch, and
+    /// Keeps messages of different keys, of which each would be granted and is not kept yet: by one batch, and
     /// without a grant. A proposal of any of them is a repeat after that.
     Record {
         proposals: Proposals,

@@ -82,7 +82,7 @@ pub fn note_merge(events: &mut Events, file: File, moment: u64)
     }
 }
 
-/// Notes that messages were kept. None is not noted.
+/// Notes that messages were kept, if there is one.
 pub fn note_record(events: &mut Events, proposals: Proposals, moment: u64)
     ensures { events.new.items ≡ events.old.items ++ noted_record moment proposals }
 {

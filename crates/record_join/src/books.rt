@@ -201,7 +201,7 @@ impl Books {
         add(&mut self.kept, key, message);
     }
 
-    /// Judges messages, each of another key, by the pasts of their keys, and makes room for them there, up to the
+    /// Judges messages of different keys by the pasts of their keys, and makes room for them there, up to the
     /// first that does not pass, is kept already, or has no room. Each record keeps what it kept.
     pub fn judge_all(&mut self, listed: &[(PubKey, Message)]) -> JudgedAll
         requires { EachOnce listed.now }
@@ -215,7 +215,7 @@ impl Books {
         judge_all(&mut self.kept, listed)
     }
 
-    /// Takes messages that were judged ready, each of another key, into the pasts of their keys. Takes no memory.
+    /// Takes messages of different keys that were judged ready into the pasts of their keys. Takes no memory.
     pub fn add_all(&mut self, listed: &[(PubKey, Message)])
         requires once { EachOnce listed.now }
         requires ready { AreReadyFor self.old listed.now }

@@ -17,7 +17,7 @@ pub enum Judged {
     },
 }
 
-/// How messages, each of another key, were judged by the pasts of their keys.
+/// How messages of different keys were judged by the pasts of their keys.
 #[derive(Clone, Copy, PartialEq, Eq, Debug)]
 pub enum JudgedAll {
     /// Each passes, its past does not have it yet, and there is room to add it.

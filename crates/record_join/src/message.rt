@@ -52,7 +52,7 @@ pub fn add(kept: &mut BTreeMap<PubKey, Record>, key: &PubKey, message: &Message)
     }
 }
 
-/// Judges messages, each of another key, by the records of their keys, and makes room for them there, up to the first that
+/// Judges messages of different keys by the records of their keys, and makes room for them there, up to the first that
 /// does not pass, is kept already, or has no room.
 pub fn judge_all(kept: &mut BTreeMap<PubKey, Record>, listed: &[(PubKey, Message)]) -> JudgedAll
     requires { EachOnce listed.now }
@@ -76,7 +76,7 @@ pub fn judge_all(kept: &mut BTreeMap<PubKey, Record>, listed: &[(PubKey, Message
     JudgedAll::Ready
 }
 
-/// Adds messages, each of another key, to the records of their keys, which let them pass and have room for them.
+/// Adds messages of different keys to the records of their keys, which let them pass and have room for them.
 pub fn add_all(kept: &mut BTreeMap<PubKey, Record>, listed: &[(PubKey, Message)])
     requires once { EachOnce listed.now }
     requires ready { AreReadyFor kept.old.entries listed.now }
