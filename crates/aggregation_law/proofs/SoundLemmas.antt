@@ -33,11 +33,11 @@ use Rattle.duty_plans.specs.Votes.{data_tasks, vote_ends, vote_tasks}
 use Rattle.duty_plans.specs.declared.setup.DutySetup.{DutySetup}
 use Rattle.duty_plans.specs.declared.work.SlotWork.{SlotWork}
 use Rattle.duty_turns.specs.Lines.{aggregate_lines, duty_lines, none_line}
-use Rattle.duty_turns.specs.Recording.{free_of, recorded}
+use Rattle.duty_turns.specs.Recording.{allowed_of, recorded}
 use Rattle.duty_turns.specs.Standing.{Standing, indices_of, with_attesters, with_fork, with_indices, with_proposers}
 use Rattle.duty_turns.specs.Times.{again_start, aggregates_start, epoch_of, is_first_slot, is_missed, next_slot, slot_start, votes_start}
 use Rattle.duty_turns.specs.TurnSteps.{TurnCall, TurnPlan, TurnReply, TurnStep, Fits, Due, LanesRefreshed, LooksUp, Own, Refreshed, Refreshes, RefreshesLanes, Waits, Woke, Worked, Works, Writes, Wrote}
-use Rattle.duty_turns.specs.Turns.{Next, NextPlan, PartPlan, active_of, after_wait, again_plan, aggregates_plan, left_plan, tried_plan, answered_plan, ask_plan, asked_plan, asks, at_moment, at_slot, attesters_plan, blocks_in, by_32, calls, casts, choices_of, chooses_plan, close_plan, due_plan, duties_plan, epoch_plan, epochs_plan, exported, exports, failed_plan, finish_plan, found, gathers_plan, index_plan, is_worth_compacting, keys_of_turn, lanes_refreshed, listed_plan, lived_plan, liveness_plan, merges, missing_epochs, missing_keys, next_turn, noted, notes_of, notes_plan, on_standing, own_answer, own_reply, prunes, puts, ready_plan, records, records_free, records_votes, refreshed, refreshes, refreshes_lanes, renew_plan, renewed_now, renewed_plan, renews, report_plan, shortens, sized, then_on, to_renew, told_plan, turn_plan, turns_plan, unless_short, voters_plan, votes_in, votes_plan, waits, watch_plan, with_active, woken, woken_plan, work_of, worked, works, writes, written, wrote}
+use Rattle.duty_turns.specs.Turns.{Next, NextPlan, PartPlan, active_of, after_wait, again_plan, aggregates_plan, left_plan, tried_plan, answered_plan, ask_plan, asked_plan, asks, at_moment, at_slot, attesters_plan, blocks_in, by_32, calls, casts, choices_of, chooses_plan, close_plan, due_plan, duties_plan, epoch_plan, epochs_plan, exported, exports, failed_plan, finish_plan, found, gathers_plan, index_plan, is_worth_compacting, keys_of_turn, lanes_refreshed, listed_plan, lived_plan, liveness_plan, merges, missing_epochs, missing_keys, next_turn, noted, notes_of, notes_plan, on_standing, own_answer, own_reply, prunes, puts, ready_plan, records, records_allowed, records_votes, refreshed, refreshes, refreshes_lanes, renew_plan, renewed_now, renewed_plan, renews, report_plan, shortens, sized, then_on, to_renew, told_plan, turn_plan, turns_plan, unless_short, voters_plan, votes_in, votes_plan, waits, watch_plan, with_active, woken, woken_plan, work_of, worked, works, writes, written, wrote}
 use Rattle.duty_turns.specs.declared.held.DutyEnd.{DutyEnd}
 use Rattle.duty_turns.specs.declared.held.DutyEnd.TheVariants as end
 use Rattle.aggregation_law.specs.Reasons.{AreReasoned, HasReason, IsReasoned, WasTime}
@@ -349,15 +349,15 @@ module _ (setup : DutySetup) where
       let c : TurnCall = Own (Calls (call.Record (m ∷ ms) now)) in
       ask_so before c (λ r. unless_short (own_reply r) next) tt (λ r fit. unless_short_so (before ++ (c, r) ∷ []) next (h ((c, r) ∷ [])) (own_reply r))
 
-  records_free_so : (before : List TurnStep) (work : SlotWork) (tasks : List Task) (next : NextPlan) → ((mid : List TurnStep) → So (before ++ mid) next) → (r : DeskReply) → So before (records_free work tasks r next)
-  records_free_so before work tasks next h (reply.Keys listed) = records_so before work.moment (recorded work.domains (free_of listed) tasks) next h
+  records_free_so : (before : List TurnStep) (work : SlotWork) (tasks : List Task) (next : NextPlan) → ((mid : List TurnStep) → So (before ++ mid) next) → (r : DeskReply) → So before (records_allowed work tasks r next)
+  records_free_so before work tasks next h (reply.Keys listed) = records_so before work.moment (recorded work.domains (allowed_of listed) tasks) next h
   records_free_so before work tasks next h r = stop_sound before
 
   records_votes_so : (before : List TurnStep) (work : SlotWork) (tasks : List Task) (next : NextPlan) → ((mid : List TurnStep) → So (before ++ mid) next) → So before (records_votes work tasks next)
   records_votes_so before work [] next h = subst (λ (l : List TurnStep). So l next) (append-nil before) (h [])
   records_votes_so before work (t ∷ tasks) next h =
       let c : TurnCall = Own (Calls call.Keys) in
-      ask_so before c (λ r. records_free work (t ∷ tasks) (own_reply r) next) tt (λ r fit.
+      ask_so before c (λ r. records_allowed work (t ∷ tasks) (own_reply r) next) tt (λ r fit.
       records_free_so (before ++ (c, r) ∷ []) work (t ∷ tasks) next (λ mid. subst (λ (l : List TurnStep). So l next) (sym (append_assoc before ((c, r) ∷ []) mid)) (h ((c, r) ∷ mid))) (own_reply r))
 
   -- the blocks of a slot were proposed

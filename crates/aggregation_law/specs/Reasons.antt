@@ -1,9 +1,10 @@
 -- Why each task of a turn is done: what stands for it in the steps before.
-use Rattle.std.specs.Prelude.{◌≡◌, ◌⊎◌, ℕ, false, true, List, [], ◌∷◌, ◌++◌, Contains, Some}
+use Rattle.std.specs.Prelude.{◌≡◌, ◌⊎◌, ℕ, false, true, List, [], ◌∷◌, ◌++◌, Contains, Some, None}
 use Rattle.edge_kit.specs.declared.bytes.PubKey.{PubKey}
 use Rattle.edge_kit.specs.declared.bytes.Sig.{Sig}
 use Rattle.phase0_types.specs.declared.attestation.AttestationData.{AttestationData}
 use Rattle.node_calls.specs.declared.answer.AttesterRow.{AttesterRow}
+use Rattle.duty_schedule.specs.Checking.{data_members, first_that_differs}
 use Rattle.duty_schedule.specs.Answers.{TakenAnswer}
 use Rattle.duty_schedule.specs.declared.rows.Duty.{Duty}
 use Rattle.duty_schedule.specs.declared.rows.Duty.TheVariants as duty
@@ -62,11 +63,15 @@ pub record WasLeft (steps : List TurnStep) (work : SlotWork) (d : Duty) (unsent 
   pub had : HadEnd steps work first ended
   pub left : ended.unsent ≡ Some unsent
 
--- the question for what this validator's committee is to vote went on with this data
+-- the question for what this validator's committee is to vote, which was that of a validator of the same committee, went on with this data, of
+-- which no member differs from what this validator's duty is to vote
 pub record WasAnswered (steps : List TurnStep) (work : SlotWork) (row : AttesterRow) (details : AttestationData) : Type 0 where
+  pub asked : AttesterRow
+  pub same : asked.committee_index ≡ row.committee_index
   pub ended : Ended
-  pub had : HadEnd steps work (task.Data row) ended
+  pub had : HadEnd steps work (task.Data asked) ended
   pub goes_on : ended.aggregation ≡ Some (votes.Voted details)
+  pub own : first_that_differs (data_members row details) ≡ None
 
 -- the vote of this validator, for the data that it was given, went on with this data
 pub record GotData (steps : List TurnStep) (work : SlotWork) (row : AttesterRow) (details : AttestationData) : Type 0 where
@@ -84,15 +89,15 @@ pub record WasChosen (steps : List TurnStep) (work : SlotWork) (row : AttesterRo
 
 -- ---- why a task is done
 
--- A block is proposed where it was found due. What a committee is to vote is asked where a vote was found due, in its time; the vote is cast
--- for data with which that question went on, and never without. A duty is tried once more in its time, where what is tried is left of it. Whether
--- a validator aggregates is asked where aggregates are wanted, of a vote that got this data. An aggregate is published in its time, by a
--- validator that this proof chose.
+-- A block is proposed where it was found due. What a committee is to vote is asked where a vote of it was found due, in its time; a vote that was
+-- found due is cast in its time, for data with which its committee's question went on, and never without. A duty is tried once more in its
+-- time, where what is tried is left of it. Whether a validator aggregates is asked where aggregates are wanted, of a vote that got this data. An
+-- aggregate is published in its time, by a validator that this proof chose.
 abbrev pub HasReason : DutySetup → List TurnStep → SlotWork → Task → Type 0
 HasReason setup steps work (task.Fresh (duty.Block row)) = WasDue steps work.slot (duty.Block row)
 HasReason setup steps work (task.Fresh (duty.Vote row)) = ⊥
 HasReason setup steps work (task.Data row) = WasDue steps work.slot (duty.Vote row) × WasTime steps setup.genesis_time work.slot (votes_start setup.genesis_time work.slot)
-HasReason setup steps work (task.Vote row details) = WasTime steps setup.genesis_time work.slot (votes_start setup.genesis_time work.slot) × WasAnswered steps work row details
+HasReason setup steps work (task.Vote row details) = WasDue steps work.slot (duty.Vote row) × WasTime steps setup.genesis_time work.slot (votes_start setup.genesis_time work.slot) × WasAnswered steps work row details
 HasReason setup steps work (task.Again d unsent) = WasTime steps setup.genesis_time work.slot (again_start setup.genesis_time work.slot) × WasLeft steps work d unsent
 HasReason setup steps work (task.Choose row details) = (setup.aggregate ≡ true) × GotData steps work row details
 HasReason setup steps work (task.Aggregate row details proof) = WasTime steps setup.genesis_time work.slot (aggregates_start setup.genesis_time work.slot) × WasChosen steps work row details proof

@@ -21,13 +21,13 @@ use Rattle.duty_plans.specs.declared.work.SlotWork.{SlotWork}
 use Rattle.duty_plans.specs.declared.setup.DutySetup.{DutySetup}
 use Rattle.duty_turns.specs.declared.held.DutyEnd.{DutyEnd}
 use Rattle.duty_turns.specs.declared.held.DutyEnd.TheVariants as end
-use Rattle.duty_turns.specs.Recording.{free_of, recorded}
+use Rattle.duty_turns.specs.Recording.{allowed_of, recorded}
 use Rattle.duty_turns.specs.Lines.{aggregate_lines, duty_lines}
 use Rattle.duty_turns.specs.Standing.{Standing}
 use Rattle.duty_pruning.specs.Pruning.{pruning_file}
 use Rattle.duty_turns.specs.Times.{again_start, aggregates_start, epoch_of, is_first_slot, is_missed, next_slot, slot_start, votes_start}
 use Rattle.duty_turns.specs.TurnSteps.{TurnPlan, TurnReply, TurnStep, Fits, Own, Owned, Writes, Wrote}
-use Rattle.duty_turns.specs.Turns.{Next, NextPlan, active_of, after_wait, again_plan, aggregates_plan, asked_plan, at_moment, at_slot, blocks_in, calls, casts, choices_of, chooses_plan, close_plan, due_plan, exported, exports, failed_plan, finish_plan, gathers_plan, keys_of_turn, left_plan, merges, listed_plan, next_turn, own_reply, prunes, puts, ready_plan, records, records_free, records_votes, report_plan, refreshes, refreshes_lanes, is_worth_compacting, shortens, sized, told_plan, tried_plan, turn_plan, turns_plan, unless_short, votes_in, votes_plan, waits, with_active, woken_plan, work_of, works, wrote}
+use Rattle.duty_turns.specs.Turns.{Next, NextPlan, active_of, after_wait, again_plan, aggregates_plan, asked_plan, at_moment, at_slot, blocks_in, calls, casts, choices_of, chooses_plan, close_plan, due_plan, exported, exports, failed_plan, finish_plan, gathers_plan, keys_of_turn, left_plan, merges, listed_plan, next_turn, own_reply, prunes, puts, ready_plan, records, records_allowed, records_votes, report_plan, refreshes, refreshes_lanes, is_worth_compacting, shortens, sized, told_plan, tried_plan, turn_plan, turns_plan, unless_short, votes_in, votes_plan, waits, with_active, woken_plan, work_of, works, wrote}
 use Rattle.duty_loop.proofs.GivesLemmas.{Always, Gives, Said, calls_always, gives_ask, gives_bind, gives_done, if_always, looks_up_always, refreshes_always, refreshes_lanes_always, stop_always, waits_always, works_always}
 use Rattle.duty_loop.proofs.PartLemmas.{EndInCut, WhyNone, asked_part}
 
@@ -148,13 +148,13 @@ records_turn : (now : ℕ) (ms : List (PubKey × Message)) (p : NextPlan) → Is
 records_turn now [] p h = h
 records_turn now (m ∷ ms) p h = calls_always (Why Standing) (call.Record (m ∷ ms) now) (λ r. unless_short r p) (unless_short_turn p h)
 
-records_free_turn : (work : SlotWork) (tasks : List Task) (p : NextPlan) → IsTurn p → (r : DeskReply) → IsTurn (records_free work tasks r p)
-records_free_turn work tasks p h (reply.Keys listed) = records_turn work.moment (recorded work.domains (free_of listed) tasks) p h
+records_free_turn : (work : SlotWork) (tasks : List Task) (p : NextPlan) → IsTurn p → (r : DeskReply) → IsTurn (records_allowed work tasks r p)
+records_free_turn work tasks p h (reply.Keys listed) = records_turn work.moment (recorded work.domains (allowed_of listed) tasks) p h
 records_free_turn work tasks p h r = stop_always (Why Standing)
 
 records_votes_turn : (work : SlotWork) (tasks : List Task) (p : NextPlan) → IsTurn p → IsTurn (records_votes work tasks p)
 records_votes_turn work [] p h = h
-records_votes_turn work (t ∷ tasks) p h = calls_always (Why Standing) call.Keys (λ r. records_free work (t ∷ tasks) r p) (records_free_turn work (t ∷ tasks) p h)
+records_votes_turn work (t ∷ tasks) p h = calls_always (Why Standing) call.Keys (λ r. records_allowed work (t ∷ tasks) r p) (records_free_turn work (t ∷ tasks) p h)
 
 casts_turn : (work : SlotWork) (place : ℕ) (votes : List Duty) (next_by : List Ended → NextPlan) → ((ends : List Ended) → IsTurn (next_by ends)) → IsTurn (casts work place votes next_by)
 casts_turn work place votes next_by h =

@@ -1,9 +1,11 @@
 -- How the votes of a slot are cast: nodes are asked what each committee is to vote, and each vote is cast on what a node said.
-use Rattle.std.specs.Prelude.{ℕ, List, [], ◌∷◌, Option, Some, None}
-use Rattle.std.specs.List.{filter_map}
+use Rattle.std.specs.Prelude.{ℕ, ◌==◌, not, Bool, false, true, if◌then◌else◌, List, [], ◌∷◌, ◌++◌, filter, filter_map, map, drop, position, Option, Some, None}
+use Rattle.std.specs.List.{list_any}
 use Rattle.edge_kit.specs.declared.bytes.PubKey.{PubKey}
 use Rattle.slash_defs.specs.declared.message.Message.{Message}
 use Rattle.sign_roots.specs.declared.domains.Domains.{Domains}
+use Rattle.node_calls.specs.declared.answer.AttesterRow.{AttesterRow}
+use Rattle.duty_schedule.specs.Checking.{data_members, first_that_differs}
 use Rattle.duty_schedule.specs.declared.rows.Duty.{Duty}
 use Rattle.duty_schedule.specs.declared.rows.Duty.TheVariants as duty
 use Rattle.duty_plans.specs.declared.ended.Aggregation.{Aggregation}
@@ -11,20 +13,29 @@ use Rattle.duty_plans.specs.declared.ended.Aggregation.TheVariants as votes
 use Rattle.duty_plans.specs.declared.ended.Ended.{Ended}
 use Rattle.duty_plans.specs.declared.task.Task.{Task}
 use Rattle.duty_plans.specs.declared.task.Task.TheVariants as task
+use Rattle.duty_plans.specs.declared.result.DutyResult.TheVariants as ended
 use Rattle.duty_plans.specs.Choices.{ends_after}
+use Rattle.duty_plans.specs.Ends.{over}
 use Rattle.duty_plans.specs.Messages.{vote_message}
 use Rattle.duty_plans.specs.Tasks.{tasks_by}
 
 -- ---- tasks
 
--- what the committee of this vote is to vote
-abbrev pub data_of : Duty → Option Task
-data_of (duty.Vote row) = Some (task.Data row)
-data_of (duty.Block row) = None
+-- whether this is the question for what the committee of that vote is to vote
+abbrev pub asks_for : AttesterRow → Task → Bool
+asks_for row (task.Data asked) = asked.committee_index == row.committee_index
+asks_for row t = false
 
--- what the committees of these votes are to vote
+-- what the committees of these votes are to vote: one question for each committee, that of its first vote
 abbrev pub data_tasks : List Duty → List Task
-data_tasks ds = filter_map data_of ds
+data_tasks [] = []
+data_tasks (duty.Block row ∷ ds) = data_tasks ds
+data_tasks (duty.Vote row ∷ ds) = task.Data row ∷ filter (λ t. not (asks_for row t)) (data_tasks ds)
+
+-- these questions, and that for what the committee of this vote is to vote, where it is not among them
+abbrev pub with_question : List Task → Duty → List Task
+with_question tasks (duty.Vote row) = if list_any (asks_for row) tasks then tasks else tasks ++ task.Data row ∷ []
+with_question tasks (duty.Block row) = tasks
 
 -- the vote for the data that a node said, if one did
 abbrev pub vote_by : Duty → Option Aggregation → List Task
@@ -34,9 +45,34 @@ vote_by d o = []
 abbrev pub vote_task : Duty → Ended → List Task
 vote_task d e = vote_by d e.aggregation
 
--- the votes for the data that nodes said, where the questions for it ended so
+-- the votes for the data that nodes said, where the questions for it ended so for each
 abbrev pub vote_tasks : List Duty → List Ended → List Task
 vote_tasks ds ends = tasks_by vote_task ds ends
+
+-- ---- what the ends of the questions are for each vote
+
+-- whether what a node said, if one did, is for this vote's duty: no member of it differs
+abbrev pub is_own : AttesterRow → Option Aggregation → Bool
+is_own row (Some (votes.Voted details)) = is_none (first_that_differs (data_members row details))
+is_own row o = true
+
+-- how the question of its committee ended for a vote, where the ends from that question's own on are these; that it has none comes never
+abbrev pub answer_by : AttesterRow → List Ended → Ended
+answer_by row [] = over ended.NoData
+answer_by row (e ∷ ends) = if is_own row e.aggregation then e else over ended.DataDiffers
+
+abbrev pub answer_at : AttesterRow → List Ended → Option ℕ → Ended
+answer_at row ends None = over ended.NoData
+answer_at row ends (Some i) = answer_by row (drop i ends)
+
+-- the same where these questions ended so; a block has none
+abbrev pub answer_of : List Task → List Ended → Duty → Ended
+answer_of tasks ends (duty.Vote row) = answer_at row ends (position (asks_for row) tasks)
+answer_of tasks ends (duty.Block row) = over ended.NoData
+
+-- how the questions for these votes ended for each of them
+abbrev pub vote_answers : List Duty → List Ended → List Ended
+vote_answers ds ends = map (answer_of (data_tasks ds) ends) ds
 
 -- ---- messages
 
@@ -50,7 +86,7 @@ messages_of domains tasks = filter_map (message_of domains) tasks
 
 -- ---- ends, where these are the ends of the votes that were cast from its own on
 
--- a vote ended as it was cast; where no node said what to vote, as the question for that did
+-- a vote ended as it was cast; where no node said what to vote, as the question for that did; that a vote was cast and has no end comes never
 abbrev pub end_by : Option Aggregation → Ended → List Ended → Ended
 end_by None asked ends = asked
 end_by (Some x) asked [] = asked

@@ -1,37 +1,131 @@
 //! How the votes of a slot are cast: nodes are asked what each committee is to vote, and each vote is cast on what a node said.
-ghost use Rattle.std.specs.Prelude.{◌≡◌, ◌++◌, IfOk, OnOk, drop};
+ghost use Rattle.std.specs.Prelude.{◌≡◌, ◌++◌, IfOk, OnOk, drop, map};
+ghost use Rattle.std.specs.List.{list_any};
 ghost use Rattle.duty_plans.specs.Choices.{next_place};
 ghost use Rattle.duty_plans.specs.Messages.{vote_message};
-ghost use Rattle.duty_plans.specs.Votes.{data_of, data_tasks, end_by, message_of, vote_ends, vote_task, vote_tasks};
+ghost use Rattle.duty_plans.specs.Votes.{answer_by, answer_of, asks_for, data_tasks, end_by, message_of, is_own, vote_ends, vote_task, vote_tasks, with_question};
 
 use crate::choices::next_place;
-use crate::ended::{Aggregation, Ended};
+use crate::ended::{Aggregation, Ended, over};
+use crate::result::DutyResult;
 use crate::task::Task;
-use duty_schedule::Duty;
+use duty_schedule::{Duty, check_data};
 use edge_kit::PubKey;
+use node_calls::AttesterRow;
 use phase0_types::AttestationData;
 use sign_roots::Domains;
 use slash_defs::Message;
 use std::alloc::{AllocError, Global};
 
-/// The questions for what the committees of these votes are to vote. The error is want of memory.
+/// The questions for what the committees of these votes are to vote: one for each committee, that of its first vote. A
+/// committee's question is looked for among those so far, of which a slot has 64 at most (consensus-specs,
+/// `MAX_COMMITTEES_PER_SLOT`). The error is want of memory.
 pub fn data_tasks(alloc: Global, votes: &[Duty]) -> Result<Vec<Task>, AllocError>
     ensures { IfOk result (λ tasks. tasks.items ≡ data_tasks votes.now) }
 {
-    votes.iter().filter_map(|duty| data_of(duty)).collect(alloc)
+    let mut tasks = Vec::new(alloc);
+    'votes: for duty in votes {
+        keep_question(&mut tasks, duty)?;
+    }
+    Ok(tasks)
 }
 
-/// The question for what the committee of a vote is to vote. A block has none.
-fn data_of(duty: &Duty) -> Option<Task>
-    ensures { result ≡ data_of duty.now }
+/// Keeps the question for what the committee of a vote is to vote, where it is not among these. The error is want of memory.
+fn keep_question(tasks: &mut Vec<Task>, duty: &Duty) -> Result<(), AllocError>
+    ensures { OnOk result (tasks.new.items ≡ with_question tasks.old.items duty.now) }
 {
-    match duty {
-        Duty::Vote(row) => Some(Task::Data(*row)),
-        Duty::Block(_) => None,
+    let Duty::Vote(row) = duty else {
+        return Ok(());
+    };
+    if !is_asked(tasks.as_slice(), row) {
+        tasks.push(Task::Data(*row))?;
+    }
+    Ok(())
+}
+
+/// Whether the question for what the committee of this vote is to vote is among these.
+fn is_asked(tasks: &[Task], row: &AttesterRow) -> bool
+    ensures { result ≡ list_any (asks_for row.now) tasks.now }
+{
+    tasks.iter().any(|task| asks_for(row, task))
+}
+
+/// Whether this is the question for what the committee of that vote is to vote.
+fn asks_for(row: &AttesterRow, task: &Task) -> bool
+    ensures { result ≡ asks_for row.now task.now }
+{
+    match task {
+        Task::Data(asked) => asked.committee_index == row.committee_index,
+        Task::Fresh(_) | Task::Again(_, _) | Task::Vote(_, _) => false,
+        Task::Choose(_, _) | Task::Aggregate(_, _, _) => false,
     }
 }
 
-/// The votes for the data that nodes said, where the questions for it ended so. The error is want of memory.
+/// How the questions for these votes, which ended so, ended for each of them: as the question of its committee did, and by
+/// `DataDiffers` where what a node said is not for the vote's duty. The error is want of memory.
+pub fn vote_answers(
+    alloc: Global,
+    votes: &[Duty],
+    tasks: &[Task],
+    ended: &[Ended],
+) -> Result<Vec<Ended>, AllocError>
+    ensures { IfOk result (λ answers. answers.items ≡ map (answer_of tasks.now ended.now) votes.now) }
+{
+    let mut answers = Vec::with_capacity(alloc, votes.len())?;
+    'votes: for duty in votes {
+        answers.push(answer_of(alloc, tasks, ended, duty)?)?;
+    }
+    Ok(answers)
+}
+
+/// How the question of its committee ended for a vote. The error is want of memory.
+fn answer_of(
+    alloc: Global,
+    tasks: &[Task],
+    ended: &[Ended],
+    duty: &Duty,
+) -> Result<Ended, AllocError>
+    ensures { IfOk result (λ answer. answer ≡ answer_of tasks.now ended.now duty.now) }
+{
+    let Duty::Vote(row) = duty else {
+        return Ok(over(DutyResult::NoData));
+    };
+    match tasks.iter().position(|task| asks_for(row, task)) {
+        Some(at) => answer_at(alloc, row, ended, at),
+        None => Ok(over(DutyResult::NoData)),
+    }
+}
+
+/// How the question at this place ended for a vote. The error is want of memory.
+fn answer_at(
+    alloc: Global,
+    row: &AttesterRow,
+    ended: &[Ended],
+    at: usize,
+) -> Result<Ended, AllocError>
+    ensures { IfOk result (λ answer. answer ≡ answer_by row.now (drop at ended.now)) }
+{
+    let Some(one) = ended.get(at) else {
+        return Ok(over(DutyResult::NoData));
+    };
+    if is_own(row, &one.aggregation) {
+        one.copy(alloc)
+    } else {
+        Ok(over(DutyResult::DataDiffers))
+    }
+}
+
+/// Whether what a node said, if one did, is for the duty of this vote.
+fn is_own(row: &AttesterRow, known: &Option<Aggregation>) -> bool
+    ensures { result ≡ is_own row.now known.now }
+{
+    match known {
+        Some(Aggregation::Voted(details)) => check_data(row, details).is_ok(),
+        Some(Aggregation::Chosen(_, _)) | None => true,
+    }
+}
+
+/// The votes for the data that nodes said, where the questions for it ended so for each. The error is want of memory.
 pub fn vote_tasks(alloc: Global, votes: &[Duty], asked: &[Ended]) -> Result<Vec<Task>, AllocError>
     ensures { IfOk result (λ tasks. tasks.items ≡ vote_tasks votes.now asked.now) }
 {

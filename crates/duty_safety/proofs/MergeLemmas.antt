@@ -32,11 +32,11 @@ use Rattle.duty_plans.specs.Votes.{data_tasks, vote_ends, vote_tasks}
 use Rattle.duty_plans.specs.declared.setup.DutySetup.{DutySetup}
 use Rattle.duty_plans.specs.declared.work.SlotWork.{SlotWork}
 use Rattle.duty_turns.specs.Lines.{aggregate_lines, duty_lines, none_line}
-use Rattle.duty_turns.specs.Recording.{free_of, recorded}
+use Rattle.duty_turns.specs.Recording.{allowed_of, recorded}
 use Rattle.duty_turns.specs.Standing.{Standing, indices_of, with_attesters, with_fork, with_indices, with_proposers}
 use Rattle.duty_turns.specs.Times.{again_start, aggregates_start, epoch_of, is_first_slot, is_missed, next_slot, slot_start, votes_start}
 use Rattle.duty_turns.specs.TurnSteps.{TurnCall, TurnPlan, TurnReply, TurnStep, Fits, Due, LanesRefreshed, LooksUp, Own, Owned, Refreshed, Refreshes, RefreshesLanes, Waits, Woke, Worked, Works, Writes, Wrote}
-use Rattle.duty_turns.specs.Turns.{NextPlan, PartPlan, active_of, after_wait, again_plan, aggregates_plan, left_plan, tried_plan, answered_plan, ask_plan, asked_plan, asks, at_moment, at_slot, attesters_plan, blocks_in, by_32, calls, casts, choices_of, chooses_plan, close_plan, due_plan, duties_plan, epoch_plan, epochs_plan, exported, exports, failed_plan, finish_plan, found, gathers_plan, index_plan, is_worth_compacting, keys_of_turn, lanes_refreshed, listed_plan, lived_plan, liveness_plan, looks_up, merges, missing_epochs, missing_keys, noted, notes_of, notes_plan, on_standing, own_answer, own_reply, prunes, puts, ready_plan, records, records_free, records_votes, refreshed, refreshes, refreshes_lanes, renew_plan, renewed_now, renewed_plan, renews, report_plan, shortens, sized, then_on, to_renew, told_plan, turn_plan, unless_short, voters_plan, votes_in, votes_plan, waits, watch_plan, with_active, woken, woken_plan, work_of, worked, works, writes, written, wrote}
+use Rattle.duty_turns.specs.Turns.{NextPlan, PartPlan, active_of, after_wait, again_plan, aggregates_plan, left_plan, tried_plan, answered_plan, ask_plan, asked_plan, asks, at_moment, at_slot, attesters_plan, blocks_in, by_32, calls, casts, choices_of, chooses_plan, close_plan, due_plan, duties_plan, epoch_plan, epochs_plan, exported, exports, failed_plan, finish_plan, found, gathers_plan, index_plan, is_worth_compacting, keys_of_turn, lanes_refreshed, listed_plan, lived_plan, liveness_plan, looks_up, merges, missing_epochs, missing_keys, noted, notes_of, notes_plan, on_standing, own_answer, own_reply, prunes, puts, ready_plan, records, records_allowed, records_votes, refreshed, refreshes, refreshes_lanes, renew_plan, renewed_now, renewed_plan, renews, report_plan, shortens, sized, then_on, to_renew, told_plan, turn_plan, unless_short, voters_plan, votes_in, votes_plan, waits, watch_plan, with_active, woken, woken_plan, work_of, worked, works, writes, written, wrote}
 use Rattle.duty_turns.specs.declared.held.DutyEnd.{DutyEnd}
 use Rattle.duty_turns.specs.declared.held.DutyEnd.TheVariants as end
 use Rattle.duty_safety.proofs.AskedLemmas.{At, asked_stays}
@@ -235,13 +235,13 @@ module _ (keep_epochs : Option ℕ) (epoch : ℕ) where
   records_quiet now [] p h = h
   records_quiet now (m ∷ ms) p h = calls_quiet (call.Record (m ∷ ms) now) (λ r. unless_short r p) (λ from. tt) (unless_short_quiet p h)
 
-  records_free_quiet : (work : SlotWork) (tasks : List Task) (p : NextPlan) → Quiet p → (r : DeskReply) → Quiet (records_free work tasks r p)
-  records_free_quiet work tasks p h (reply.Keys listed) = records_quiet work.moment (recorded work.domains (free_of listed) tasks) p h
+  records_free_quiet : (work : SlotWork) (tasks : List Task) (p : NextPlan) → Quiet p → (r : DeskReply) → Quiet (records_allowed work tasks r p)
+  records_free_quiet work tasks p h (reply.Keys listed) = records_quiet work.moment (recorded work.domains (allowed_of listed) tasks) p h
   records_free_quiet work tasks p h r = stop_quiet
 
   records_votes_quiet : (work : SlotWork) (tasks : List Task) (p : NextPlan) → Quiet p → Quiet (records_votes work tasks p)
   records_votes_quiet work [] p h = h
-  records_votes_quiet work (t ∷ tasks) p h = calls_quiet call.Keys (λ r. records_free work (t ∷ tasks) r p) (λ from. tt) (records_free_quiet work (t ∷ tasks) p h)
+  records_votes_quiet work (t ∷ tasks) p h = calls_quiet call.Keys (λ r. records_allowed work (t ∷ tasks) r p) (λ from. tt) (records_free_quiet work (t ∷ tasks) p h)
 
   casts_quiet : (work : SlotWork) (place : ℕ) (votes : List Duty) (next : List Ended → NextPlan) → ((ends : List Ended) → Quiet (next ends)) → Quiet (casts work place votes next)
   casts_quiet work place votes next h =

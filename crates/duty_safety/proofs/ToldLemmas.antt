@@ -31,11 +31,11 @@ use Rattle.duty_plans.specs.declared.work.SlotWork.{SlotWork}
 use Rattle.duty_turns.specs.declared.held.DutyEnd.TheVariants as end
 use Rattle.duty_turns.specs.Lanes.{DidShares, HasEach, dealt}
 use Rattle.duty_turns.specs.Lines.{aggregate_lines, duty_lines}
-use Rattle.duty_turns.specs.Recording.{free_of, recorded}
+use Rattle.duty_turns.specs.Recording.{allowed_of, recorded}
 use Rattle.duty_turns.specs.Standing.{Standing}
 use Rattle.duty_turns.specs.Times.{again_start, aggregates_start, is_first_slot, next_slot, slot_start, votes_start}
 use Rattle.duty_turns.specs.TurnSteps.{Fits, TurnCall, TurnPlan, TurnReply, TurnStep, LooksUp, Own, Owned, Refreshes, RefreshesLanes, Waits, Works, Writes, Due, Refreshed, LanesRefreshed, Woke, Worked, Wrote}
-use Rattle.duty_turns.specs.Turns.{Next, NextPlan, active_of, asked_plan, at_slot, blocks_in, calls, casts, choices_of, finish_plan, lanes_refreshed, own_reply, puts, records, records_free, records_votes, refreshed, refreshes, refreshes_lanes, is_worth_compacting, report_plan, shortens, sized, unless_short, votes_in, waits, with_active, woken, work_of, works}
+use Rattle.duty_turns.specs.Turns.{Next, NextPlan, active_of, asked_plan, at_slot, blocks_in, calls, casts, choices_of, finish_plan, lanes_refreshed, own_reply, puts, records, records_allowed, records_votes, refreshed, refreshes, refreshes_lanes, is_worth_compacting, report_plan, shortens, sized, unless_short, votes_in, waits, with_active, woken, work_of, works}
 use Rattle.duty_safety.specs.OnTime.{AllWaits, IsWait, Wait, again_on_time, aggregates_on_time, cast_plan, chooses_on_time, done_plan, gathers_on_time, left_on_time, listed_on_time, on_time_turn, ready_on_time, told_on_time, tried_on_time}
 use Rattle.duty_safety.specs.Told.{AllDone, AllTold, AreGathered, AreKept, ArePublished, AreRecorded, AreTried, EachDoneIn, ToldIfNext}
 use Rattle.duty_safety.proofs.AskedLemmas.{At, asked_stays}
@@ -110,9 +110,9 @@ records_so now (m ∷ ms) next steps x h =
 
 -- the desk told how all keys stand, and was asked to keep the messages of those that may sign
 told_so : {X : Type 0} (work : SlotWork) (t : Task) (tasks : List Task) (r : DeskReply) (next : TurnPlan X) (steps rest : List TurnStep) (x : X) → steps ≡ (Own (Calls call.Keys), Owned (Replies r)) ∷ rest
-    → Follows Fits (records_free work (t ∷ tasks) r next) rest (Some x) → Split (AreRecorded work (t ∷ tasks)) next steps x
+    → Follows Fits (records_allowed work (t ∷ tasks) r next) rest (Some x) → Split (AreRecorded work (t ∷ tasks)) next steps x
 told_so work t tasks (reply.Keys listed) next steps rest x e h =
-    let kept = records_so work.moment (recorded work.domains (free_of listed) (t ∷ tasks)) next rest x h in
+    let kept = records_so work.moment (recorded work.domains (allowed_of listed) (t ∷ tasks)) next rest x h in
     let step : TurnStep = (Own (Calls call.Keys), Owned (Replies (reply.Keys listed))) in
     record { front = step ∷ kept.front; rest = kept.rest; are = e ∙ ap (λ (l : List TurnStep). step ∷ l) kept.are; is = (listed, kept.front, refl, kept.is); on = kept.on }
 told_so work t tasks r next steps rest x e h = absurd (stop_never rest x h)
@@ -120,7 +120,7 @@ told_so work t tasks r next steps rest x e h = absurd (stop_never rest x h)
 recorded_so : {X : Type 0} (work : SlotWork) (tasks : List Task) (next : TurnPlan X) (steps : List TurnStep) (x : X) → Follows Fits (records_votes work tasks next) steps (Some x) → Split (AreRecorded work tasks) next steps x
 recorded_so work [] next steps x h = record { front = []; rest = steps; are = refl; is = refl; on = h }
 recorded_so work (t ∷ tasks) next steps x h =
-    let told = calls_so call.Keys (λ r. records_free work (t ∷ tasks) r next) steps x h in
+    let told = calls_so call.Keys (λ r. records_allowed work (t ∷ tasks) r next) steps x h in
     told_so work t tasks told.0 next steps told.1 x told.2 told.3
 
 record Cast {X : Type 0} (work : SlotWork) (place : ℕ) (votes : List Duty) (f : List Ended → TurnPlan X) (steps : List TurnStep) (x : X) : Type 0 where

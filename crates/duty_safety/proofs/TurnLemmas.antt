@@ -27,12 +27,12 @@ use Rattle.duty_plans.specs.declared.work.SlotWork.{SlotWork}
 use Rattle.duty_turns.specs.declared.held.DutyEnd.{DutyEnd}
 use Rattle.duty_turns.specs.declared.held.DutyEnd.TheVariants as end
 use Rattle.duty_turns.specs.Lines.{aggregate_lines, duty_lines}
-use Rattle.duty_turns.specs.Recording.{free_of, recorded}
+use Rattle.duty_turns.specs.Recording.{allowed_of, recorded}
 use Rattle.duty_turns.specs.Standing.{Standing}
 use Rattle.duty_pruning.specs.Pruning.{pruning_file}
 use Rattle.duty_turns.specs.Times.{again_start, aggregates_start, epoch_of, is_first_slot, is_missed, next_slot, slot_of, slot_start, votes_start}
 use Rattle.duty_turns.specs.TurnSteps.{Does, Fits, House, TurnCall, TurnPlan, TurnReply, TurnStep, LooksUp, Own, Refreshes, RefreshesLanes, Waits, Works, Writes, Woke, Wrote}
-use Rattle.duty_turns.specs.Turns.{Next, NextPlan, active_of, after_wait, again_plan, aggregates_plan, left_plan, tried_plan, asked_plan, at_moment, at_slot, blocks_in, calls, casts, choices_of, chooses_plan, close_plan, due_plan, exported, exports, failed_plan, finish_plan, found, gathers_plan, keys_of_turn, lanes_refreshed, listed_plan, merges, next_turn, own_reply, prunes, puts, ready_plan, records, records_free, records_votes, refreshed, refreshes, refreshes_lanes, is_worth_compacting, report_plan, shortens, sized, told_plan, turn_plan, turns_plan, unless_short, votes_in, votes_plan, waits, with_active, woken, woken_plan, work_of, worked, works, wrote}
+use Rattle.duty_turns.specs.Turns.{Next, NextPlan, active_of, after_wait, again_plan, aggregates_plan, left_plan, tried_plan, asked_plan, at_moment, at_slot, blocks_in, calls, casts, choices_of, chooses_plan, close_plan, due_plan, exported, exports, failed_plan, finish_plan, found, gathers_plan, keys_of_turn, lanes_refreshed, listed_plan, merges, next_turn, own_reply, prunes, puts, ready_plan, records, records_allowed, records_votes, refreshed, refreshes, refreshes_lanes, is_worth_compacting, report_plan, shortens, sized, told_plan, turn_plan, turns_plan, unless_short, votes_in, votes_plan, waits, with_active, woken, woken_plan, work_of, worked, works, wrote}
 use Rattle.duty_safety.specs.OnTime.{AllWaits, AreOnTime, IsWait, Wait, WakesInSlot, again_on_time, aggregates_on_time, cast_plan, chooses_on_time, done_plan, gathers_on_time, left_on_time, listed_on_time, on_time_turn, on_time_turns, ready_on_time, told_on_time, tried_on_time}
 use Rattle.duty_safety.proofs.KeepLemmas.{Keeps, found_keeps, keeps_ask, keeps_bind, keeps_done, keeps_else, keeps_if, keeps_stop, lanes_refreshed_keeps, refreshed_keeps, woken_keeps, worked_keeps}
 use Rattle.duty_safety.proofs.AskedLemmas.{At, asked_stays}
@@ -138,14 +138,14 @@ records_keep W first now [] p q h = h
 records_keep W first now (m ∷ ms) p q h =
     keeps_ask W (From first) (Own (Calls (call.Record (m ∷ ms) now))) (λ r. unless_short (own_reply r) p) (λ r. unless_short (own_reply r) q) (λ r is. unless_short_keeps W first (own_reply r) p q h)
 
-records_free_keep : (W : Wait) (first : ℕ) (work : SlotWork) (tasks : List Task) (r : DeskReply) (p q : NextPlan) → Keeps W (From first) p q → Keeps W (From first) (records_free work tasks r p) (records_free work tasks r q)
-records_free_keep W first work tasks (reply.Keys listed) p q h = records_keep W first work.moment (recorded work.domains (free_of listed) tasks) p q h
+records_free_keep : (W : Wait) (first : ℕ) (work : SlotWork) (tasks : List Task) (r : DeskReply) (p q : NextPlan) → Keeps W (From first) p q → Keeps W (From first) (records_allowed work tasks r p) (records_allowed work tasks r q)
+records_free_keep W first work tasks (reply.Keys listed) p q h = records_keep W first work.moment (recorded work.domains (allowed_of listed) tasks) p q h
 records_free_keep W first work tasks r p q h = keeps_stop W (From first)
 
 records_votes_keep : (W : Wait) (first : ℕ) (work : SlotWork) (tasks : List Task) (p q : NextPlan) → Keeps W (From first) p q → Keeps W (From first) (records_votes work tasks p) (records_votes work tasks q)
 records_votes_keep W first work [] p q h = h
 records_votes_keep W first work (t ∷ tasks) p q h =
-    keeps_ask W (From first) (Own (Calls call.Keys)) (λ r. records_free work (t ∷ tasks) (own_reply r) p) (λ r. records_free work (t ∷ tasks) (own_reply r) q)
+    keeps_ask W (From first) (Own (Calls call.Keys)) (λ r. records_allowed work (t ∷ tasks) (own_reply r) p) (λ r. records_allowed work (t ∷ tasks) (own_reply r) q)
     (λ r is. records_free_keep W first work (t ∷ tasks) (own_reply r) p q h)
 
 casts_keep : (W : Wait) (first : ℕ) (work : SlotWork) (place : ℕ) (votes : List Duty) (f g : List Ended → NextPlan) → ((ends : List Ended) → Keeps W (From first) (f ends) (g ends))

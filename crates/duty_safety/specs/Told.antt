@@ -15,13 +15,13 @@ use Rattle.duty_plans.specs.declared.task.Task.{Task}
 use Rattle.duty_plans.specs.Choices.{aggregate_tasks, reports}
 use Rattle.duty_plans.specs.Ends.{merged, results_of}
 use Rattle.duty_plans.specs.Tasks.{again_tasks, fresh}
-use Rattle.duty_plans.specs.Votes.{data_tasks, vote_ends, vote_tasks}
+use Rattle.duty_plans.specs.Votes.{data_tasks, vote_answers, vote_ends, vote_tasks}
 use Rattle.duty_plans.specs.declared.setup.DutySetup.{DutySetup}
 use Rattle.duty_plans.specs.declared.work.SlotWork.{SlotWork}
 use Rattle.duty_plans.specs.Slots.{EachDone}
 use Rattle.duty_plans.specs.Steps.{DutyStep, Calls, Replies}
 use Rattle.duty_turns.specs.Lanes.{dealt}
-use Rattle.duty_turns.specs.Recording.{free_of, recorded}
+use Rattle.duty_turns.specs.Recording.{allowed_of, recorded}
 use Rattle.duty_turns.specs.Lines.{aggregate_lines, duty_lines}
 use Rattle.duty_turns.specs.Times.{again_start, aggregates_start, votes_start}
 use Rattle.duty_turns.specs.TurnSteps.{TurnStep, LooksUp, Own, Owned, Waits, Works, Writes, Due, Woke, Worked, Wrote}
@@ -73,12 +73,12 @@ AreKept now (m ∷ ms) steps = (r : DeskReply) × (steps ≡ (Own (Calls (call.R
 abbrev pub AreRecorded : SlotWork → List Task → List TurnStep → Type 0
 AreRecorded work [] steps = steps ≡ []
 AreRecorded work (t ∷ tasks) steps = (listed : List (PubKey × KeyStanding)) × (more : List TurnStep) × (steps ≡ (Own (Calls call.Keys), Owned (Replies (reply.Keys listed))) ∷ more)
-    × AreKept work.moment (recorded work.domains (free_of listed) (t ∷ tasks)) more
+    × AreKept work.moment (recorded work.domains (allowed_of listed) (t ∷ tasks)) more
 
 -- The duties that are due at the slot were looked up. Blocks were done at once, in lanes, each with an end of its own steps.
--- A third into the slot nodes were asked in lanes what each vote is to be for; the messages of all votes for what they said were handed to the
--- desk together; and these votes were cast in lanes. What was left of all was tried once more; then a line was written of each duty, blocks
--- before votes; and then aggregates of the votes were published.
+-- A third into the slot nodes were asked in lanes what each committee is to vote, once for each committee; the desk was asked to keep the
+-- messages of the votes for what they said together; and these votes were cast in lanes. What was left of all was tried once more; then a line
+-- was written of each duty, blocks before votes; and then aggregates of the votes were published.
 pub record AllTold (setup : DutySetup) (slot : ℕ) (steps : List TurnStep) : Type 0 where
   pub front : List TurnStep
   pub answers : List TakenAnswer
@@ -89,6 +89,7 @@ pub record AllTold (setup : DutySetup) (slot : ℕ) (steps : List TurnStep) : Ty
   pub proposed : List Ended
   pub reached : ℕ
   pub asking : List (List DutyStep)
+  pub told : List Ended
   pub asked : List Ended
   pub records : List TurnStep
   pub voting : List (List DutyStep)
@@ -99,12 +100,13 @@ pub record AllTold (setup : DutySetup) (slot : ℕ) (steps : List TurnStep) : Ty
   pub gathers : List TurnStep
   pub behind : List TurnStep
   pub are : steps ≡ front ++ (LooksUp answers slot active, Due due) ∷ (Works work 0 (fresh (blocks_in due)), Worked made (Some proposed)) ∷ (Waits (votes_start setup.genesis_time slot), Woke reached)
-      ∷ (Works work (length (blocks_in due)) (data_tasks (votes_in due)), Worked asking (Some asked)) ∷ (records
+      ∷ (Works work (length (blocks_in due)) (data_tasks (votes_in due)), Worked asking (Some told)) ∷ (records
       ++ (Works work (length (blocks_in due)) (vote_tasks (votes_in due) asked), Worked voting (Some cast)) ∷ (tries ++ (Writes text, Wrote true text) ∷ (gathers ++ behind)))
   pub found : IsDue answers slot active due
   pub work_slot : work.slot ≡ slot
   pub blocks : AllDone work 0 (fresh (blocks_in due)) made proposed
-  pub questions : AllDone work (length (blocks_in due)) (data_tasks (votes_in due)) asking asked
+  pub questions : AllDone work (length (blocks_in due)) (data_tasks (votes_in due)) asking told
+  pub answers_are : asked ≡ vote_answers (votes_in due) told
   pub kept : AreRecorded work (vote_tasks (votes_in due) asked) records
   pub votes : AllDone work (length (blocks_in due)) (vote_tasks (votes_in due) asked) voting cast
   pub tried : AreTried setup slot work (proposed ++ vote_ends asked cast) (again_tasks due (proposed ++ vote_ends asked cast)) tries results

@@ -19,11 +19,11 @@ may_sign (standing.Active watch.Allowed) = true
 may_sign s = false
 
 -- the keys that may sign
-abbrev pub free_of : List (PubKey × KeyStanding) → List PubKey
-free_of listed = map (λ l. l.0) (filter (λ l. may_sign l.1) listed)
+abbrev pub allowed_of : List (PubKey × KeyStanding) → List PubKey
+allowed_of listed = map (λ l. l.0) (filter (λ l. may_sign l.1) listed)
 
-abbrev pub is_free : List PubKey → PubKey → Bool
-is_free free key = is_member (eq_by_cmp key_cmp) free key
+abbrev pub is_allowed : List PubKey → PubKey → Bool
+is_allowed allowed key = is_member (eq_by_cmp key_cmp) allowed key
 
 -- each whose key comes after that of the last one taken: of messages in the order of their keys, the first of each key
 abbrev pub first_of_each : Option PubKey → List (PubKey × Message) → List (PubKey × Message)
@@ -32,4 +32,4 @@ first_of_each before (m ∷ ms) = if is_after before m.0 then m ∷ first_of_eac
 
 -- of the messages of these votes, those of keys that may sign, and the first of each key
 abbrev pub recorded : Domains → List PubKey → List Task → List (PubKey × Message)
-recorded domains free tasks = first_of_each None (filter (λ m. is_free free m.0) (messages_of domains tasks))
+recorded domains allowed tasks = first_of_each None (filter (λ m. is_allowed allowed m.0) (messages_of domains tasks))

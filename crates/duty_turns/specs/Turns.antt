@@ -34,7 +34,7 @@ use Rattle.duty_plans.specs.Ends.{merged, results_of}
 use Rattle.duty_plans.specs.Plans.{answer_reply, desk_reply, slot_work}
 use Rattle.duty_plans.specs.Steps.{Calls, Asks}
 use Rattle.duty_plans.specs.Tasks.{again_tasks, fresh}
-use Rattle.duty_plans.specs.Votes.{data_tasks, vote_ends, vote_tasks}
+use Rattle.duty_plans.specs.Votes.{data_tasks, vote_answers, vote_ends, vote_tasks}
 use Rattle.duty_turns.specs.declared.held.DutyEnd.{DutyEnd}
 use Rattle.duty_turns.specs.declared.held.DutyEnd.TheVariants as end
 use Rattle.slash_defs.specs.declared.book.Book.{Book}
@@ -44,7 +44,7 @@ use Rattle.record_join.specs.Keys.{kept_of}
 use Rattle.duty_turns.specs.Lines.{aggregate_lines, duty_lines, none_line}
 use Rattle.duty_pruning.specs.Pruning.{pruning_file}
 use Rattle.duty_turns.specs.Lanes.{dealt}
-use Rattle.duty_turns.specs.Recording.{free_of, recorded}
+use Rattle.duty_turns.specs.Recording.{allowed_of, recorded}
 use Rattle.duty_turns.specs.Standing.{Standing, indices_of, with_attesters, with_fork, with_indices, with_proposers}
 use Rattle.duty_turns.specs.Times.{again_start, aggregates_start, epoch_of, is_first_slot, is_missed, next_slot, slot_of, slot_start, votes_start}
 use Rattle.duty_turns.specs.TurnSteps.{TurnPlan, TurnReply, Waits, Refreshes, RefreshesLanes, Own, LooksUp, Works, Writes, Woke, Refreshed, LanesRefreshed, Owned, Due, Worked, Wrote}
@@ -387,19 +387,24 @@ abbrev pub records : {X : Type 0} → ℕ → List (PubKey × Message) → TurnP
 records now [] next = next
 records now (m ∷ ms) next = calls (call.Record (m ∷ ms) now) (λ r. unless_short r next)
 
-abbrev pub records_free : {X : Type 0} → SlotWork → List Task → DeskReply → TurnPlan X → TurnPlan X
-records_free work tasks (reply.Keys listed) next = records work.moment (recorded work.domains (free_of listed) tasks) next
-records_free work tasks r next = Stop
+abbrev pub records_allowed : {X : Type 0} → SlotWork → List Task → DeskReply → TurnPlan X → TurnPlan X
+records_allowed work tasks (reply.Keys listed) next = records work.moment (recorded work.domains (allowed_of listed) tasks) next
+records_allowed work tasks r next = Stop
 
 -- so those of these votes, if there is one, once it has told which keys may sign
 abbrev pub records_votes : {X : Type 0} → SlotWork → List Task → TurnPlan X → TurnPlan X
 records_votes work [] next = next
-records_votes work (t ∷ tasks) next = calls call.Keys (λ r. records_free work (t ∷ tasks) r next)
+records_votes work (t ∷ tasks) next = calls call.Keys (λ r. records_allowed work (t ∷ tasks) r next)
 
--- Votes are cast, of which the first has this place: nodes are asked in the lanes what each committee is to vote; the desk keeps the messages
--- of all votes for what they said together; and then each of these votes is cast in the lanes.
+-- the questions for votes ended so for each, of which the first has this place: the desk is asked to keep the messages of the votes that follow
+-- together, and then each of these votes is cast in the lanes
+abbrev pub casts_for : {X : Type 0} → SlotWork → ℕ → List Duty → (List Ended → TurnPlan X) → List Ended → TurnPlan X
+casts_for work place votes next_by asked = records_votes work (vote_tasks votes asked) (works work place (vote_tasks votes asked) (λ cast. next_by (vote_ends asked cast)))
+
+-- Votes are cast, of which the first has this place: nodes are asked in the lanes what each committee is to vote, once for each committee; and
+-- then the votes are cast for what they said.
 abbrev pub casts : {X : Type 0} → SlotWork → ℕ → List Duty → (List Ended → TurnPlan X) → TurnPlan X
-casts work place votes next_by = works work place (data_tasks votes) (λ asked. records_votes work (vote_tasks votes asked) (works work place (vote_tasks votes asked) (λ cast. next_by (vote_ends asked cast))))
+casts work place votes next_by = works work place (data_tasks votes) (λ ends. casts_for work place votes next_by (vote_answers votes ends))
 
 -- a third into the slot the votes are cast, whose places are after those of the blocks; at another moment they are dropped, and the
 -- next turn is of the slot of that moment

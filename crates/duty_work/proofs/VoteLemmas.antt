@@ -28,10 +28,10 @@ use Rattle.duty_plans.specs.declared.work.SlotWork.{SlotWork}
 use Rattle.duty_plans.specs.Votes.{messages_of, vote_ends}
 use Rattle.duty_pruning.specs.Pruning.{are_in_order, is_after}
 use Rattle.duty_pruning.proofs.OnceLemmas.{in_order_once}
-use Rattle.duty_turns.specs.Recording.{first_of_each, free_of, is_free, recorded}
+use Rattle.duty_turns.specs.Recording.{first_of_each, allowed_of, is_allowed, recorded}
 use Rattle.duty_turns.specs.Standing.{Standing}
 use Rattle.duty_turns.specs.Times.{epoch_of}
-use Rattle.duty_turns.specs.Turns.{NextPlan, calls, records, records_free, records_votes, unless_short, work_of, works}
+use Rattle.duty_turns.specs.Turns.{NextPlan, calls, records, records_allowed, records_votes, unless_short, work_of, works}
 use Rattle.duty_turns.specs.TurnSteps.{Does, Fits, House, SinkSeen, Worked, Works}
 use Rattle.duty_turns.specs.declared.held.Held.{Held}
 use Rattle.duty_asks.specs.Placed.{HoldsPlaced}
@@ -87,11 +87,11 @@ module _ {K : Type 0} (leads : Leads K) (start : Option ℕ) where
 
   -- the messages, and the moment, are those that were meant
   pub recorded_as : (work : SlotWork) (tasks : List Task) (listed : List (PubKey × KeyStanding)) (domains : Domains) (moment : ℕ) (ms : List (PubKey × Message)) (next : NextPlan) (a b : House K) (result : Result (Unit {0}) AllocError)
-      → work.domains ≡ domains → work.moment ≡ moment → ms ≡ recorded domains (free_of listed) tasks
-      → CalledOn leads start (records moment ms next) next a b result → CalledOn leads start (records_free work tasks (reply.Keys listed) next) next a b result
+      → work.domains ≡ domains → work.moment ≡ moment → ms ≡ recorded domains (allowed_of listed) tasks
+      → CalledOn leads start (records moment ms next) next a b result → CalledOn leads start (records_allowed work tasks (reply.Keys listed) next) next a b result
   recorded_as work tasks listed domains moment ms next a b result by at of called =
       let P : ℕ → List (PubKey × Message) → Type 0 = λ now l. CalledOn leads start (records now l next) next a b result in
-      subst (λ n. P n (recorded work.domains (free_of listed) tasks)) (sym at) (subst (λ l. P moment l) (of ∙ ap (λ (x : Domains). recorded x (free_of listed) tasks) (sym by)) called)
+      subst (λ n. P n (recorded work.domains (allowed_of listed) tasks)) (sym at) (subst (λ l. P moment l) (of ∙ ap (λ (x : Domains). recorded x (allowed_of listed) tasks) (sym by)) called)
 
   pub none_voted : (work : SlotWork) (tasks : List Task) (next : NextPlan) (a : House K) → (length tasks == 0) ≡ true → CalledOn leads start (records_votes work tasks next) next a a (Ok tt)
   none_voted work [] next a h = none_called leads start next a
@@ -100,21 +100,21 @@ module _ {K : Type 0} (leads : Leads K) (start : Option ℕ) where
   -- the desk told how its keys stand
   pub votes_listed : (work : SlotWork) (tasks : List Task) (next : NextPlan) (d e : K) (ls : List (Seat K)) (nodes : List Seen) (out : SinkSeen) (c : House K) (r : DeskReply) (listed : List (PubKey × KeyStanding)) (result : Result (Unit {0}) AllocError)
       → (length tasks == 0) ≡ false → leads d ((call.Keys, r) ∷ []) e → IsKind call.Keys r → IsGrantFor call.Keys r → r ≡ reply.Keys listed
-      → CalledOn leads start (records_free work tasks (reply.Keys listed) next) next (house e ls nodes out) c result → CalledOn leads start (records_votes work tasks next) next (house d ls nodes out) c result
+      → CalledOn leads start (records_allowed work tasks (reply.Keys listed) next) next (house e ls nodes out) c result → CalledOn leads start (records_votes work tasks next) next (house d ls nodes out) c result
   votes_listed work [] next d e ls nodes out c r listed result h led kind for is rest = absurd (let bad : true ≡ false = h in cc)
   votes_listed work (t ∷ tasks) next d e ls nodes out c r listed result h led kind for is rest =
       let hand : hand_given Free r ≡ Free = ap (λ (x : DeskReply). hand_given Free x) is in
-      called_more leads start (calls call.Keys (λ x. records_free work (t ∷ tasks) x next)) (records_free work (t ∷ tasks) r next) next (house d ls nodes out) (house e ls nodes out) c result
-      (turn_comes leads start d e ls nodes out call.Keys r (λ x. records_free work (t ∷ tasks) x next) refl hand led kind for)
-      (subst (λ (x : DeskReply). CalledOn leads start (records_free work (t ∷ tasks) x next) next (house e ls nodes out) c result) (sym is) rest)
+      called_more leads start (calls call.Keys (λ x. records_allowed work (t ∷ tasks) x next)) (records_allowed work (t ∷ tasks) r next) next (house d ls nodes out) (house e ls nodes out) c result
+      (turn_comes leads start d e ls nodes out call.Keys r (λ x. records_allowed work (t ∷ tasks) x next) refl hand led kind for)
+      (subst (λ (x : DeskReply). CalledOn leads start (records_allowed work (t ∷ tasks) x next) next (house e ls nodes out) c result) (sym is) rest)
 
   pub votes_unlisted : (work : SlotWork) (tasks : List Task) (next : NextPlan) (d e : K) (ls : List (Seat K)) (nodes : List Seen) (out : SinkSeen) (r : DeskReply) → (length tasks == 0) ≡ false
       → leads d ((call.Keys, r) ∷ []) e → IsKind call.Keys r → IsGrantFor call.Keys r → r ≡ reply.OutOfMemory → CalledOn leads start (records_votes work tasks next) next (house d ls nodes out) (house e ls nodes out) (Err (record {}))
   votes_unlisted work [] next d e ls nodes out r h led kind for is = absurd (let bad : true ≡ false = h in cc)
   votes_unlisted work (t ∷ tasks) next d e ls nodes out r h led kind for is =
       let hand : hand_given Free r ≡ Free = ap (λ (x : DeskReply). hand_given Free x) is in
-      turn_calls leads start d e ls nodes out (house e ls nodes out) call.Keys r (λ x. records_free work (t ∷ tasks) x next) None refl hand led kind for
-      (carries_cut Fits (Does leads start) (records_free work (t ∷ tasks) r next) (house e ls nodes out))
+      turn_calls leads start d e ls nodes out (house e ls nodes out) call.Keys r (λ x. records_allowed work (t ∷ tasks) x next) None refl hand led kind for
+      (carries_cut Fits (Does leads start) (records_allowed work (t ∷ tasks) r next) (house e ls nodes out))
 
   -- ---- the votes
 

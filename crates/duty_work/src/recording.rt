@@ -9,8 +9,8 @@ ghost use Rattle.duty_plans.specs.declared.work.SlotWork.{SlotWork};
 ghost use Rattle.duty_plans.specs.Seats.{Seat};
 ghost use Rattle.duty_plans.specs.Votes.{messages_of};
 ghost use Rattle.duty_pruning.specs.Pruning.{is_after};
-ghost use Rattle.duty_turns.specs.Recording.{first_of_each, free_of, is_free, may_sign, recorded};
-ghost use Rattle.duty_turns.specs.Turns.{NextPlan, records, records_free, records_votes};
+ghost use Rattle.duty_turns.specs.Recording.{first_of_each, allowed_of, is_allowed, may_sign, recorded};
+ghost use Rattle.duty_turns.specs.Turns.{NextPlan, records, records_allowed, records_votes};
 ghost use Rattle.duty_turns.specs.TurnSteps.{SinkSeen};
 ghost use Rattle.desk_machine.specs.declared.call.DeskReply.TheVariants as reply;
 ghost use Rattle.duty_work.specs.Houses.{CalledOn, IsRecorded, house, short_by};
@@ -48,7 +48,7 @@ pub(crate) fn record_votes<K: DeskCalls>(
     }
     match desk.call(DeskCall::Keys) {
         DeskReply::Keys(listed) => {
-            record_free(alloc, domains, moment, tasks, listed.as_slice(), desk)
+            record_allowed(alloc, domains, moment, tasks, listed.as_slice(), desk)
         }
         DeskReply::OutOfMemory => Err(AllocError),
         _ => unreachable!(),
@@ -56,7 +56,7 @@ pub(crate) fn record_votes<K: DeskCalls>(
 }
 
 /// Has the desk keep those of the messages of these votes together whose keys may sign by how they stand.
-fn record_free<K: DeskCalls>(
+fn record_allowed<K: DeskCalls>(
     alloc: Global,
     domains: &Domains,
     moment: u64,
@@ -68,7 +68,7 @@ fn record_free<K: DeskCalls>(
     requires moment { moment ≤ moment_limit }
     ensures ready { K.ready desk.new }
     ensures called { (work : SlotWork) → work.domains ≡ domains.now → work.moment ≡ moment
-        → (start : Option ℕ) (lanes : List (Seat K)) (nodes : List Seen) (out : SinkSeen) (next : NextPlan) → CalledOn K.leads start (records_free work tasks.now (reply.Keys listed.now) next) next
+        → (start : Option ℕ) (lanes : List (Seat K)) (nodes : List Seen) (out : SinkSeen) (next : NextPlan) → CalledOn K.leads start (records_allowed work tasks.now (reply.Keys listed.now) next) next
         (house desk.old lanes nodes out) (house desk.new lanes nodes out) result }
 {
     let Ok(messages) = recorded(alloc, domains, tasks, listed) else {
@@ -119,12 +119,12 @@ fn recorded(
     tasks: &[Task],
     listed: &[(PubKey, KeyStanding)],
 ) -> Result<Proposals, AllocError>
-    ensures value { IfOk result (λ messages. messages ≡ recorded domains.now (free_of listed.now) tasks.now) }
+    ensures value { IfOk result (λ messages. messages ≡ recorded domains.now (allowed_of listed.now) tasks.now) }
     ensures once { IfOk result (λ messages. EachOnce messages) }
 {
     let messages = messages_of(alloc, domains, tasks)?;
-    let free = free_of(alloc, listed)?;
-    let mine = messages_by(alloc, messages.as_slice(), free.as_slice())?;
+    let allowed = allowed_of(alloc, listed)?;
+    let mine = messages_by(alloc, messages.as_slice(), allowed.as_slice())?;
     let first = first_of_each(alloc, mine.as_slice())?;
     Ok(Items::from_vec(first))
 }
@@ -144,16 +144,16 @@ fn messages_of(
 }
 
 /// The keys of a listing that may sign, in order. The error is want of memory.
-fn free_of(alloc: Global, listed: &[(PubKey, KeyStanding)]) -> Result<Vec<PubKey>, AllocError>
-    ensures { IfOk result (λ free. free.items ≡ free_of listed.now) }
+fn allowed_of(alloc: Global, listed: &[(PubKey, KeyStanding)]) -> Result<Vec<PubKey>, AllocError>
+    ensures { IfOk result (λ allowed. allowed.items ≡ allowed_of listed.now) }
 {
-    let mut free = Vec::with_capacity(alloc, listed.len())?;
+    let mut allowed = Vec::with_capacity(alloc, listed.len())?;
     'listed: for (key, standing) in listed {
         if may_sign(standing) {
-            free.push(*key)?;
+            allowed.push(*key)?;
         }
     }
-    Ok(free)
+    Ok(allowed)
 }
 
 fn may_sign(standing: &KeyStanding) -> bool
@@ -172,7 +172,7 @@ fn messages_by(
     messages: &[(PubKey, Message)],
     keys: &[PubKey],
 ) -> Result<Vec<(PubKey, Message)>, AllocError>
-    ensures { IfOk result (λ mine. mine.items ≡ filter (λ m. is_free keys.now m.0) messages.now) }
+    ensures { IfOk result (λ mine. mine.items ≡ filter (λ m. is_allowed keys.now m.0) messages.now) }
 {
     let keys = key_set(alloc, keys)?;
     messages_in(alloc, messages, &keys)

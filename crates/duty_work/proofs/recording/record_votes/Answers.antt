@@ -10,8 +10,8 @@ returns-then-is_empty-clause-called g c = λ work by at start lanes nodes out ne
 
 pub returns-in-Keys-clause-called : goal.returns-in-Keys-clause-called
 returns-in-Keys-clause-called g c = λ work by at start lanes nodes out next.
-    votes_listed g.K.DeskCalls.leads start work c.args.tasks.now next _ _ lanes nodes out _ c.call.result c.as_slice.result.now c.record_free.result (sym c.is_empty.ensures ∙ c.if-is_empty.false) c.call.ensures.leads c.call.ensures.kind c.call.ensures.granted
-    (c.in-Keys.is ∙ ap (λ (l : List (PubKey × KeyStanding)). reply.Keys l) (sym c.as_slice.ensures)) (c.record_free.ensures.called work by at start lanes nodes out next)
+    votes_listed g.K.DeskCalls.leads start work c.args.tasks.now next _ _ lanes nodes out _ c.call.result c.as_slice.result.now c.record_allowed.result (sym c.is_empty.ensures ∙ c.if-is_empty.false) c.call.ensures.leads c.call.ensures.kind c.call.ensures.granted
+    (c.in-Keys.is ∙ ap (λ (l : List (PubKey × KeyStanding)). reply.Keys l) (sym c.as_slice.ensures)) (c.record_allowed.ensures.called work by at start lanes nodes out next)
 
 pub returns-in-OutOfMemory-clause-called : goal.returns-in-OutOfMemory-clause-called
 returns-in-OutOfMemory-clause-called g c = λ work by at start lanes nodes out next.
