@@ -108,8 +108,8 @@ def block_at(due, slot, reveal, version='phase0'):
         'randao_reveal': reveal, 'eth1_data': {'deposit_root': ZERO, 'deposit_count': '0', 'block_hash': ZERO}, 'graffiti': ZERO,
         'proposer_slashings': [], 'attester_slashings': [], 'attestations': [], 'deposits': [], 'voluntary_exits': [], **more}}
 
-def data_at(slot):
-    return {'slot': str(slot), 'index': '0', 'beacon_block_root': '0x%064x' % slot, 'source': {'epoch': '0', 'root': ZERO}, 'target': {'epoch': str(slot // 32), 'root': ZERO}}
+def data_at(slot, index='0'):
+    return {'slot': str(slot), 'index': index, 'beacon_block_root': '0x%064x' % slot, 'source': {'epoch': '0', 'root': ZERO}, 'target': {'epoch': str(slot // 32), 'root': ZERO}}
 
 def tell(due, method, target, body):
     path, _, query = target.partition('?')
@@ -131,11 +131,12 @@ def tell(due, method, target, body):
         return 200, {'dependent_root': ZERO, 'data': rows}
     if path.startswith('/eth/v1/validator/duties/attester/'):
         wanted, epoch = {int(i) for i in body}, int(path.split('/')[-1])
-        rows = [{'pubkey': key(n), 'validator_index': str(n), 'committee_index': '0', 'committee_length': str(due.get('committee', 2048)), 'committees_at_slot': '1',
-                 'validator_committee_index': str(n % 2048), 'slot': str(slot)} for n, slot in due['votes'].items() if n in wanted and slot // 32 == epoch]
+        committees = due.get('committees', 1)
+        rows = [{'pubkey': key(n), 'validator_index': str(n), 'committee_index': str(n % committees), 'committee_length': str(due.get('committee', 2048)), 'committees_at_slot': str(committees),
+                 'validator_committee_index': str(n // committees % 2048), 'slot': str(slot)} for n, slot in due['votes'].items() if n in wanted and slot // 32 == epoch]
         return 200, {'dependent_root': ZERO, 'data': rows}
     if path == DATA:
-        return 200, {'data': data_at(int(dict(asked)['slot']))}
+        return 200, {'data': data_at(int(dict(asked)['slot']), dict(asked)['committee_index'])}
     if path.startswith('/eth/v2/validator/blocks/'):
         slot = int(path.split('/')[-1])
         version = due.get('versions', {}).get(slot, 'phase0')

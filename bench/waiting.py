@@ -3,6 +3,7 @@ import shutil, statistics
 from stand_ins import *
 
 count = int(sys.argv[2]) if len(sys.argv) > 2 else 1000
+COMMITTEES = 64     # of a slot, as many as consensus-specs allow
 shim = os.path.join(folder, 'slow_sync.so')
 subprocess.run(['gcc', '-shared', '-fPIC', '-O2', '-o', shim, os.path.join(os.path.dirname(os.path.abspath(__file__)), 'slow_sync.c')], check=True)
 
@@ -65,7 +66,7 @@ def slot(microseconds, lanes):
     journal = 'journal-%d-%d' % (microseconds, lanes)
     sessions(journal, [{'op': 'activate', 'pubkey': key(n)} for n in range(count)])
     genesis = int(time.time()) - 6
-    node.set(genesis_time=genesis, blocks={}, votes={n: 1 for n in range(count)})
+    node.set(genesis_time=genesis, blocks={}, votes={n: 1 for n in range(count)}, committees=COMMITTEES)
     node.take(), signer.take()
     counted, file = os.path.join(folder, journal + '-syncs'), os.path.join(folder, journal + '.a')
     child = serve(journal, 2, 0, lanes, before=['env', 'LD_PRELOAD=' + shim, 'SYNCS=' + counted, 'SYNC_MICROSECONDS=%d' % microseconds])
@@ -78,13 +79,15 @@ def slot(microseconds, lanes):
     wanted('%d votes in place of %d' % (len(posts), count), len(posts) == count)
     syncs = os.path.getsize(counted) - synced
     wanted('%d syncs for the votes of a slot in place of two' % syncs, syncs == 2)
-    told = max(r.ended for r in asked if r.target.startswith(DATA))
+    questions = [r for r in asked if r.target.startswith(DATA)]
+    wanted('%d questions in place of one for each of %d committees' % (len(questions), COMMITTEES), len(questions) == min(count, COMMITTEES))
+    told = max(r.ended for r in questions)
     first = min(r.begun for r in signed_for if r.target.startswith(SIGN))
     return first - told, max(r.ended for r in posts) - third, os.path.getsize(file) - size
 
 syncs = single()
 wanted('%g syncs for one vote of a session in place of two' % syncs, syncs == 2)
-print('%d votes of one slot. Of each row: the milliseconds of a sync; lanes; milliseconds from the last answer of a node to the first request for a signature;' % count)
+print('%d votes of one slot, in 64 committees. Of each row: the milliseconds of a sync; lanes; milliseconds from the last answer of a node to the first request for a signature;' % count)
 print('those of the same bytes written with two syncs, and the ratio; of SQLite in one transaction, by default and in WAL; seconds from the third to the last post.')
 for microseconds in (40, 2000, 10000):
     rows = [(lanes, *slot(microseconds, lanes)) for lanes in (1, 4, 16)]

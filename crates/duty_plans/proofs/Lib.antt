@@ -6,3 +6,4 @@ pub mod SlotLemmas
 pub mod LeftLemmas
 pub mod EndLemmas
 pub mod AggregateLemmas
+pub mod VoteLemmas

@@ -21,5 +21,5 @@ pub use laws::{aggregate_law, duty_law, lane_law, repeat_law};
 pub use result::{DutyResult, Refusal, Unsigned};
 pub use setup::DutySetup;
 pub use task::{Task, again_tasks, fresh};
-pub use votes::{data_tasks, message_of, vote_answers, vote_ends, vote_message, vote_tasks};
+pub use votes::{data_tasks, vote_answers, vote_ends, vote_message, vote_tasks};
 pub use work::SlotWork;

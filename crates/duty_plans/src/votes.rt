@@ -3,14 +3,13 @@ ghost use Rattle.std.specs.Prelude.{◌≡◌, ◌++◌, IfOk, OnOk, drop, map};
 ghost use Rattle.std.specs.List.{list_any};
 ghost use Rattle.duty_plans.specs.Choices.{next_place};
 ghost use Rattle.duty_plans.specs.Messages.{vote_message};
-ghost use Rattle.duty_plans.specs.Votes.{answer_by, answer_of, asks_for, data_tasks, end_by, message_of, is_own, vote_ends, vote_task, vote_tasks, with_question};
+ghost use Rattle.duty_plans.specs.Votes.{answer_by, answer_of, asks_for, data_tasks, end_by, is_own, vote_ends, vote_task, vote_tasks, with_question};
 
 use crate::choices::next_place;
 use crate::ended::{Aggregation, Ended, over};
 use crate::result::DutyResult;
 use crate::task::Task;
 use duty_schedule::{Duty, check_data};
-use edge_kit::PubKey;
 use node_calls::AttesterRow;
 use phase0_types::AttestationData;
 use sign_roots::Domains;
@@ -160,17 +159,6 @@ pub fn vote_message(domains: &Domains, details: &AttestationData) -> Message
         source: details.source.epoch,
         target: details.target.epoch,
         root: domains.attestation_root(details),
-    }
-}
-
-/// What is signed of a task that is a vote for data, with its key. Takes no memory.
-pub fn message_of(domains: &Domains, task: &Task) -> Option<(PubKey, Message)>
-    ensures { result ≡ message_of domains.now task.now }
-{
-    match task {
-        Task::Vote(row, details) => Some((row.pubkey, vote_message(domains, details))),
-        Task::Fresh(_) | Task::Again(_, _) | Task::Data(_) => None,
-        Task::Choose(_, _) | Task::Aggregate(_, _, _) => None,
     }
 }
 

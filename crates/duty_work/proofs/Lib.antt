@@ -4,3 +4,4 @@ pub mod RunLemmas
 pub mod PlacedLemmas
 pub mod PruneLemmas
 pub mod VoteLemmas
+pub mod MessageLemmas

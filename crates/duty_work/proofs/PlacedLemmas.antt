@@ -28,7 +28,7 @@ use Rattle.duty_plans.specs.declared.task.Task.{Task}
 use Rattle.duty_plans.specs.declared.task.Task.TheVariants as task
 use Rattle.duty_plans.specs.Choices.{aggregate_by, aggregate_of, aggregate_tasks, choice_by, choice_of, choose_tasks}
 use Rattle.duty_plans.specs.Tasks.{again_by, again_of, again_tasks, fresh}
-use Rattle.duty_plans.specs.Votes.{data_tasks, vote_by, vote_task, vote_tasks}
+use Rattle.duty_plans.specs.Votes.{asks_for, data_tasks, vote_by, vote_task, vote_tasks}
 use Rattle.duty_turns.specs.Turns.{blocks_in, choices_of, is_block, votes_in}
 use Rattle.duty_workers.specs.Places as workers
 use Rattle.duty_asks.specs.Placed.{are_placed, has_place, have_places}
@@ -165,7 +165,8 @@ pub data_placed : (ds : List Duty) → workers.are_placed ds ≡ true → worker
 data_placed [] h = refl
 data_placed (duty.Vote row ∷ ds) h =
     let q = and_parts (workers.has_place row) (workers.are_placed ds) h in
-    both_true (workers.has_place row) (workers.are_placed_tasks (data_tasks ds)) q.0 (data_placed ds q.1)
+    let others : List Task = filter (λ t. not (asks_for row t)) (data_tasks ds) in
+    both_true (workers.has_place row) (workers.are_placed_tasks others) q.0 (all_kept workers.is_placed_task (λ t. not (asks_for row t)) (data_tasks ds) (data_placed ds q.1))
 data_placed (duty.Block row ∷ ds) h = data_placed ds h
 
 vote_placed : (d : Duty) (o : Option Aggregation) → workers.is_placed d ≡ true → workers.are_placed_tasks (vote_by d o) ≡ true

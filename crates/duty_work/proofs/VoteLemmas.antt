@@ -1,6 +1,6 @@
 -- How the votes of a slot are cast, and how the desk keeps their messages together.
 use Rattle.std.proofs.Common.{◌≡◌, ℕ, Bool, true, false, List, [], ◌∷◌, length, Option, Some, None, Result, Ok, Err, refl, sym, ◌∙◌, ap, subst, arith}
-use Rattle.std.specs.Prelude.{◌==◌, ◌&&◌, filter, if◌then◌else◌, IfOk}
+use Rattle.std.specs.Prelude.{◌==◌, ◌&&◌, filter, if◌then◌else◌, map, IfOk}
 use Rattle.std.specs.Option.{option_map}
 use Rattle.std.specs.Result.{result_ok}
 use Rattle.std.specs.declared.alloc.AllocError.{AllocError}
@@ -21,17 +21,18 @@ use Rattle.call_plans.specs.Paths.{Carries, Comes}
 use Rattle.call_plans.proofs.PathLemmas.{carries_cut, comes_none, comes_run}
 use Rattle.duty_plans.specs.Hands.{Free, hand_given}
 use Rattle.duty_plans.specs.Seats.{Seat}
+use Rattle.duty_schedule.specs.declared.rows.Duty.{Duty}
 use Rattle.duty_plans.specs.declared.ended.Ended.{Ended}
 use Rattle.duty_plans.specs.declared.setup.DutySetup.{DutySetup}
 use Rattle.duty_plans.specs.declared.task.Task.{Task}
 use Rattle.duty_plans.specs.declared.work.SlotWork.{SlotWork}
-use Rattle.duty_plans.specs.Votes.{messages_of, vote_ends}
+use Rattle.duty_plans.specs.Votes.{answer_of, data_tasks, messages_of, vote_answers, vote_ends}
 use Rattle.duty_pruning.specs.Pruning.{are_in_order, is_after}
 use Rattle.duty_pruning.proofs.OnceLemmas.{in_order_once}
 use Rattle.duty_turns.specs.Recording.{first_of_each, allowed_of, is_allowed, recorded}
 use Rattle.duty_turns.specs.Standing.{Standing}
 use Rattle.duty_turns.specs.Times.{epoch_of}
-use Rattle.duty_turns.specs.Turns.{NextPlan, calls, records, records_allowed, records_votes, unless_short, work_of, works}
+use Rattle.duty_turns.specs.Turns.{NextPlan, calls, casts_for, records, records_allowed, records_votes, unless_short, work_of, works}
 use Rattle.duty_turns.specs.TurnSteps.{Does, Fits, House, SinkSeen, Worked, Works}
 use Rattle.duty_turns.specs.declared.held.Held.{Held}
 use Rattle.duty_asks.specs.Placed.{HoldsPlaced}
@@ -142,6 +143,13 @@ module _ {K : Type 0} (leads : Leads K) (start : Option ℕ) where
       let meant = subst (λ (l : List Task). WorksDone leads work place l ls ks (Some ends)) is w in
       cast_more (works work place ts q) (q given) next_by (house d ls ns o) (house d ks ns o) c v
       (works_comes d ls ks ns o work place ts given q (subst (λ (l : List Ended). WorksDone leads work place ts ls ks (Some l)) (sym of) meant)) rest
+
+  -- what the ends of the questions are for each vote
+  pub answers_cast : (a b : House K) (work : SlotWork) (place : ℕ) (votes : List Duty) (tasks : List Task) (ends asked : List Ended) (next_by : List Ended → NextPlan) (v : Option (List Ended)) → tasks ≡ data_tasks votes
+      → asked ≡ map (answer_of tasks ends) votes → CastOn leads start (casts_for work place votes next_by asked) next_by a b v
+      → CastOn leads start (casts_for work place votes next_by (vote_answers votes ends)) next_by a b v
+  answers_cast a b work place votes tasks ends asked next_by v is of h =
+      subst (λ (l : List Ended). CastOn leads start (casts_for work place votes next_by l) next_by a b v) (of ∙ ap (λ (ts : List Task). map (answer_of ts ends) votes) is) h
 
   -- memory ran out in a lane
   pub tasks_cut : (d : K) (ls ks : List (Seat K)) (ns : List Seen) (o : SinkSeen) (work : SlotWork) (place : ℕ) (tasks ts : List Task) (q : List Ended → NextPlan) (next_by : List Ended → NextPlan) → tasks ≡ ts

@@ -1,5 +1,5 @@
 //! The desk keeps the messages of a slot's votes together, before it is asked for leave for each.
-ghost use Rattle.std.specs.Prelude.{◌≡◌, ◌≤◌, ℕ, List, Option, None, filter, IfOk};
+ghost use Rattle.std.specs.Prelude.{◌≡◌, ◌≤◌, ◌∷◌, ◌++◌, ℕ, All, List, Option, None, filter, true, IfOk, IfSome, OnOk};
 ghost use Rattle.std.specs.BTreeSet.{contains};
 ghost use Rattle.desk_machine.specs.Machine.{moment_limit};
 ghost use Rattle.node_calls.specs.Fitting.{key_order};
@@ -7,6 +7,7 @@ ghost use Rattle.node_fallback.specs.Seen.{Seen};
 ghost use Rattle.record_join.specs.BooksPasts.{EachOnce};
 ghost use Rattle.duty_plans.specs.declared.work.SlotWork.{SlotWork};
 ghost use Rattle.duty_plans.specs.Seats.{Seat};
+ghost use Rattle.duty_plans.specs.Messages.{vote_message};
 ghost use Rattle.duty_plans.specs.Votes.{messages_of};
 ghost use Rattle.duty_pruning.specs.Pruning.{is_after};
 ghost use Rattle.duty_turns.specs.Recording.{first_of_each, allowed_of, is_allowed, may_sign, recorded};
@@ -14,13 +15,16 @@ ghost use Rattle.duty_turns.specs.Turns.{NextPlan, records, records_allowed, rec
 ghost use Rattle.duty_turns.specs.TurnSteps.{SinkSeen};
 ghost use Rattle.desk_machine.specs.declared.call.DeskReply.TheVariants as reply;
 ghost use Rattle.duty_work.specs.Houses.{CalledOn, IsRecorded, house, short_by};
+ghost use Rattle.duty_work.specs.Known.{IsKnown};
+ghost use Rattle.sign_roots.specs.declared.domains.Domains.{Domains};
 
 use desk_machine::{DeskCall, DeskCalls, DeskReply, KeyStanding, Proposals};
 use doppel_watch::WatchState;
-use duty_plans::{Task, message_of};
+use duty_plans::{Task, vote_message};
 use duty_pruning::is_after;
 use duty_schedule::key_set;
 use edge_kit::{Items, PubKey};
+use phase0_types::AttestationData;
 use sign_roots::Domains;
 use slash_defs::Message;
 use std::alloc::{AllocError, Global};
@@ -129,7 +133,8 @@ fn recorded(
     Ok(Items::from_vec(first))
 }
 
-/// The messages of these votes, each with its key. The error is want of memory.
+/// The messages of these votes, each with its key. What is signed for the same data is hashed once: in a slot there is data
+/// of 64 committees at most (consensus-specs, `MAX_COMMITTEES_PER_SLOT`). The error is want of memory.
 fn messages_of(
     alloc: Global,
     domains: &Domains,
@@ -137,10 +142,67 @@ fn messages_of(
 ) -> Result<Vec<(PubKey, Message)>, AllocError>
     ensures { IfOk result (λ messages. messages.items ≡ messages_of domains.now tasks.now) }
 {
-    tasks
-        .iter()
-        .filter_map(|task| message_of(domains, task))
-        .collect(alloc)
+    let mut messages = Vec::with_capacity(alloc, tasks.len())?;
+    let mut known = Vec::new(alloc);
+    'tasks: for task in tasks {
+        keep_message(&mut messages, &mut known, domains, task)?;
+    }
+    Ok(messages)
+}
+
+/// Keeps the message of a task with its key, where it is a vote for data. The error is want of memory.
+fn keep_message(
+    messages: &mut Vec<(PubKey, Message)>,
+    known: &mut Vec<(AttestationData, Message)>,
+    domains: &Domains,
+    task: &Task,
+) -> Result<(), AllocError>
+    requires known { All (IsKnown domains.now) known.old.items }
+    ensures known { All (IsKnown domains.now) known.new.items }
+    ensures kept { OnOk result (messages.new.items ≡ messages.old.items ++ messages_of domains.now (task.now ∷ [])) }
+{
+    let Task::Vote(row, details) = task else {
+        return Ok(());
+    };
+    let message = message_for(known, domains, details)?;
+    messages.push((row.pubkey, message))
+}
+
+/// What is signed of a vote for this data: as it is known, or else it is hashed and known from then on. The error is want of
+/// memory.
+fn message_for(
+    known: &mut Vec<(AttestationData, Message)>,
+    domains: &Domains,
+    details: &AttestationData,
+) -> Result<Message, AllocError>
+    requires known { All (IsKnown domains.now) known.old.items }
+    ensures known { All (IsKnown domains.now) known.new.items }
+    ensures message { IfOk result (λ message. message ≡ vote_message domains.now details.now) }
+{
+    if let Some(message) = known_for(known.as_slice(), details) {
+        return Ok(message);
+    }
+    let message = vote_message(domains, details);
+    known.push((*details, message))?;
+    Ok(message)
+}
+
+/// The message that is known for this data, if one is.
+fn known_for(known: &[(AttestationData, Message)], details: &AttestationData) -> Option<Message>
+    ensures { (domains : Domains) → All (IsKnown domains) known.now → IfSome result (λ message. message ≡ vote_message domains details.now) }
+{
+    'known: for (data, message) in known {
+        if is_same(data, details) {
+            return Some(*message);
+        }
+    }
+    None
+}
+
+fn is_same(a: &AttestationData, b: &AttestationData) -> bool
+    ensures { result ≡ true → a.now ≡ b.now }
+{
+    a == b
 }
 
 /// The keys of a listing that may sign, in order. The error is want of memory.
