@@ -31,14 +31,14 @@ pub fn proposer(number: u64, slot: u64) -> ProposerRow {
     }
 }
 
-/// The row of an attester at place 3 of 128 in committee 2.
-pub fn attester(number: u64, slot: u64) -> AttesterRow
+/// The row of an attester at place 3 of 128 in this committee.
+pub fn attester(number: u64, slot: u64, committee: u64) -> AttesterRow
     ensures { (result.validator_committee_index ≡ 3) × (result.committee_length ≡ 128) }
 {
     AttesterRow {
         pubkey: key(number),
         validator_index: number,
-        committee_index: 2,
+        committee_index: committee,
         committee_length: 128,
         committees_at_slot: 64,
         validator_committee_index: 3,
@@ -86,7 +86,7 @@ fn proposes(alloc: Global, numbers: &[u64]) -> Option<Answer> {
     })
 }
 
-/// `votes=ROOT:KEY@SLOT,KEY@SLOT`: under a dependent root, the slots in which keys vote.
+/// `votes=ROOT:KEY@SLOT,KEY@SLOT`: under a dependent root, the slots in which keys vote in committee 2.
 fn votes(alloc: Global, numbers: &[u64]) -> Option<Answer> {
     let [dependent, votes @ ..] = numbers else {
         return None;
@@ -96,7 +96,25 @@ fn votes(alloc: Global, numbers: &[u64]) -> Option<Answer> {
         let [number, slot] = vote else {
             return None;
         };
-        rows.push(attester(*number, *slot)).ok()?;
+        rows.push(attester(*number, *slot, 2)).ok()?;
+    }
+    Some(Answer::Attester {
+        dependent_root: root(*dependent),
+        rows: Items::from_vec(rows),
+    })
+}
+
+/// `seats=ROOT:KEY@SLOT@COMMITTEE,KEY@SLOT@COMMITTEE`: the same of keys in these committees.
+fn seats(alloc: Global, numbers: &[u64]) -> Option<Answer> {
+    let [dependent, seats @ ..] = numbers else {
+        return None;
+    };
+    let mut rows = Vec::new(alloc);
+    for seat in seats.chunks(3) {
+        let [number, slot, committee] = seat else {
+            return None;
+        };
+        rows.push(attester(*number, *slot, *committee)).ok()?;
     }
     Some(Answer::Attester {
         dependent_root: root(*dependent),
@@ -209,6 +227,7 @@ fn answer(alloc: Global, name: &str, numbers: &[u64]) -> Option<Answer> {
         "live" => liveness(alloc, numbers),
         "proposes" => proposes(alloc, numbers),
         "votes" => votes(alloc, numbers),
+        "seats" => seats(alloc, numbers),
         "data" => data(numbers),
         "aggregate" => aggregate(alloc, numbers),
         "block" => block(alloc, numbers),

@@ -38,9 +38,9 @@ fn vote(
         slot,
         1,
         &[
-            Task::Fresh(Duty::Vote(attester(keys[0], slot))),
-            Task::Fresh(Duty::Vote(attester(keys[1], slot))),
-            Task::Fresh(Duty::Vote(attester(keys[2], slot))),
+            Task::Fresh(Duty::Vote(attester(keys[0], slot, 2))),
+            Task::Fresh(Duty::Vote(attester(keys[1], slot, 2))),
+            Task::Fresh(Duty::Vote(attester(keys[2], slot, 2))),
         ],
         &mut lane.desk,
         &mut lane.signer,

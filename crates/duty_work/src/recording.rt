@@ -165,7 +165,8 @@ fn keep_message(
         return Ok(());
     };
     let message = message_for(known, domains, details)?;
-    messages.push((row.pubkey, message))
+    messages.push((row.pubkey, message))?;
+    Ok(())
 }
 
 /// What is signed of a vote for this data: as it is known, or else it is hashed and known from then on. The error is want of
