@@ -1,9 +1,10 @@
 -- Which committees are asked what they are to vote, and what the ends of these questions are for each vote, up to a place.
-use Rattle.std.proofs.Common.{◌≡◌, ℕ, ◌+◌, ◌<◌, ◌≤◌, Bool, true, false, List, [], ◌∷◌, ◌++◌, length, drop, take, get_or, append_assoc, refl, sym, ◌∙◌, ap, arith}
+use Rattle.std.proofs.Common.{◌≡◌, ℕ, ◌+◌, ◌<◌, Bool, true, false, List, [], ◌∷◌, ◌++◌, length, drop, take, get_or, append_assoc, refl, sym, ◌∙◌, ap, arith}
 use Rattle.std.specs.Prelude.{◌==◌, ◌&&◌, ◌||◌, not, if◌then◌else◌, filter, map}
 use Rattle.std.specs.List.{list_any}
 use Rattle.std.proofs.lemmas.Bool.{eqb-true}
-use Rattle.std.proofs.lemmas.List.{append-nil, at_drop_more, drop_all, map-append, take_all, take_more}
+use Rattle.std.proofs.lemmas.Bool.Decides.{nat_tests}
+use Rattle.std.proofs.lemmas.List.{at_drop_more, map-append, take_more}
 use Rattle.node_calls.specs.declared.answer.AttesterRow.{AttesterRow}
 use Rattle.duty_schedule.specs.declared.rows.Duty.{Duty}
 use Rattle.duty_schedule.specs.declared.rows.Duty.TheVariants as duty
@@ -109,20 +110,16 @@ with_one tasks (duty.Vote row) rest = by_cases (list_any (asks_for row) tasks) r
 pub asked_first : (ds : List Duty) → filter (is_new []) (data_tasks ds) ≡ data_tasks ds
 asked_first ds = filter_whole (is_new []) new_at_first (data_tasks ds)
 
-pub asked_more : (ds : List Duty) (tasks now : List Task) (i : ℕ) (d : Duty) → i < length ds → d ≡ get_or ds i d → now ≡ with_question tasks d
+pub asked_more : (ds : List Duty) (tasks now : List Task) (i : ℕ) (x : Duty) → i < length ds → now ≡ with_question tasks (get_or ds i x)
     → tasks ++ filter (is_new tasks) (data_tasks (drop i ds)) ≡ data_tasks ds → now ++ filter (is_new now) (data_tasks (drop (i + 1) ds)) ≡ data_tasks ds
-asked_more ds tasks now i d l is by so =
-    ap (λ (x : List Task). x ++ filter (is_new x) (data_tasks (drop (i + 1) ds))) by ∙ with_one tasks d (drop (i + 1) ds)
-    ∙ ap (λ (x : Duty). tasks ++ filter (is_new tasks) (data_tasks (x ∷ drop (i + 1) ds))) is
-    ∙ sym (at_drop_more (λ x. tasks ++ filter (is_new tasks) (data_tasks x)) ds i d l) ∙ so
-
-pub asked_all : (ds : List Duty) (tasks : List Task) (i : ℕ) → length ds ≤ i → tasks ++ filter (is_new tasks) (data_tasks (drop i ds)) ≡ data_tasks ds → tasks ≡ data_tasks ds
-asked_all ds tasks i l so = sym (append-nil tasks) ∙ ap (λ (x : List Duty). tasks ++ filter (is_new tasks) (data_tasks x)) (sym (drop_all i ds l)) ∙ so
+asked_more ds tasks now i x l by so =
+    ap (λ (y : List Task). y ++ filter (is_new y) (data_tasks (drop (i + 1) ds))) by ∙ with_one tasks (get_or ds i x) (drop (i + 1) ds)
+    ∙ sym (at_drop_more (λ y. tasks ++ filter (is_new tasks) (data_tasks y)) ds i x l) ∙ so
 
 -- ---- answers
 
-pub answers_more : (tasks : List Task) (ends : List Ended) (ds : List Duty) (got now : List Ended) (i : ℕ) (d : Duty) (e : Ended) → i < length ds → d ≡ get_or ds i d → e ≡ answer_of tasks ends d → now ≡ got ++ e ∷ []
+pub answers_more : (tasks : List Task) (ends : List Ended) (ds : List Duty) (got now : List Ended) (i : ℕ) (x : Duty) (e : Ended) → i < length ds → e ≡ answer_of tasks ends (get_or ds i x) → now ≡ got ++ e ∷ []
     → got ≡ map (answer_of tasks ends) (take i ds) → now ≡ map (answer_of tasks ends) (take (i + 1) ds)
-answers_more tasks ends ds got now i d e l is by pushed so =
-    pushed ∙ ap (λ (x : List Ended). x ++ e ∷ []) so ∙ ap (λ (x : Ended). map (answer_of tasks ends) (take i ds) ++ x ∷ []) (by ∙ ap (λ (x : Duty). answer_of tasks ends x) is)
-    ∙ sym (ap (λ (x : List Duty). map (answer_of tasks ends) x) (take_more ds i d l) ∙ map-append (answer_of tasks ends) (take i ds) (get_or ds i d ∷ []))
+answers_more tasks ends ds got now i x e l by pushed so =
+    pushed ∙ ap (λ (y : List Ended). y ++ e ∷ []) so ∙ ap (λ (y : Ended). map (answer_of tasks ends) (take i ds) ++ y ∷ []) by
+    ∙ sym (ap (λ (y : List Duty). map (answer_of tasks ends) y) (take_more ds i x l) ∙ map-append (answer_of tasks ends) (take i ds) (get_or ds i x ∷ []))

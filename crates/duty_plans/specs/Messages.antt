@@ -1,7 +1,6 @@
 -- What is signed and posted for a duty (consensus-specs, "Construct attestation", "Constructing the `BeaconBlock`",
 -- "Attestation aggregation").
 use Rattle.std.specs.Prelude.{ℕ, ◌/◌, List, Some}
-use Rattle.edge_kit.specs.declared.bytes.Root.{Root}
 use Rattle.edge_kit.specs.declared.bytes.Sig.{Sig}
 use Rattle.slash_defs.specs.declared.message.Message.{Message}
 use Rattle.slash_defs.specs.declared.message.Message.TheVariants as message

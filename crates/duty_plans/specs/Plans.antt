@@ -1,7 +1,6 @@
 -- What is done for a duty. Each plan goes on by the reply to its call; where memory runs out it stops.
-use Rattle.std.specs.Prelude.{ℕ, if◌then◌else◌, List, [], ◌∷◌, Option, Some, None, Result, Err}
+use Rattle.std.specs.Prelude.{ℕ, if◌then◌else◌, List, [], Some, None, Result, Err}
 use Rattle.edge_kit.specs.declared.bytes.PubKey.{PubKey}
-use Rattle.edge_kit.specs.declared.bytes.Root.{Root}
 use Rattle.edge_kit.specs.declared.bytes.Sig.{Sig}
 use Rattle.slash_defs.specs.declared.message.Message.{Message}
 use Rattle.phase0_types.specs.declared.attestation.AttestationData.{AttestationData}

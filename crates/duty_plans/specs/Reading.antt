@@ -1,5 +1,5 @@
 -- What is read of the replies to a duty's calls.
-use Rattle.std.specs.Prelude.{ℕ, if◌then◌else◌, List, Option, Some, None, Result, Ok, Err}
+use Rattle.std.specs.Prelude.{ℕ, if◌then◌else◌, Option, Some, None, Result, Ok, Err}
 use Rattle.std.specs.Str.{bytes_eq}
 use Rattle.edge_kit.specs.declared.bytes.Root.{Root}
 use Rattle.edge_kit.specs.declared.bytes.Sig.{Sig}
@@ -27,7 +27,6 @@ use Rattle.duty_plans.specs.declared.got.Got.{Got}
 use Rattle.duty_plans.specs.declared.got.Got.TheVariants as got
 use Rattle.duty_plans.specs.declared.result.Refusal.TheVariants as refusal
 use Rattle.duty_plans.specs.declared.result.Unsigned.TheVariants as unsigned
-use Rattle.duty_plans.specs.declared.result.DutyResult.{DutyResult}
 use Rattle.duty_plans.specs.declared.result.DutyResult.TheVariants as ended
 
 -- the desk refused by a verdict; one that lets pass is no refusal, and comes never

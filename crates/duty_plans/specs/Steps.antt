@@ -1,15 +1,12 @@
 -- What a duty calls of the desk, the signing service and the beacon nodes, step by step, and what these tell of that.
-use Rattle.std.specs.Prelude.{◌≡◌, ℕ, zero, suc, Bool, true, false, List, [], ◌∷◌, flat_map, Option, Some, None, Result, Ok, Err, IfOk, ⊤}
+use Rattle.std.specs.Prelude.{◌≡◌, ℕ, zero, suc, Bool, true, false, List, [], ◌∷◌, flat_map, Option, Some, None, Result, Ok, Err, IfOk}
 use Rattle.std.specs.List.{list_any}
-use Rattle.edge_kit.specs.declared.bytes.PubKey.{PubKey}
 use Rattle.slash_defs.specs.declared.message.Message.{Message}
 use Rattle.desk_machine.specs.Grants.{IsGrantFor}
 use Rattle.desk_machine.specs.Kinds.{IsKind}
 use Rattle.desk_machine.specs.declared.open_grant.OpenGrant.{OpenGrant}
 use Rattle.desk_machine.specs.declared.call.DeskCall.{DeskCall}
-use Rattle.desk_machine.specs.declared.call.DeskCall.TheVariants as call
 use Rattle.desk_machine.specs.declared.call.DeskReply.{DeskReply}
-use Rattle.desk_machine.specs.declared.call.DeskReply.TheVariants as reply
 use Rattle.signer_link.specs.Outcomes.{sign_denied, sign_failed}
 use Rattle.signer_link.specs.Signing.{asked, plainly_asked, told_plain, told_sign}
 use Rattle.signer_link.specs.declared.request.SignRequest.{SignRequest}

@@ -1,5 +1,5 @@
 -- How the votes of a slot are cast: nodes are asked what each committee is to vote, and each vote is cast on what a node said.
-use Rattle.std.specs.Prelude.{ℕ, ◌==◌, not, Bool, false, true, if◌then◌else◌, List, [], ◌∷◌, ◌++◌, filter, filter_map, map, drop, position, Option, Some, None}
+use Rattle.std.specs.Prelude.{ℕ, ◌==◌, not, Bool, false, true, if◌then◌else◌, List, [], ◌∷◌, ◌++◌, filter, filter_map, map, drop, position, is_none, Option, Some, None}
 use Rattle.std.specs.List.{list_any}
 use Rattle.edge_kit.specs.declared.bytes.PubKey.{PubKey}
 use Rattle.slash_defs.specs.declared.message.Message.{Message}

@@ -1,5 +1,5 @@
 //! How the votes of a slot are cast: nodes are asked what each committee is to vote, and each vote is cast on what a node said.
-ghost use Rattle.std.specs.Prelude.{◌≡◌, ◌++◌, IfOk, OnOk, drop, map};
+ghost use Rattle.std.specs.Prelude.{◌≡◌, ◌++◌, IfOk, OnOk, drop, map, position};
 ghost use Rattle.std.specs.List.{list_any};
 ghost use Rattle.duty_plans.specs.Choices.{next_place};
 ghost use Rattle.duty_plans.specs.Messages.{vote_message};
@@ -89,10 +89,17 @@ fn answer_of(
     let Duty::Vote(row) = duty else {
         return Ok(over(DutyResult::NoData));
     };
-    match tasks.iter().position(|task| asks_for(row, task)) {
+    match place_of(tasks, row) {
         Some(at) => answer_at(alloc, row, ended, at),
         None => Ok(over(DutyResult::NoData)),
     }
+}
+
+/// The place of the question for what the committee of this vote is to vote.
+fn place_of(tasks: &[Task], row: &AttesterRow) -> Option<usize>
+    ensures { result ≡ position (asks_for row.now) tasks.now }
+{
+    tasks.iter().position(|task| asks_for(row, task))
 }
 
 /// How the question at this place ended for a vote. The error is want of memory.
