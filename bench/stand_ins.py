@@ -24,7 +24,7 @@ def signature_of(pubkey, root):
 Request = collections.namedtuple('Request', 'begun ended method target body status')
 
 class Connection(asyncio.Protocol):
-    """Answers one request, one that signs after a delay, and notes it."""
+    """Answers one request, one that signs or asks what a committee is to vote after a delay, and notes it."""
 
     def __init__(self, answer, state, noted):
         self.answer, self.state, self.noted, self.held = answer, state, noted, b''
@@ -42,8 +42,9 @@ class Connection(asyncio.Protocol):
         told = json.loads(body) if body else None
         if target == self.state.get('mute'):
             return
-        if target.startswith(SIGN):
-            asyncio.get_running_loop().call_later(self.state['delay'], self.give, method, target, told)
+        delay = self.state['delay'] if target.startswith((SIGN, DATA)) else 0
+        if delay:
+            asyncio.get_running_loop().call_later(delay, self.give, method, target, told)
         else:
             self.give(method, target, told)
 

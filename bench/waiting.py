@@ -61,12 +61,13 @@ def single():
         counts.append(os.path.getsize(counted))
     return (counts[1] - counts[0]) / 5
 
-def slot(microseconds, lanes):
-    """The seconds from the last node's answer what to vote to the first request for a signature, those from the slot's third to the last post, and the bytes."""
-    journal = 'journal-%d-%d' % (microseconds, lanes)
+def slot(microseconds, lanes, delay=0):
+    """The seconds from the last node's answer what to vote to the first request for a signature, those from the slot's third to that request and to the last
+    post, and the bytes, where a node takes that many seconds to say what a committee is to vote."""
+    journal = 'journal-%d-%d-%g' % (microseconds, lanes, delay)
     sessions(journal, [{'op': 'activate', 'pubkey': key(n)} for n in range(count)])
     genesis = int(time.time()) - 6
-    node.set(genesis_time=genesis, blocks={}, votes={n: 1 for n in range(count)}, committees=COMMITTEES)
+    node.set(genesis_time=genesis, blocks={}, votes={n: 1 for n in range(count)}, committees=COMMITTEES, delay=delay)
     node.take(), signer.take()
     counted, file = os.path.join(folder, journal + '-syncs'), os.path.join(folder, journal + '.a')
     child = serve(journal, 2, 0, lanes, before=['env', 'LD_PRELOAD=' + shim, 'SYNCS=' + counted, 'SYNC_MICROSECONDS=%d' % microseconds])
@@ -83,7 +84,7 @@ def slot(microseconds, lanes):
     wanted('%d questions in place of one for each of %d committees' % (len(questions), COMMITTEES), len(questions) == min(count, COMMITTEES))
     told = max(r.ended for r in questions)
     first = min(r.begun for r in signed_for if r.target.startswith(SIGN))
-    return first - told, max(r.ended for r in posts) - third, os.path.getsize(file) - size
+    return first - told, first - third, max(r.ended for r in posts) - third, os.path.getsize(file) - size
 
 syncs = single()
 wanted('%g syncs for one vote of a session in place of two' % syncs, syncs == 2)
@@ -91,7 +92,12 @@ print('%d votes of one slot, in 64 committees. Of each row: the milliseconds of 
 print('those of the same bytes written with two syncs, and the ratio; of SQLite in one transaction, by default and in WAL; seconds from the third to the last post.')
 for microseconds in (40, 2000, 10000):
     rows = [(lanes, *slot(microseconds, lanes)) for lanes in (1, 4, 16)]
-    raw, default, wal = plain(microseconds, rows[0][3])
-    for lanes, took, whole, size in rows:
+    raw, default, wal = plain(microseconds, rows[0][-1])
+    for lanes, took, _, whole, size in rows:
         print('| %g | %d | %.2f | %.2f | %.2f | %.2f | %.2f | %.2f |' % (microseconds / 1000, lanes, took * 1e3, raw * 1e3, took / raw, default * 1e3, wal * 1e3, whole))
+print('The same with syncs of 0.04 ms and a node that takes 50 ms to say what a committee is to vote: lanes; seconds from the third to the first request for a')
+print('signature, and to the last post.')
+for lanes in (1, 4, 16):
+    _, first, whole, _ = slot(40, lanes, 0.05)
+    print('| %d | %.2f | %.2f |' % (lanes, first, whole), flush=True)
 shutil.rmtree(folder)

@@ -64,7 +64,8 @@ pub record WasSaidIn (steps : List DutyStep) (work : SlotWork) (row : AttesterRo
   pub asked : Contains steps (Asks (ask.Data work.slot row.committee_index), Answered tried)
   pub said : came_of tried ≡ Ok (answer.Data details)
 
--- Of a vote: with data that is the duty's. Of the question for it: with such data that a node said. Of a choice: with the same data and a proof that the service gave for the slot, and that chooses
+-- Of a vote: with data that is the duty's. Of the question for it: with such data that a node said. Of a choice: with the same data and a
+-- proof that the service gave for the slot, and that chooses
 -- the validator.
 abbrev pub GoesOnWith : SlotWork → Task → List DutyStep → Aggregation → Type 0
 GoesOnWith work (task.Fresh (duty.Vote row)) steps (votes.Voted details) = first_that_differs (data_members row details) ≡ None

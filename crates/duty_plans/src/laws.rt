@@ -33,9 +33,10 @@ pub fn lane_law<K: DeskCalls, X>()
     ensures ran { (plan : DutyPlan X) (a b : Seat K) (v : Option X) → a.hand ≡ Free → b.hand ≡ Free → Carries Fits (Does K.leads) plan a b v → Ran K.leads plan a b v }
 {}
 
-/// What is signed and posted for a task is that task's, under a grant of its key for just that, where what is done once more
-/// is the duty's; a task ends by the first of its calls that failed, and is sent where none did. The steps of a slot's
-/// tasks are those of each, one after another, with one end each.
+/// What is signed and posted for a task is that task's, under a grant of its key for just that, where what is done once
+/// more, the data of a vote that is cast, and that of a choice or an aggregate are the duty's; a task ends by the first of its
+/// calls that failed, and is sent where none did. The steps of a slot's tasks are those of each, one after another, with
+/// one end each.
 pub fn duty_law()
     ensures own { (work : SlotWork) (task : Task) (steps : List DutyStep) (v : Option Ended) → IsOwnTask work.altair task → Follows Fits (task_plan work task) steps v → AllOwn work task steps }
     ensures result { (work : SlotWork) (task : Task) (steps : List DutyStep) (e : Ended) → Follows Fits (task_plan work task) steps (Some e) → e.result ≡ result_by work.altair task steps }

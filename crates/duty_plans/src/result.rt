@@ -89,7 +89,7 @@ impl fmt::Display for Unsigned {
 /// How a duty ended: by the first of its calls that failed, if any.
 #[derive(Clone, Copy, PartialEq, Eq, Debug)]
 pub enum DutyResult {
-    /// None failed: a node took what was signed.
+    /// None failed: a node took what was signed; of a question or a choice, it was answered or made.
     Sent,
     /// The desk gave no leave.
     Refused(Refusal),
