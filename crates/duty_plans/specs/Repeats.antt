@@ -65,8 +65,7 @@ pub record WasSaidIn (steps : List DutyStep) (work : SlotWork) (row : AttesterRo
   pub said : came_of tried ≡ Ok (answer.Data details)
 
 -- Of a vote: with data that is the duty's. Of the question for it: with such data that a node said. Of a choice: with the same data and a
--- proof that the service gave for the slot, and that chooses
--- the validator.
+-- proof that the service gave for the slot, and that chooses the validator.
 abbrev pub GoesOnWith : SlotWork → Task → List DutyStep → Aggregation → Type 0
 GoesOnWith work (task.Fresh (duty.Vote row)) steps (votes.Voted details) = first_that_differs (data_members row details) ≡ None
 GoesOnWith work (task.Again (duty.Vote row) unsent) steps (votes.Voted details) = first_that_differs (data_members row details) ≡ None
