@@ -27,10 +27,10 @@ ghost use Rattle.aggregation_law.specs.Earned.{AreEarned};
 ghost use Rattle.aggregation_law.specs.Reasons.{AreReasoned};
 
 /// Each task that is done in turns has a reason in the steps before it, however the turns end: a block was found due; what a
-/// committee is to vote is asked for a vote that was found due, in its time, and the vote is cast for data with which that
-/// question went on; what is tried once more is left of the duty; whether a validator aggregates is asked where
-/// aggregates are wanted, of a vote that got its data; and an aggregate is published in its time, by a validator that its
-/// proof chose.
+/// committee is to vote is asked where a vote of it was found due, in its time; a vote that was found due is cast in its time,
+/// for data with which its committee's question went on; what is tried once more is left of the duty; whether a validator
+/// aggregates is asked where aggregates are wanted, of a vote that got its data; and an aggregate is published in its time,
+/// by a validator that its proof chose.
 pub fn reason_law()
     ensures { (setup : DutySetup) (n : ℕ) (s : Standing) (steps : List TurnStep) (v : Option (Result (Unit {0}) DutyEnd)) → Follows Fits (turns_plan setup n s) steps v
         → AreReasoned setup [] steps }
