@@ -1,10 +1,13 @@
 -- The questions for what committees are to vote, and how they ended for each vote.
-use Rattle.std.proofs.Common.{◌≡◌, inl, inr, ℕ, zero, suc, ◌<◌, Bool, true, false, List, [], ◌∷◌, length, get_or, drop, map, position, Option, Some, None, is_none, refl, sym, ap, subst, arith}
-use Rattle.std.specs.Prelude.{if◌then◌else◌, Contains}
-use Rattle.std.proofs.lemmas.Bool.{eqb-true}
+use Rattle.std.proofs.Common.{◌≡◌, ◌⊎◌, inl, inr, ℕ, zero, suc, ◌<◌, ◌==◌, Bool, true, false, cond, not, nat_lt, List, [], ◌∷◌, length, get_or, drop, map, position, Option, Some, None, is_none, refl, sym, ◌∙◌, ap, subst, arith}
+use Rattle.std.specs.Prelude.{if◌then◌else◌, AllPairs, Contains, filter}
+use Rattle.std.proofs.lemmas.Bool.{cond-true, eq-eqb, eqb-true, lt-ltb, ne_eqb}
+use Rattle.std.proofs.lemmas.List.Kept.{AllPairs-cons, AllPairs-filter}
 use Rattle.std.proofs.lemmas.List.Quantifiers.{position-Some}
+use Rattle.std.proofs.lemmas.List.Sums.{position_or_len_is}
 use Rattle.phase0_types.specs.declared.attestation.AttestationData.{AttestationData}
-use Rattle.protect_record.proofs.MemberLemmas.{contains_first, contains_later}
+use Rattle.protect_record.proofs.MemberLemmas.{All-from_contains, contains_cases, contains_first, contains_later, contains_none}
+use Rattle.protect_record.proofs.UniteLemmas.{contains_filter, contains_from_filter}
 use Rattle.node_calls.specs.declared.answer.AttesterRow.{AttesterRow}
 use Rattle.duty_schedule.specs.Checking.{data_members, first_that_differs}
 use Rattle.duty_schedule.specs.declared.rows.Duty.{Duty}
@@ -17,8 +20,9 @@ use Rattle.duty_plans.specs.declared.result.DutyResult.TheVariants as ended
 use Rattle.duty_plans.specs.declared.task.Task.{Task}
 use Rattle.duty_plans.specs.declared.task.Task.TheVariants as task
 use Rattle.duty_plans.specs.Ends.{over}
-use Rattle.duty_plans.specs.Votes.{answer_at, answer_by, answer_of, asks_for, is_own}
+use Rattle.duty_plans.specs.Votes.{answer_at, answer_by, answer_of, asks_for, data_tasks, is_own}
 use Rattle.duty_turns.specs.Turns.{votes_in}
+use Rattle.aggregation_law.specs.Questions.{AreApart}
 use Rattle.aggregation_law.specs.Reasons.{IsPair}
 
 -- ---- the question of a vote's committee
@@ -85,3 +89,87 @@ answer_pair f [] d a p = absurd p
 answer_pair f (duty.Block b ∷ ds) d a p = let more = answer_pair f ds d a p in (more.0, more.1, more.2, contains_later (duty.Block b) ds (duty.Vote more.0) more.3)
 answer_pair f (duty.Vote v ∷ ds) d a (inl p) = (v, sym p.0, sym p.1, contains_first (duty.Vote v) ds)
 answer_pair f (duty.Vote v ∷ ds) d a (inr p) = let more = answer_pair f ds d a p in (more.0, more.1, more.2, contains_later (duty.Vote v) ds (duty.Vote more.0) more.3)
+
+-- ---- one question for each committee
+
+-- each vote's committee has one
+pub each_asked : (ds : List Duty) (row : AttesterRow) → Contains ds (duty.Vote row) → (asked : AttesterRow) × Contains (data_tasks ds) (task.Data asked) × (asked.committee_index ≡ row.committee_index)
+each_asked [] row c = contains_none (duty.Vote row) c
+each_asked (duty.Block b ∷ ds) row c = by_cases (λ h. each_asked ds row h) (contains_cases (duty.Block b) ds (duty.Vote row) c) where
+  by_cases : (Contains ds (duty.Vote row) → (asked : AttesterRow) × Contains (data_tasks ds) (task.Data asked) × (asked.committee_index ≡ row.committee_index)) → (duty.Block b ≡ duty.Vote row) ⊎ Contains ds (duty.Vote row)
+      → (asked : AttesterRow) × Contains (data_tasks ds) (task.Data asked) × (asked.committee_index ≡ row.committee_index)
+  by_cases more (inl e) = absurd (let bad : duty.Block b ≡ duty.Vote row = e in cc)
+  by_cases more (inr h) = more h
+each_asked (duty.Vote v ∷ ds) row c = by_cases (λ h. each_asked ds row h) (contains_cases (duty.Vote v) ds (duty.Vote row) c) where
+  others : List Task
+  others = filter (λ t. not (asks_for v t)) (data_tasks ds)
+
+  by_index : (asked : AttesterRow) → Contains (data_tasks ds) (task.Data asked) → asked.committee_index ≡ row.committee_index → (b : Bool) → (asked.committee_index == v.committee_index) ≡ b
+      → (one : AttesterRow) × Contains (task.Data v ∷ others) (task.Data one) × (one.committee_index ≡ row.committee_index)
+  by_index asked h same true is = (v, contains_first (task.Data v) others, sym (eqb-true asked.committee_index v.committee_index is) ∙ same)
+  by_index asked h same false is = (asked, contains_later (task.Data v) others (task.Data asked) (contains_filter (λ t. not (asks_for v t)) (data_tasks ds) (task.Data asked) h (ap not is)), same)
+
+  by_cases : (Contains ds (duty.Vote row) → (asked : AttesterRow) × Contains (data_tasks ds) (task.Data asked) × (asked.committee_index ≡ row.committee_index)) → (duty.Vote v ≡ duty.Vote row) ⊎ Contains ds (duty.Vote row)
+      → (one : AttesterRow) × Contains (task.Data v ∷ others) (task.Data one) × (one.committee_index ≡ row.committee_index)
+  by_cases more (inl e) = let same : v ≡ row = cc in (v, contains_first (task.Data v) others, ap (λ (r : AttesterRow). r.committee_index) same)
+  by_cases more (inr h) = let one = more h in by_index one.0 one.1 one.2 (one.0.committee_index == v.committee_index) refl
+
+-- a question that is not for a vote's committee is apart from that vote's
+apart_from : (v : AttesterRow) (t : Task) → not (asks_for v t) ≡ true → AreApart (task.Data v) t
+apart_from v (task.Data asked) is = λ same. let no : false ≡ true = sym (ap not (eq-eqb asked.committee_index v.committee_index (sym same))) ∙ is in cc
+apart_from v t is = tt
+
+-- and none has two
+pub all_apart : (ds : List Duty) → AllPairs AreApart (data_tasks ds)
+all_apart [] = λ i j d less within. absurd (omega (arith, within))
+all_apart (duty.Block b ∷ ds) = all_apart ds
+all_apart (duty.Vote v ∷ ds) =
+    let passes : Task → Bool = λ t. not (asks_for v t) in
+    let others = filter passes (data_tasks ds) in
+    let each = All-from_contains (AreApart (task.Data v)) others (λ t h. apart_from v t (contains_from_filter passes (data_tasks ds) t h).1) in
+    AllPairs-cons AreApart (task.Data v) others each (AllPairs-filter AreApart passes (data_tasks ds) (all_apart ds))
+
+-- ---- a vote that was told its answer
+
+-- a pair stands at one place
+record StandsAt (xs : List Task) (ys : List Ended) (x : Task) (y : Ended) : Type 0 where
+  at : ℕ
+  within : at < length xs
+  is : (d : Task) → get_or xs at d ≡ x
+  rest : List Ended
+  from : drop at ys ≡ y ∷ rest
+
+pair_place : (xs : List Task) (ys : List Ended) (x : Task) (y : Ended) → IsPair xs ys x y → StandsAt xs ys x y
+pair_place [] ys x y p = absurd p
+pair_place (a ∷ xs) [] x y p = absurd p
+pair_place (a ∷ xs) (b ∷ ys) x y (inl p) = record { at = 0; within = omega arith; is = λ d. p.0; rest = ys; from = ap (λ (e : Ended). e ∷ ys) p.1 }
+pair_place (a ∷ xs) (b ∷ ys) x y (inr p) =
+    let more = pair_place xs ys x y p in
+    record { at = suc more.at; within = omega (arith, more.within); is = more.is; rest = more.rest; from = more.from }
+
+-- a task before a question, where no two are of one committee, is no question of that committee
+asks_no : (row asked : AttesterRow) (t : Task) → asked.committee_index ≡ row.committee_index → AreApart t (task.Data asked) → asks_for row t ≡ false
+asks_no row asked (task.Data one) same apart = ne_eqb one.committee_index row.committee_index (λ e. apart (e ∙ sym same))
+asks_no row asked t same apart = refl
+
+asked_at : (row asked : AttesterRow) (tasks : List Task) (i : ℕ) → asked.committee_index ≡ row.committee_index → AllPairs AreApart tasks → i < length tasks → ((d : Task) → get_or tasks i d ≡ task.Data asked) → position (asks_for row) tasks ≡ Some i
+asked_at row asked tasks i same apart within is =
+    let d = task.Data row in
+    let Passes : Task → Type 0 = λ t. asks_for row t ≡ true in
+    let here = subst Passes (sym (is d)) (eq-eqb asked.committee_index row.committee_index same) in
+    let before : (k : ℕ) → k < i → asks_for row (get_or tasks k d) ≡ false = λ k less. asks_no row asked (get_or tasks k d) same (subst (λ (t : Task). AreApart (get_or tasks k d) t) (is d) (apart k i d less within)) in
+    let first = position_or_len_is (asks_for row) tasks i d (omega (arith, within)) before (λ w. here) in
+    ap (λ (k : ℕ). cond (nat_lt k (length tasks)) (Some k) None) first ∙ cond-true (nat_lt i (length tasks)) (Some i) None (lt-ltb i (length tasks) within)
+
+is_none_at : {X : Type 0} (o : Option X) → o ≡ None → is_none o ≡ true
+is_none_at {X} o e = ap (λ (x : Option X). is_none x) e
+
+-- what its committee's question went on with, where that is the vote's own, a vote is told
+pub answer_told : (ds : List Duty) (ends : List Ended) (row asked : AttesterRow) (e : Ended) (details : AttestationData) → Contains ds (duty.Vote row) → IsPair (data_tasks ds) ends (task.Data asked) e → asked.committee_index ≡ row.committee_index
+    → e.aggregation ≡ Some (votes.Voted details) → first_that_differs (data_members row details) ≡ None → answer_of (data_tasks ds) ends (duty.Vote row) ≡ e
+answer_told ds ends row asked e details among pair same goes_on none =
+    let place = pair_place (data_tasks ds) ends (task.Data asked) e pair in
+    let Own : Option Aggregation → Type 0 = λ o. is_own row o ≡ true in
+    let own = subst Own (sym goes_on) (is_none_at (first_that_differs (data_members row details)) none) in
+    ap (λ (o : Option ℕ). answer_at row ends o) (asked_at row asked (data_tasks ds) place.at same (all_apart ds) place.within place.is) ∙ ap (λ (l : List Ended). answer_by row l) place.from
+    ∙ ap (λ (b : Bool). if b then e else over ended.DataDiffers) own
