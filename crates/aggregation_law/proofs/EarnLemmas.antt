@@ -9,6 +9,7 @@ use Rattle.phase0_blocks.specs.declared.signed.Signed.{Signed}
 use Rattle.duty_types.specs.declared.aggregate.AggregateAndProof.{AggregateAndProof}
 use Rattle.desk_machine.specs.declared.open_grant.OpenGrant.{OpenGrant}
 use Rattle.node_calls.specs.declared.answer.AttesterRow.{AttesterRow}
+use Rattle.node_calls.specs.declared.ask.Ask.TheVariants as ask
 use Rattle.node_calls.specs.declared.post.Post.TheVariants as post
 use Rattle.duty_schedule.specs.Aggregators.{is_aggregator}
 use Rattle.duty_schedule.specs.declared.rows.Duty.{Duty}
@@ -26,7 +27,7 @@ use Rattle.duty_plans.specs.Ends.{is_repeated}
 use Rattle.duty_plans.specs.Guards.{granted_in}
 use Rattle.duty_plans.specs.Owning.{IsOwn}
 use Rattle.duty_plans.specs.Repeats.{GoesOnWith, HadLeave}
-use Rattle.duty_plans.specs.Steps.{DutyCall, DutyStep, Posts, desk_calls}
+use Rattle.duty_plans.specs.Steps.{DutyCall, DutyStep, Answered, Asks, Posts, desk_calls}
 use Rattle.duty_plans.specs.Tasks.{IsOwnTask, IsOwnUnsent, duty_of, owner_of, unsent_message}
 use Rattle.duty_plans.proofs.AggregateLemmas.{cast_goes, task_goes}
 use Rattle.duty_plans.proofs.DutyLemmas.{task_own}
@@ -59,31 +60,31 @@ module _ (setup : DutySetup) where
     reason_of : (t : Task) (e : Ended) → HadEnd before work t e → HasReason setup before work t
     reason_of t e h = all work h.place h.tasks (Worked h.lanes (Some h.ends)) t h.step (pair_among h.tasks h.ends t e h.pair)
 
-    -- what a question that went on with data rests on
-    record Answered (row : AttesterRow) (details : AttestationData) : Type 0 where
+    -- what a vote for data with which its committee's question went on rests on
+    record Rests (row : AttesterRow) (details : AttestationData) : Type 0 where
       due : WasDue before work.slot (duty.Vote row)
       said : WasSaid before work row details
 
-    answered_of : (row : AttesterRow) (details : AttestationData) → WasAnswered before work row details → Answered row details
-    answered_of row details a =
-        let why = reason_of (task.Data row) a.ended a.had in
-        let own = took before fit work (task.Data row) a.ended a.had in
-        let P : Option Aggregation → Type 0 = λ o. IfSome o (GoesOnWith work (task.Data row) own.own) in
-        let with_it = subst P a.goes_on (task_goes work (task.Data row) own.own a.ended tt own.follows) in
+    answered_of : (row : AttesterRow) (details : AttestationData) → WasDue before work.slot (duty.Vote row) → WasAnswered before work row details → Rests row details
+    answered_of row details due a =
+        let own = took before fit work (task.Data a.asked) a.ended a.had in
+        let P : Option Aggregation → Type 0 = λ o. IfSome o (GoesOnWith work (task.Data a.asked) own.own) in
+        let with_it = subst P a.goes_on (task_goes work (task.Data a.asked) own.own a.ended tt own.follows) in
+        let Asked : ℕ → Type 0 = λ i. Contains own.own (Asks (ask.Data work.slot i), Answered with_it.1.tried) in
         record {
-          due = why.0;
-          said = record { own = own.own; taken = own.taken; tried = with_it.1.tried; asked = with_it.1.asked; said = with_it.1.said; same = with_it.0 };
+          due = due;
+          said = record { own = own.own; taken = own.taken; tried = with_it.1.tried; asked = subst Asked a.same with_it.1.asked; said = with_it.1.said; same = a.own };
         }
 
     -- so a vote that was cast does
-    cast_of : (row : AttesterRow) (details : AttestationData) (e : Ended) → HadEnd before work (task.Vote row details) e → Answered row details
-    cast_of row details e had = answered_of row details (reason_of (task.Vote row details) e had).1
+    cast_of : (row : AttesterRow) (details : AttestationData) (e : Ended) → HadEnd before work (task.Vote row details) e → Rests row details
+    cast_of row details e had = let why = reason_of (task.Vote row details) e had in answered_of row details why.0 why.2
 
-    got_of : (row : AttesterRow) (details : AttestationData) → GotData before work row details → Answered row details
+    got_of : (row : AttesterRow) (details : AttestationData) → GotData before work row details → Rests row details
     got_of row details g =
         let own = took before fit work (task.Vote row g.given) g.ended g.had in
         let same = same_data g.given details (sym (cast_goes work row g.given own.own g.ended own.follows) ∙ g.goes_on) in
-        subst (λ (x : AttestationData). Answered row x) same (cast_of row g.given g.ended g.had)
+        subst (λ (x : AttestationData). Rests row x) same (cast_of row g.given g.ended g.had)
 
     -- what a choice rests on
     record Chosen (row : AttesterRow) (details : AttestationData) (proof : Sig) : Type 0 where
@@ -128,7 +129,7 @@ module _ (setup : DutySetup) where
     own_task (task.Fresh d) h = tt
     own_task (task.Again d unsent) h = again_own d unsent h.1
     own_task (task.Data row) h = tt
-    own_task (task.Vote row details) h = (answered_of row details h.1).said.same
+    own_task (task.Vote row details) h = h.2.own
     own_task (task.Choose row details) h = (got_of row details h.1).said.same
     own_task (task.Aggregate row details proof) h = let c = chosen_of row details proof h.1 in (c.said.same, c.chosen)
 

@@ -1,3 +1,4 @@
+pub mod QuestionLemmas
 pub mod TaskLemmas
 pub mod SoundLemmas
 pub mod GivenLemmas

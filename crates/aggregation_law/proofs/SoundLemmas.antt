@@ -29,7 +29,7 @@ use Rattle.duty_plans.specs.declared.task.Task.{Task}
 use Rattle.duty_plans.specs.Choices.{aggregate_tasks, reports}
 use Rattle.duty_plans.specs.Ends.{merged, results_of}
 use Rattle.duty_plans.specs.Tasks.{again_tasks, fresh}
-use Rattle.duty_plans.specs.Votes.{data_tasks, vote_ends, vote_tasks}
+use Rattle.duty_plans.specs.Votes.{data_tasks, vote_answers, vote_ends, vote_tasks}
 use Rattle.duty_plans.specs.declared.setup.DutySetup.{DutySetup}
 use Rattle.duty_plans.specs.declared.work.SlotWork.{SlotWork}
 use Rattle.duty_turns.specs.Lines.{aggregate_lines, duty_lines, none_line}
@@ -37,7 +37,7 @@ use Rattle.duty_turns.specs.Recording.{allowed_of, recorded}
 use Rattle.duty_turns.specs.Standing.{Standing, indices_of, with_attesters, with_fork, with_indices, with_proposers}
 use Rattle.duty_turns.specs.Times.{again_start, aggregates_start, epoch_of, is_first_slot, is_missed, next_slot, slot_start, votes_start}
 use Rattle.duty_turns.specs.TurnSteps.{TurnCall, TurnPlan, TurnReply, TurnStep, Fits, Due, LanesRefreshed, LooksUp, Own, Refreshed, Refreshes, RefreshesLanes, Waits, Woke, Worked, Works, Writes, Wrote}
-use Rattle.duty_turns.specs.Turns.{Next, NextPlan, PartPlan, active_of, after_wait, again_plan, aggregates_plan, left_plan, tried_plan, answered_plan, ask_plan, asked_plan, asks, at_moment, at_slot, attesters_plan, blocks_in, by_32, calls, casts, choices_of, chooses_plan, close_plan, due_plan, duties_plan, epoch_plan, epochs_plan, exported, exports, failed_plan, finish_plan, found, gathers_plan, index_plan, is_worth_compacting, keys_of_turn, lanes_refreshed, listed_plan, lived_plan, liveness_plan, merges, missing_epochs, missing_keys, next_turn, noted, notes_of, notes_plan, on_standing, own_answer, own_reply, prunes, puts, ready_plan, records, records_allowed, records_votes, refreshed, refreshes, refreshes_lanes, renew_plan, renewed_now, renewed_plan, renews, report_plan, shortens, sized, then_on, to_renew, told_plan, turn_plan, turns_plan, unless_short, voters_plan, votes_in, votes_plan, waits, watch_plan, with_active, woken, woken_plan, work_of, worked, works, writes, written, wrote}
+use Rattle.duty_turns.specs.Turns.{Next, NextPlan, PartPlan, active_of, after_wait, again_plan, aggregates_plan, left_plan, tried_plan, answered_plan, ask_plan, asked_plan, asks, at_moment, at_slot, attesters_plan, blocks_in, by_32, calls, casts, casts_for, choices_of, chooses_plan, close_plan, due_plan, duties_plan, epoch_plan, epochs_plan, exported, exports, failed_plan, finish_plan, found, gathers_plan, index_plan, is_worth_compacting, keys_of_turn, lanes_refreshed, listed_plan, lived_plan, liveness_plan, merges, missing_epochs, missing_keys, next_turn, noted, notes_of, notes_plan, on_standing, own_answer, own_reply, prunes, puts, ready_plan, records, records_allowed, records_votes, refreshed, refreshes, refreshes_lanes, renew_plan, renewed_now, renewed_plan, renews, report_plan, shortens, sized, then_on, to_renew, told_plan, turn_plan, turns_plan, unless_short, voters_plan, votes_in, votes_plan, waits, watch_plan, with_active, woken, woken_plan, work_of, worked, works, writes, written, wrote}
 use Rattle.duty_turns.specs.declared.held.DutyEnd.{DutyEnd}
 use Rattle.duty_turns.specs.declared.held.DutyEnd.TheVariants as end
 use Rattle.aggregation_law.specs.Reasons.{AreReasoned, HasReason, IsReasoned, WasTime}
@@ -349,16 +349,16 @@ module _ (setup : DutySetup) where
       let c : TurnCall = Own (Calls (call.Record (m ∷ ms) now)) in
       ask_so before c (λ r. unless_short (own_reply r) next) tt (λ r fit. unless_short_so (before ++ (c, r) ∷ []) next (h ((c, r) ∷ [])) (own_reply r))
 
-  records_free_so : (before : List TurnStep) (work : SlotWork) (tasks : List Task) (next : NextPlan) → ((mid : List TurnStep) → So (before ++ mid) next) → (r : DeskReply) → So before (records_allowed work tasks r next)
-  records_free_so before work tasks next h (reply.Keys listed) = records_so before work.moment (recorded work.domains (allowed_of listed) tasks) next h
-  records_free_so before work tasks next h r = stop_sound before
+  records_allowed_so : (before : List TurnStep) (work : SlotWork) (tasks : List Task) (next : NextPlan) → ((mid : List TurnStep) → So (before ++ mid) next) → (r : DeskReply) → So before (records_allowed work tasks r next)
+  records_allowed_so before work tasks next h (reply.Keys listed) = records_so before work.moment (recorded work.domains (allowed_of listed) tasks) next h
+  records_allowed_so before work tasks next h r = stop_sound before
 
   records_votes_so : (before : List TurnStep) (work : SlotWork) (tasks : List Task) (next : NextPlan) → ((mid : List TurnStep) → So (before ++ mid) next) → So before (records_votes work tasks next)
   records_votes_so before work [] next h = subst (λ (l : List TurnStep). So l next) (append-nil before) (h [])
   records_votes_so before work (t ∷ tasks) next h =
       let c : TurnCall = Own (Calls call.Keys) in
       ask_so before c (λ r. records_allowed work (t ∷ tasks) (own_reply r) next) tt (λ r fit.
-      records_free_so (before ++ (c, r) ∷ []) work (t ∷ tasks) next (λ mid. subst (λ (l : List TurnStep). So l next) (sym (append_assoc before ((c, r) ∷ []) mid)) (h ((c, r) ∷ mid))) (own_reply r))
+      records_allowed_so (before ++ (c, r) ∷ []) work (t ∷ tasks) next (λ mid. subst (λ (l : List TurnStep). So l next) (sym (append_assoc before ((c, r) ∷ []) mid)) (h ((c, r) ∷ mid))) (own_reply r))
 
   -- the blocks of a slot were proposed
   abbrev Proposed : List TurnStep → Standing → List Duty → List (List DutyStep) → List Ended → Type 0
@@ -366,22 +366,24 @@ module _ (setup : DutySetup) where
 
   -- it was asked what the committees of its votes are to vote
   abbrev Asked : List TurnStep → Standing → List Duty → List (List DutyStep) → List Ended → Type 0
-  Asked before s ds lanes asked = Contains before (Works (work_of setup s) (length (blocks_in ds)) (data_tasks (votes_in ds)), Worked lanes (Some asked)) × AreAsked (votes_in ds) asked
+  Asked before s ds lanes told = Contains before (Works (work_of setup s) (length (blocks_in ds)) (data_tasks (votes_in ds)), Worked lanes (Some told)) × AreAsked (votes_in ds) (vote_answers (votes_in ds) told)
 
-  cast_so : (before : List TurnStep) (s : Standing) (ds : List Duty) (made lanes : List (List DutyStep)) (proposed asked : List Ended) → Proposed before s ds made proposed → Asked before s ds lanes asked
+  cast_so : (before : List TurnStep) (s : Standing) (ds : List Duty) (made lanes : List (List DutyStep)) (proposed told : List Ended) → IsFound before s.slot ds → Proposed before s ds made proposed → Asked before s ds lanes told
       → WasTime before setup.genesis_time s.slot (votes_start setup.genesis_time s.slot)
-      → So before (works (work_of setup s) (length (blocks_in ds)) (vote_tasks (votes_in ds) asked) (λ cast. again_plan setup s (blocks_in ds ++ votes_in ds) (proposed ++ vote_ends asked cast)))
-  cast_so before s ds made lanes proposed asked done told time =
+      → So before (works (work_of setup s) (length (blocks_in ds)) (vote_tasks (votes_in ds) (vote_answers (votes_in ds) told))
+      (λ cast. again_plan setup s (blocks_in ds ++ votes_in ds) (proposed ++ vote_ends (vote_answers (votes_in ds) told) cast)))
+  cast_so before s ds made lanes proposed told due done was time =
       let work = work_of setup s in
       let place = length (blocks_in ds) in
+      let asked = vote_answers (votes_in ds) told in
       let tasks = vote_tasks (votes_in ds) asked in
       let all : List Duty = blocks_in ds ++ votes_in ds in
-      works_so before work place tasks (λ cast. again_plan setup s all (proposed ++ vote_ends asked cast)) (vote_reasons setup before work ds place lanes asked time told.0)
+      works_so before work place tasks (λ cast. again_plan setup s all (proposed ++ vote_ends asked cast)) (vote_reasons setup before work ds place lanes told due time was.0)
       (λ voted cast fit. let step : TurnStep = (Works work place tasks, Worked voted (Some cast)) in
       let here : List TurnStep = before ++ step ∷ [] in
       let ends : List Ended = proposed ++ vote_ends asked cast in
       let blocks = Contains-append_left before (step ∷ []) (Works work 0 (fresh (blocks_in ds)), Worked made (Some proposed)) done.0 in
-      let had = had_both here work ds asked 0 place made voted proposed cast blocks done.1 told.1 (last_of before step) fit.1 in
+      let had = had_both here work ds asked 0 place made voted proposed cast blocks done.1 was.1 (last_of before step) fit.1 in
       left_so here s all ends (again_tasks all ends) had (left_all here work all ends had))
 
   votes_so : (before : List TurnStep) (s : Standing) (ds : List Duty) (made : List (List DutyStep)) (proposed : List Ended) (reached : ℕ) → IsFound before s.slot ds → Proposed before s ds made proposed
@@ -397,14 +399,16 @@ module _ (setup : DutySetup) where
       (λ late. close_sound s.slot (blocks_in ds) (results_of proposed) next before)
       (λ in_time. let time : WasTime before setup.genesis_time s.slot moment = record { reached = reached; step = woke; in_slot = in_time } in
       let casting : List Ended → NextPlan = λ asked. works work place (vote_tasks votes asked) (λ cast. after (vote_ends asked cast)) in
-      works_so before work place (data_tasks votes) (λ asked. records_votes work (vote_tasks votes asked) (casting asked)) (data_reasons setup before work ds due time)
-      (λ lanes asked fit. let told : TurnStep = (Works work place (data_tasks votes), Worked lanes (Some asked)) in
-      let here : List TurnStep = before ++ told ∷ [] in
-      let all = are_asked work place ds lanes asked fit in
+      works_so before work place (data_tasks votes) (λ ends. casts_for work place votes after (vote_answers votes ends)) (data_reasons setup before work ds due time)
+      (λ lanes told fit. let step : TurnStep = (Works work place (data_tasks votes), Worked lanes (Some told)) in
+      let here : List TurnStep = before ++ step ∷ [] in
+      let asked = vote_answers votes told in
+      let all = are_asked work place ds lanes told fit in
       records_votes_so here work (vote_tasks votes asked) (casting asked) (λ mid.
-      let blocks = Contains-append_left here mid (Works work 0 (fresh (blocks_in ds)), Worked made (Some proposed)) (Contains-append_left before (told ∷ []) (Works work 0 (fresh (blocks_in ds)), Worked made (Some proposed)) done.0) in
-      let asking = Contains-append_left here mid told (last_of before told) in
-      cast_so (here ++ mid) s ds made lanes proposed asked (blocks, done.1) (asking, all) (time_more here mid setup.genesis_time s.slot moment (time_more before (told ∷ []) setup.genesis_time s.slot moment time)))))
+      let found = due_more here mid s.slot ds (due_more before (step ∷ []) s.slot ds due) in
+      let blocks = Contains-append_left here mid (Works work 0 (fresh (blocks_in ds)), Worked made (Some proposed)) (Contains-append_left before (step ∷ []) (Works work 0 (fresh (blocks_in ds)), Worked made (Some proposed)) done.0) in
+      let asking = Contains-append_left here mid step (last_of before step) in
+      cast_so (here ++ mid) s ds made lanes proposed told found (blocks, done.1) (asking, all) (time_more here mid setup.genesis_time s.slot moment (time_more before (step ∷ []) setup.genesis_time s.slot moment time)))))
 
   due_so : (before : List TurnStep) (s : Standing) (ds : List Duty) → IsFound before s.slot ds → So before (due_plan setup s ds)
   due_so before s ds due =

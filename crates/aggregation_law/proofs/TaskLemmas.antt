@@ -1,6 +1,6 @@
 -- The tasks that follow from how others ended, and their reasons.
 use Rattle.std.proofs.Common.{◌≡◌, ◌⊎◌, inl, inr, ℕ, Bool, true, false, List, [], ◌∷◌, ◌++◌, length, Option, Some, None, refl, sym, ◌∙◌, ap, subst, arith}
-use Rattle.std.specs.Prelude.{if◌then◌else◌, not, Contains, IfSome}
+use Rattle.std.specs.Prelude.{if◌then◌else◌, not, Contains, IfSome, filter}
 use Rattle.std.proofs.lemmas.List.Elements.{Contains-append_left, Contains-append_cases}
 use Rattle.edge_kit.specs.declared.bytes.PubKey.{PubKey}
 use Rattle.edge_kit.specs.declared.bytes.Sig.{Sig}
@@ -22,13 +22,14 @@ use Rattle.duty_plans.specs.declared.work.SlotWork.{SlotWork}
 use Rattle.duty_plans.specs.Choices.{aggregate_by, aggregate_of, aggregate_tasks, choice_by, choice_of, choose_tasks, ends_after}
 use Rattle.duty_plans.specs.Steps.{DutyStep}
 use Rattle.duty_plans.specs.Tasks.{again_by, again_of, again_tasks, fresh, tasks_by}
-use Rattle.duty_plans.specs.Votes.{data_tasks, end_by, vote_by, vote_ends, vote_task, vote_tasks}
+use Rattle.duty_plans.specs.Votes.{answer_of, asks_for, data_tasks, end_by, vote_answers, vote_by, vote_ends, vote_task, vote_tasks}
 use Rattle.duty_turns.specs.Times.{again_start, aggregates_start, votes_start}
 use Rattle.duty_turns.specs.TurnSteps.{TurnStep, Fits, Due, LooksUp, Worked, Works}
 use Rattle.duty_turns.specs.Turns.{blocks_in, choices_of, is_block, votes_in}
 use Rattle.aggregation_law.specs.Reasons.{GotData, HadEnd, HasReason, IsFirstTry, IsPair, WasAnswered, WasChosen, WasDue, WasLeft, WasTime}
-use Rattle.aggregation_law.proofs.GivenLemmas.{IsVoted, data_answers}
+use Rattle.aggregation_law.proofs.GivenLemmas.{IsAnswer, IsVoted, data_answers}
 use Rattle.aggregation_law.proofs.LaneLemmas.{pair_done}
+use Rattle.aggregation_law.proofs.QuestionLemmas.{answer_cases, answer_pair, voted_by}
 
 -- ---- more steps
 
@@ -58,7 +59,7 @@ left_more_one : (xs ys : List TurnStep) (work : SlotWork) (d : Duty) (unsent : U
 left_more_one xs ys work d unsent h = record { first = h.first; is = h.is; ended = h.ended; had = end_more xs ys work h.first h.ended h.had; left = h.left }
 
 answered_more : (xs ys : List TurnStep) (work : SlotWork) (row : AttesterRow) (details : AttestationData) → WasAnswered xs work row details → WasAnswered (xs ++ ys) work row details
-answered_more xs ys work row details h = record { ended = h.ended; had = end_more xs ys work (task.Data row) h.ended h.had; goes_on = h.goes_on }
+answered_more xs ys work row details h = record { asked = h.asked; same = h.same; ended = h.ended; had = end_more xs ys work (task.Data h.asked) h.ended h.had; goes_on = h.goes_on; own = h.own }
 
 data_more : (xs ys : List TurnStep) (work : SlotWork) (row : AttesterRow) (details : AttestationData) → GotData xs work row details → GotData (xs ++ ys) work row details
 data_more xs ys work row details h = record { given = h.given; ended = h.ended; had = end_more xs ys work (task.Vote row h.given) h.ended h.had; goes_on = h.goes_on }
@@ -70,7 +71,7 @@ pub reason_more : (setup : DutySetup) (xs ys : List TurnStep) (work : SlotWork) 
 reason_more setup xs ys work (task.Fresh (duty.Block row)) h = due_more_one xs ys work.slot (duty.Block row) h
 reason_more setup xs ys work (task.Fresh (duty.Vote row)) h = h
 reason_more setup xs ys work (task.Data row) h = (due_more_one xs ys work.slot (duty.Vote row) h.0, time_more xs ys setup.genesis_time work.slot (votes_start setup.genesis_time work.slot) h.1)
-reason_more setup xs ys work (task.Vote row details) h = (time_more xs ys setup.genesis_time work.slot (votes_start setup.genesis_time work.slot) h.0, answered_more xs ys work row details h.1)
+reason_more setup xs ys work (task.Vote row details) h = (due_more_one xs ys work.slot (duty.Vote row) h.0, time_more xs ys setup.genesis_time work.slot (votes_start setup.genesis_time work.slot) h.1, answered_more xs ys work row details h.2)
 reason_more setup xs ys work (task.Again d unsent) h = (time_more xs ys setup.genesis_time work.slot (again_start setup.genesis_time work.slot) h.0, left_more_one xs ys work d unsent h.1)
 reason_more setup xs ys work (task.Choose row details) h = (h.0, data_more xs ys work row details h.1)
 reason_more setup xs ys work (task.Aggregate row details proof) h = (time_more xs ys setup.genesis_time work.slot (aggregates_start setup.genesis_time work.slot) h.0, chosen_more xs ys work row details proof h.1)
@@ -98,11 +99,14 @@ fresh_one (d ∷ ds) t c = by_cases (λ r. fresh_one ds t r) (contains_cases (ta
 data_one : (ds : List Duty) (t : Task) → Contains (data_tasks ds) t → (row : AttesterRow) × Contains ds (duty.Vote row) × (task.Data row ≡ t)
 data_one [] t c = contains_none t c
 data_one (duty.Block b ∷ ds) t c = let one = data_one ds t c in (one.0, contains_later (duty.Block b) ds (duty.Vote one.0) one.1, one.2)
-data_one (duty.Vote v ∷ ds) t c = by_cases (λ r. data_one ds t r) (contains_cases (task.Data v) (data_tasks ds) t c) where
-  by_cases : (Contains (data_tasks ds) t → (row : AttesterRow) × Contains ds (duty.Vote row) × (task.Data row ≡ t)) → (task.Data v ≡ t) ⊎ Contains (data_tasks ds) t
+data_one (duty.Vote v ∷ ds) t c = by_cases (λ r. data_one ds t r) (contains_cases (task.Data v) others t c) where
+  others : List Task
+  others = filter (λ u. not (asks_for v u)) (data_tasks ds)
+
+  by_cases : (Contains (data_tasks ds) t → (row : AttesterRow) × Contains ds (duty.Vote row) × (task.Data row ≡ t)) → (task.Data v ≡ t) ⊎ Contains others t
       → (row : AttesterRow) × Contains (duty.Vote v ∷ ds) (duty.Vote row) × (task.Data row ≡ t)
   by_cases more (inl e) = (v, contains_first (duty.Vote v) ds, e)
-  by_cases more (inr r) = let one = more r in (one.0, contains_later (duty.Vote v) ds (duty.Vote one.0) one.1, one.2)
+  by_cases more (inr r) = let one = more (contains_from_filter (λ u. not (asks_for v u)) (data_tasks ds) t r).0 in (one.0, contains_later (duty.Vote v) ds (duty.Vote one.0) one.1, one.2)
 
 module _ (setup : DutySetup) (before : List TurnStep) (work : SlotWork) where
   block_reason : (d : Duty) → is_block d ≡ true → WasDue before work.slot d → HasReason setup before work (task.Fresh d)
@@ -140,29 +144,35 @@ only_one x y c = by_cases (contains_cases x [] y c) where
 
 -- ---- votes
 
--- the question of a vote that is paired so is paired so
-data_pair : (ds : List Duty) (asked : List Ended) (d : Duty) (a : Ended) → IsPair (votes_in ds) asked d a → (row : AttesterRow) × (d ≡ duty.Vote row) × IsPair (data_tasks (votes_in ds)) asked (task.Data row) a
-data_pair [] asked d a p = absurd p
-data_pair (duty.Block b ∷ ds) asked d a p = data_pair ds asked d a p
-data_pair (duty.Vote v ∷ ds) [] d a p = absurd p
-data_pair (duty.Vote v ∷ ds) (x ∷ asked) d a (inl p) = (v, sym p.0, inl (refl, p.1))
-data_pair (duty.Vote v ∷ ds) (x ∷ asked) d a (inr p) = let more = data_pair ds asked d a p in (more.0, more.1, inr more.2)
-
 module _ (setup : DutySetup) (before : List TurnStep) (work : SlotWork) where
-  vote_reason : (row : AttesterRow) (a : Ended) (o : Option Aggregation) (t : Task) → WasTime before setup.genesis_time work.slot (votes_start setup.genesis_time work.slot) → a.aggregation ≡ o → HadEnd before work (task.Data row) a
-      → Contains (vote_by (duty.Vote row) o) t → HasReason setup before work t
-  vote_reason row a (Some (votes.Voted details)) t time is had c =
-      subst (λ (x : Task). HasReason setup before work x) (only_one (task.Vote row details) t c) (time, record { ended = a; had = had; goes_on = is })
-  vote_reason row a (Some (votes.Chosen details proof)) t time is had c = contains_none t c
-  vote_reason row a None t time is had c = contains_none t c
+  -- a vote for what its answer went on with was answered by its committee's question
+  was_answered : (place : ℕ) (tasks : List Task) (lanes : List (List DutyStep)) (told : List Ended) → Contains before (Works work place tasks, Worked lanes (Some told)) → (row : AttesterRow) (a : Ended) → a ≡ answer_of tasks told (duty.Vote row)
+      → (details : AttestationData) → a.aggregation ≡ Some (votes.Voted details) → WasAnswered before work row details
+  was_answered place tasks lanes told step row a from details is =
+      let v = voted_by tasks told row details (ap (λ (x : Ended). x.aggregation) (sym from) ∙ is) in
+      record {
+        asked = v.asked;
+        same = v.same;
+        ended = v.ended;
+        had = record { place = place; tasks = tasks; lanes = lanes; ends = told; step = step; pair = v.pair };
+        goes_on = v.goes_on;
+        own = v.own;
+      }
 
-  pub vote_reasons : (ds : List Duty) (place : ℕ) (lanes : List (List DutyStep)) (asked : List Ended) → WasTime before setup.genesis_time work.slot (votes_start setup.genesis_time work.slot)
-      → Contains before (Works work place (data_tasks (votes_in ds)), Worked lanes (Some asked)) → (t : Task) → Contains (vote_tasks (votes_in ds) asked) t → HasReason setup before work t
-  vote_reasons ds place lanes asked time step t c =
-      let from = followed vote_task (votes_in ds) asked t c in
-      let own = data_pair ds asked from.0 from.1 from.2 in
-      let had : HadEnd before work (task.Data own.0) from.1 = record { place = place; tasks = data_tasks (votes_in ds); lanes = lanes; ends = asked; step = step; pair = own.2 } in
-      vote_reason own.0 from.1 from.1.aggregation t time refl had (subst (λ (d : Duty). Contains (vote_by d from.1.aggregation) t) own.1 from.3)
+  vote_reason : (row : AttesterRow) (a : Ended) (o : Option Aggregation) (t : Task) → WasDue before work.slot (duty.Vote row) → WasTime before setup.genesis_time work.slot (votes_start setup.genesis_time work.slot)
+      → ((details : AttestationData) → a.aggregation ≡ Some (votes.Voted details) → WasAnswered before work row details) → a.aggregation ≡ o → Contains (vote_by (duty.Vote row) o) t → HasReason setup before work t
+  vote_reason row a (Some (votes.Voted details)) t due time answered is c = subst (λ (x : Task). HasReason setup before work x) (only_one (task.Vote row details) t c) (due, time, answered details is)
+  vote_reason row a (Some (votes.Chosen details proof)) t due time answered is c = contains_none t c
+  vote_reason row a None t due time answered is c = contains_none t c
+
+  pub vote_reasons : (ds : List Duty) (place : ℕ) (lanes : List (List DutyStep)) (told : List Ended) → IsFound before work.slot ds → WasTime before setup.genesis_time work.slot (votes_start setup.genesis_time work.slot)
+      → Contains before (Works work place (data_tasks (votes_in ds)), Worked lanes (Some told)) → (t : Task) → Contains (vote_tasks (votes_in ds) (vote_answers (votes_in ds) told)) t → HasReason setup before work t
+  vote_reasons ds place lanes told due time step t c =
+      let tasks = data_tasks (votes_in ds) in
+      let from = followed vote_task (votes_in ds) (vote_answers (votes_in ds) told) t c in
+      let own = answer_pair (answer_of tasks told) ds from.0 from.1 from.2 in
+      let P : Duty → Type 0 = λ d. Contains (vote_by d from.1.aggregation) t in
+      vote_reason own.0 from.1 from.1.aggregation t (due (duty.Vote own.0) own.3) time (was_answered place tasks lanes told step own.0 from.1 own.2) refl (subst P own.1 from.3)
 
 -- ---- how votes ended
 
@@ -175,12 +185,14 @@ IsAskedBy (duty.Block row) o = ⊥
 abbrev pub AreAsked : List Duty → List Ended → Type 0
 AreAsked vs asked = (d : Duty) (a : Ended) → IsPair vs asked d a → (a.unsent ≡ None) × IsAskedBy d a.aggregation
 
-pub are_asked : (work : SlotWork) (place : ℕ) (ds : List Duty) (lanes : List (List DutyStep)) (asked : List Ended) → Fits (Works work place (data_tasks (votes_in ds))) (Worked lanes (Some asked)) → AreAsked (votes_in ds) asked
-are_asked work place ds lanes asked fit d a p =
-    let own = data_pair ds asked d a p in
-    let done = pair_done work place (data_tasks (votes_in ds)) lanes asked (task.Data own.0) a fit own.2 in
-    let answer = data_answers work own.0 done.2.own a done.2.follows in
-    (answer.0, subst (λ (x : Duty). IsAskedBy x a.aggregation) (sym own.1) answer.1)
+pub are_asked : (work : SlotWork) (place : ℕ) (ds : List Duty) (lanes : List (List DutyStep)) (told : List Ended) → Fits (Works work place (data_tasks (votes_in ds))) (Worked lanes (Some told))
+    → AreAsked (votes_in ds) (vote_answers (votes_in ds) told)
+are_asked work place ds lanes told fit d a p =
+    let tasks = data_tasks (votes_in ds) in
+    let own = answer_pair (answer_of tasks told) ds d a p in
+    let answer = answer_cases own.0 tasks told IsAnswer (λ by. (refl, tt)) (λ asked e pair same mine. let done = pair_done work place tasks lanes told (task.Data asked) e fit pair in data_answers work asked done.2.own e done.2.follows) in
+    let mine : IsAnswer a = subst IsAnswer (sym own.2) answer in
+    (mine.0, subst (λ (x : Duty). IsAskedBy x a.aggregation) (sym own.1) mine.1)
 
 -- a question of this vote ended so, and the vote was not cast
 abbrev WasUncast : List Duty → List Ended → Duty → Ended → Type 0

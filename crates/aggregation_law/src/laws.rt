@@ -1,5 +1,5 @@
 //! What holds of the aggregates of runs of duties, whatever takes the desk's calls.
-ghost use Rattle.std.specs.Prelude.{◌≡◌, ◌∷◌, ℕ, true, List, [], Option, Some, Result};
+ghost use Rattle.std.specs.Prelude.{◌≡◌, ◌∷◌, ℕ, true, List, [], AllPairs, Contains, Option, None, Some, Result};
 ghost use Rattle.edge_kit.specs.declared.bytes.Sig.{Sig};
 ghost use Rattle.phase0_types.specs.declared.attestation.AttestationData.{AttestationData};
 ghost use Rattle.desk_machine.specs.declared.open_grant.OpenGrant.{OpenGrant};
@@ -8,6 +8,8 @@ ghost use Rattle.node_calls.specs.declared.answer.Answer.{Answer};
 ghost use Rattle.node_calls.specs.declared.answer.AttesterRow.{AttesterRow};
 ghost use Rattle.node_calls.specs.declared.ask.Ask.TheVariants as Ask;
 ghost use Rattle.duty_schedule.specs.Aggregators.{is_aggregator};
+ghost use Rattle.duty_schedule.specs.Checking.{data_members, first_that_differs};
+ghost use Rattle.duty_schedule.specs.declared.rows.Duty.{Duty};
 ghost use Rattle.call_plans.specs.Plans.{Follows};
 ghost use Rattle.duty_plans.specs.declared.ended.Aggregation.TheVariants as Aggregation;
 ghost use Rattle.duty_plans.specs.declared.ended.Ended.{Ended};
@@ -19,18 +21,20 @@ ghost use Rattle.duty_plans.specs.Messages.{slot_request};
 ghost use Rattle.duty_plans.specs.Plans.{task_plan};
 ghost use Rattle.duty_plans.specs.Reading.{vote_of};
 ghost use Rattle.duty_plans.specs.Steps.{Answered, Asks, DutyStep, Fits as FitsDuty, Reveals, Signed, Tried, came_of};
+ghost use Rattle.duty_plans.specs.Votes.{answer_of, data_tasks};
 ghost use Rattle.duty_turns.specs.declared.held.DutyEnd.{DutyEnd};
 ghost use Rattle.duty_turns.specs.Standing.{Standing};
 ghost use Rattle.duty_turns.specs.TurnSteps.{Fits, TurnStep};
 ghost use Rattle.duty_turns.specs.Turns.{turns_plan};
 ghost use Rattle.aggregation_law.specs.Earned.{AreEarned};
-ghost use Rattle.aggregation_law.specs.Reasons.{AreReasoned};
+ghost use Rattle.aggregation_law.specs.Questions.{AreApart};
+ghost use Rattle.aggregation_law.specs.Reasons.{AreReasoned, IsPair};
 
 /// Each task that is done in turns has a reason in the steps before it, however the turns end: a block was found due; what a
-/// committee is to vote is asked for a vote that was found due, in its time, and the vote is cast for data with which that
-/// question went on; what is tried once more is left of the duty; whether a validator aggregates is asked where
-/// aggregates are wanted, of a vote that got its data; and an aggregate is published in its time, by a validator that its
-/// proof chose.
+/// committee is to vote is asked where a vote of it was found due, in its time; a vote that was found due is cast in its time,
+/// for data with which its committee's question went on; what is tried once more is left of the duty; whether a validator
+/// aggregates is asked where aggregates are wanted, of a vote that got its data; and an aggregate is published in its time,
+/// by a validator that its proof chose.
 pub fn reason_law()
     ensures { (setup : DutySetup) (n : ℕ) (s : Standing) (steps : List TurnStep) (v : Option (Result (Unit {0}) DutyEnd)) → Follows Fits (turns_plan setup n s) steps v
         → AreReasoned setup [] steps }
@@ -45,10 +49,10 @@ pub fn aggregation_law()
         → AreEarned setup [] steps }
 {}
 
-/// A question whose answer is data of the duty goes on with that data: so the vote for it is cast (`vote_tasks`). A vote goes
-/// on with the data that it is for, whatever became of the vote: so its validator's choice is asked for (`choose_tasks`). A
-/// choice whose signature of the slot was given, and chooses the validator, goes on with it: so its aggregate is published
-/// (`aggregate_tasks`).
+/// A question whose answer is data of the duty goes on with that data: so the votes of its committee that this data is for
+/// are cast (`question_law`, `vote_tasks`). A vote goes on with the data that it is for, whatever became of the vote: so its
+/// validator's choice is asked for (`choose_tasks`). A choice whose signature of the slot was given, and chooses the validator,
+/// goes on with it: so its aggregate is published (`aggregate_tasks`).
 pub fn choice_law()
     ensures answered { (work : SlotWork) (row : AttesterRow) (tried : Tried Answer) (rest : List DutyStep) (details : AttestationData) (e : Ended)
         → Follows FitsDuty (task_plan work (Task.Data row)) ((Asks (Ask.Data work.slot row.committee_index), Answered tried) ∷ rest) (Some e)
@@ -58,4 +62,15 @@ pub fn choice_law()
     ensures chosen { (work : SlotWork) (row : AttesterRow) (details : AttestationData) (first : DutyStep) (grant : OpenGrant) (proof : Sig) (rest : List DutyStep) (e : Ended)
         → Follows FitsDuty (task_plan work (Task.Choose row details)) (first ∷ (Reveals grant (slot_request work), Signed (SignReply.Signed proof)) ∷ rest) (Some e)
         → is_aggregator proof row.committee_length ≡ true → e.aggregation ≡ Some (Aggregation.Chosen details proof) }
+{}
+
+/// The votes of a slot ask one question for each committee (`data_tasks`). Each vote's committee has a question. No two questions
+/// are of one committee. A question may go on with data: each vote of its committee then has that answer (`vote_answers`), where
+/// no member of the data differs from what this vote's duty is to vote.
+pub fn question_law()
+    ensures each { (ds : List Duty) (row : AttesterRow) → Contains ds (Duty.Vote row) → (asked : AttesterRow) × Contains (data_tasks ds) (Task.Data asked) × (asked.committee_index ≡ row.committee_index) }
+    ensures once { (ds : List Duty) → AllPairs AreApart (data_tasks ds) }
+    ensures told { (ds : List Duty) (ends : List Ended) (row asked : AttesterRow) (e : Ended) (details : AttestationData) → Contains ds (Duty.Vote row)
+        → IsPair (data_tasks ds) ends (Task.Data asked) e → asked.committee_index ≡ row.committee_index → e.aggregation ≡ Some (Aggregation.Voted details)
+        → first_that_differs (data_members row details) ≡ None → answer_of (data_tasks ds) ends (Duty.Vote row) ≡ e }
 {}

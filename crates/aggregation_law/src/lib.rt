@@ -3,4 +3,4 @@
 
 mod laws;
 
-pub use laws::{aggregation_law, choice_law, reason_law};
+pub use laws::{aggregation_law, choice_law, question_law, reason_law};
