@@ -165,9 +165,9 @@ is_none_at : {X : Type 0} (o : Option X) → o ≡ None → is_none o ≡ true
 is_none_at {X} o e = ap (λ (x : Option X). is_none x) e
 
 -- what its committee's question went on with, where that is the vote's own, a vote is told
-pub answer_told : (ds : List Duty) (ends : List Ended) (row asked : AttesterRow) (e : Ended) (details : AttestationData) → Contains ds (duty.Vote row) → IsPair (data_tasks ds) ends (task.Data asked) e → asked.committee_index ≡ row.committee_index
+pub answer_told : (ds : List Duty) (ends : List Ended) (row asked : AttesterRow) (e : Ended) (details : AttestationData) → IsPair (data_tasks ds) ends (task.Data asked) e → asked.committee_index ≡ row.committee_index
     → e.aggregation ≡ Some (votes.Voted details) → first_that_differs (data_members row details) ≡ None → answer_of (data_tasks ds) ends (duty.Vote row) ≡ e
-answer_told ds ends row asked e details among pair same goes_on none =
+answer_told ds ends row asked e details pair same goes_on none =
     let place = pair_place (data_tasks ds) ends (task.Data asked) e pair in
     let Own : Option Aggregation → Type 0 = λ o. is_own row o ≡ true in
     let own = subst Own (sym goes_on) (is_none_at (first_that_differs (data_members row details)) none) in

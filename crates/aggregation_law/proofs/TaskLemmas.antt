@@ -96,7 +96,7 @@ fresh_one (d ∷ ds) t c = by_cases (λ r. fresh_one ds t r) (contains_cases (ta
   by_cases more (inr r) = let one = more r in (one.0, contains_later d ds one.0 one.1, one.2)
 
 -- a question of these duties is that of a vote of them
-data_one : (ds : List Duty) (t : Task) → Contains (data_tasks ds) t → (row : AttesterRow) × Contains ds (duty.Vote row) × (task.Data row ≡ t)
+pub data_one : (ds : List Duty) (t : Task) → Contains (data_tasks ds) t → (row : AttesterRow) × Contains ds (duty.Vote row) × (task.Data row ≡ t)
 data_one [] t c = contains_none t c
 data_one (duty.Block b ∷ ds) t c = let one = data_one ds t c in (one.0, contains_later (duty.Block b) ds (duty.Vote one.0) one.1, one.2)
 data_one (duty.Vote v ∷ ds) t c = by_cases (λ r. data_one ds t r) (contains_cases (task.Data v) others t c) where

@@ -15,6 +15,7 @@ ghost use Rattle.duty_plans.specs.declared.ended.Aggregation.TheVariants as Aggr
 ghost use Rattle.duty_plans.specs.declared.ended.Ended.{Ended};
 ghost use Rattle.duty_plans.specs.declared.got.Got.TheVariants as Got;
 ghost use Rattle.duty_plans.specs.declared.setup.DutySetup.{DutySetup};
+ghost use Rattle.duty_plans.specs.declared.task.Task.{Task as AnyTask};
 ghost use Rattle.duty_plans.specs.declared.task.Task.TheVariants as Task;
 ghost use Rattle.duty_plans.specs.declared.work.SlotWork.{SlotWork};
 ghost use Rattle.duty_plans.specs.Messages.{slot_request};
@@ -64,13 +65,14 @@ pub fn choice_law()
         → is_aggregator proof row.committee_length ≡ true → e.aggregation ≡ Some (Aggregation.Chosen details proof) }
 {}
 
-/// The votes of a slot ask one question for each committee (`data_tasks`). Each vote's committee has a question. No two questions
-/// are of one committee. A question may go on with data: each vote of its committee then has that answer (`vote_answers`), where
+/// The votes of a slot ask one question for each committee (`data_tasks`). Each vote's committee has a question. Each question is
+/// that of one of these votes, and no two are of one committee. A question may go on with data: each vote of its committee then has that answer (`vote_answers`), where
 /// no member of the data differs from what this vote's duty is to vote.
 pub fn question_law()
     ensures each { (ds : List Duty) (row : AttesterRow) → Contains ds (Duty.Vote row) → (asked : AttesterRow) × Contains (data_tasks ds) (Task.Data asked) × (asked.committee_index ≡ row.committee_index) }
+    ensures only { (ds : List Duty) (t : AnyTask) → Contains (data_tasks ds) t → (row : AttesterRow) × Contains ds (Duty.Vote row) × (Task.Data row ≡ t) }
     ensures once { (ds : List Duty) → AllPairs AreApart (data_tasks ds) }
-    ensures told { (ds : List Duty) (ends : List Ended) (row asked : AttesterRow) (e : Ended) (details : AttestationData) → Contains ds (Duty.Vote row)
+    ensures told { (ds : List Duty) (ends : List Ended) (row asked : AttesterRow) (e : Ended) (details : AttestationData)
         → IsPair (data_tasks ds) ends (Task.Data asked) e → asked.committee_index ≡ row.committee_index → e.aggregation ≡ Some (Aggregation.Voted details)
         → first_that_differs (data_members row details) ≡ None → answer_of (data_tasks ds) ends (Duty.Vote row) ≡ e }
 {}
