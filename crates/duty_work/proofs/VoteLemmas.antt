@@ -151,6 +151,12 @@ module _ {K : Type 0} (leads : Leads K) (start : Option ℕ) where
   answers_cast a b work place votes tasks ends asked next_by v is of h =
       subst (λ (l : List Ended). CastOn leads start (casts_for work place votes next_by l) next_by a b v) (of ∙ ap (λ (ts : List Task). map (answer_of ts ends) votes) is) h
 
+  -- tasks were done in the lanes, and no more
+  pub tasks_done : (d : K) (ls ks : List (Seat K)) (ns : List Seen) (o : SinkSeen) (work : SlotWork) (place : ℕ) (tasks ts : List Task) (ends : List Ended) (q : List Ended → NextPlan) (next_by : List Ended → NextPlan) → tasks ≡ ts
+      → WorksDone leads work place tasks ls ks (Some ends) → CastOn leads start (works work place ts q) next_by (house d ls ns o) (house d ks ns o) None
+  tasks_done d ls ks ns o work place tasks ts ends q next_by is w =
+      tasks_cast d ls ks ns o (house d ks ns o) work place tasks ts ends ends q next_by None is refl w (none_cast (q ends) next_by (house d ks ns o))
+
   -- memory ran out in a lane
   pub tasks_cut : (d : K) (ls ks : List (Seat K)) (ns : List Seen) (o : SinkSeen) (work : SlotWork) (place : ℕ) (tasks ts : List Task) (q : List Ended → NextPlan) (next_by : List Ended → NextPlan) → tasks ≡ ts
       → WorksDone leads work place tasks ls ks None → CastOn leads start (works work place ts q) next_by (house d ls ns o) (house d ks ns o) None

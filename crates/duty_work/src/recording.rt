@@ -1,5 +1,5 @@
 //! The desk keeps the messages of a slot's votes together, before it is asked for leave for each.
-ghost use Rattle.std.specs.Prelude.{◌≡◌, ◌≤◌, ◌∷◌, ◌++◌, ℕ, All, List, Option, None, filter, true, IfOk, IfSome, OnOk};
+ghost use Rattle.std.specs.Prelude.{◌≡◌, ◌≤◌, ◌∷◌, [], ◌++◌, ℕ, All, List, Option, None, filter, true, IfOk, IfSome, OnOk};
 ghost use Rattle.std.specs.BTreeSet.{contains};
 ghost use Rattle.desk_machine.specs.Machine.{moment_limit};
 ghost use Rattle.node_calls.specs.Fitting.{key_order};

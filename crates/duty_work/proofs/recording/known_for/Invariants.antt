@@ -1,4 +1,3 @@
-use Rattle.std.proofs.Common.{Unit}
 use Rattle.duty_work.proofs.recording.known_for.Given as goal
 
 abbrev pub invariant-known : goal.invariant-known
