@@ -16,7 +16,7 @@ use Rattle.duty_plans.specs.declared.task.Task.{Task}
 use Rattle.duty_plans.specs.Choices.{aggregate_tasks, reports}
 use Rattle.duty_plans.specs.Ends.{merged, results_of}
 use Rattle.duty_plans.specs.Tasks.{again_tasks, fresh}
-use Rattle.duty_plans.specs.Votes.{data_tasks, vote_ends, vote_tasks}
+use Rattle.duty_plans.specs.Votes.{data_tasks, vote_answers, vote_ends, vote_tasks}
 use Rattle.duty_plans.specs.declared.work.SlotWork.{SlotWork}
 use Rattle.duty_plans.specs.declared.setup.DutySetup.{DutySetup}
 use Rattle.duty_turns.specs.declared.held.DutyEnd.{DutyEnd}
@@ -27,7 +27,7 @@ use Rattle.duty_turns.specs.Standing.{Standing}
 use Rattle.duty_pruning.specs.Pruning.{pruning_file}
 use Rattle.duty_turns.specs.Times.{again_start, aggregates_start, epoch_of, is_first_slot, is_missed, next_slot, slot_start, votes_start}
 use Rattle.duty_turns.specs.TurnSteps.{TurnPlan, TurnReply, TurnStep, Fits, Own, Owned, Writes, Wrote}
-use Rattle.duty_turns.specs.Turns.{Next, NextPlan, active_of, after_wait, again_plan, aggregates_plan, asked_plan, at_moment, at_slot, blocks_in, calls, casts, choices_of, chooses_plan, close_plan, due_plan, exported, exports, failed_plan, finish_plan, gathers_plan, keys_of_turn, left_plan, merges, listed_plan, next_turn, own_reply, prunes, puts, ready_plan, records, records_allowed, records_votes, report_plan, refreshes, refreshes_lanes, is_worth_compacting, shortens, sized, told_plan, tried_plan, turn_plan, turns_plan, unless_short, votes_in, votes_plan, waits, with_active, woken_plan, work_of, works, wrote}
+use Rattle.duty_turns.specs.Turns.{Next, NextPlan, active_of, after_wait, again_plan, aggregates_plan, asked_plan, at_moment, at_slot, blocks_in, calls, casts, casts_for, choices_of, chooses_plan, close_plan, due_plan, exported, exports, failed_plan, finish_plan, gathers_plan, keys_of_turn, left_plan, merges, listed_plan, next_turn, own_reply, prunes, puts, ready_plan, records, records_allowed, records_votes, report_plan, refreshes, refreshes_lanes, is_worth_compacting, shortens, sized, told_plan, tried_plan, turn_plan, turns_plan, unless_short, votes_in, votes_plan, waits, with_active, woken_plan, work_of, works, wrote}
 use Rattle.duty_loop.proofs.GivesLemmas.{Always, Gives, Said, calls_always, gives_ask, gives_bind, gives_done, if_always, looks_up_always, refreshes_always, refreshes_lanes_always, stop_always, waits_always, works_always}
 use Rattle.duty_loop.proofs.PartLemmas.{EndInCut, WhyNone, asked_part}
 
@@ -156,11 +156,15 @@ records_votes_turn : (work : SlotWork) (tasks : List Task) (p : NextPlan) → Is
 records_votes_turn work [] p h = h
 records_votes_turn work (t ∷ tasks) p h = calls_always (Why Standing) call.Keys (λ r. records_allowed work (t ∷ tasks) r p) (records_free_turn work (t ∷ tasks) p h)
 
+casts_for_turn : (work : SlotWork) (place : ℕ) (votes : List Duty) (next_by : List Ended → NextPlan) → ((ends : List Ended) → IsTurn (next_by ends)) → (asked : List Ended) → IsTurn (casts_for work place votes next_by asked)
+casts_for_turn work place votes next_by h asked =
+    let tasks = vote_tasks votes asked in
+    let after : List Ended → NextPlan = λ cast. next_by (vote_ends asked cast) in
+    records_votes_turn work tasks (works work place tasks after) (works_always (Why Standing) work place tasks after (λ cast. h (vote_ends asked cast)))
+
 casts_turn : (work : SlotWork) (place : ℕ) (votes : List Duty) (next_by : List Ended → NextPlan) → ((ends : List Ended) → IsTurn (next_by ends)) → IsTurn (casts work place votes next_by)
 casts_turn work place votes next_by h =
-    let cast : List Ended → NextPlan = λ asked. works work place (vote_tasks votes asked) (λ ends. next_by (vote_ends asked ends)) in
-    works_always (Why Standing) work place (data_tasks votes) (λ asked. records_votes work (vote_tasks votes asked) (cast asked)) (λ asked.
-    records_votes_turn work (vote_tasks votes asked) (cast asked) (works_always (Why Standing) work place (vote_tasks votes asked) (λ ends. next_by (vote_ends asked ends)) (λ ends. h (vote_ends asked ends))))
+    works_always (Why Standing) work place (data_tasks votes) (λ ends. casts_for work place votes next_by (vote_answers votes ends)) (λ ends. casts_for_turn work place votes next_by h (vote_answers votes ends))
 
 votes_turn : (setup : DutySetup) (s : Standing) (ds : List Duty) (proposed : List Ended) (reached : ℕ) → IsTurn (votes_plan setup s ds proposed reached)
 votes_turn setup s ds proposed reached =

@@ -28,7 +28,7 @@ use Rattle.duty_plans.specs.declared.task.Task.{Task}
 use Rattle.duty_plans.specs.Choices.{aggregate_tasks, reports}
 use Rattle.duty_plans.specs.Ends.{merged, results_of}
 use Rattle.duty_plans.specs.Tasks.{again_tasks, fresh}
-use Rattle.duty_plans.specs.Votes.{data_tasks, vote_ends, vote_tasks}
+use Rattle.duty_plans.specs.Votes.{data_tasks, vote_answers, vote_ends, vote_tasks}
 use Rattle.duty_plans.specs.declared.setup.DutySetup.{DutySetup}
 use Rattle.duty_plans.specs.declared.work.SlotWork.{SlotWork}
 use Rattle.duty_turns.specs.Lines.{aggregate_lines, duty_lines, none_line}
@@ -36,7 +36,7 @@ use Rattle.duty_turns.specs.Recording.{allowed_of, recorded}
 use Rattle.duty_turns.specs.Standing.{Standing, indices_of, with_attesters, with_fork, with_indices, with_proposers}
 use Rattle.duty_turns.specs.Times.{again_start, aggregates_start, epoch_of, is_first_slot, is_missed, next_slot, slot_start, votes_start}
 use Rattle.duty_turns.specs.TurnSteps.{TurnCall, TurnPlan, TurnReply, TurnStep, Fits, Due, LanesRefreshed, LooksUp, Own, Owned, Refreshed, Refreshes, RefreshesLanes, Waits, Woke, Worked, Works, Writes, Wrote}
-use Rattle.duty_turns.specs.Turns.{NextPlan, PartPlan, active_of, after_wait, again_plan, aggregates_plan, left_plan, tried_plan, answered_plan, ask_plan, asked_plan, asks, at_moment, at_slot, attesters_plan, blocks_in, by_32, calls, casts, choices_of, chooses_plan, close_plan, due_plan, duties_plan, epoch_plan, epochs_plan, exported, exports, failed_plan, finish_plan, found, gathers_plan, index_plan, is_worth_compacting, keys_of_turn, lanes_refreshed, listed_plan, lived_plan, liveness_plan, looks_up, merges, missing_epochs, missing_keys, noted, notes_of, notes_plan, on_standing, own_answer, own_reply, prunes, puts, ready_plan, records, records_allowed, records_votes, refreshed, refreshes, refreshes_lanes, renew_plan, renewed_now, renewed_plan, renews, report_plan, shortens, sized, then_on, to_renew, told_plan, turn_plan, unless_short, voters_plan, votes_in, votes_plan, waits, watch_plan, with_active, woken, woken_plan, work_of, worked, works, writes, written, wrote}
+use Rattle.duty_turns.specs.Turns.{NextPlan, PartPlan, active_of, after_wait, again_plan, aggregates_plan, left_plan, tried_plan, answered_plan, ask_plan, asked_plan, asks, at_moment, at_slot, attesters_plan, blocks_in, by_32, calls, casts, casts_for, choices_of, chooses_plan, close_plan, due_plan, duties_plan, epoch_plan, epochs_plan, exported, exports, failed_plan, finish_plan, found, gathers_plan, index_plan, is_worth_compacting, keys_of_turn, lanes_refreshed, listed_plan, lived_plan, liveness_plan, looks_up, merges, missing_epochs, missing_keys, noted, notes_of, notes_plan, on_standing, own_answer, own_reply, prunes, puts, ready_plan, records, records_allowed, records_votes, refreshed, refreshes, refreshes_lanes, renew_plan, renewed_now, renewed_plan, renews, report_plan, shortens, sized, then_on, to_renew, told_plan, turn_plan, unless_short, voters_plan, votes_in, votes_plan, waits, watch_plan, with_active, woken, woken_plan, work_of, worked, works, writes, written, wrote}
 use Rattle.duty_turns.specs.declared.held.DutyEnd.{DutyEnd}
 use Rattle.duty_turns.specs.declared.held.DutyEnd.TheVariants as end
 use Rattle.duty_safety.proofs.AskedLemmas.{At, asked_stays}
@@ -243,11 +243,15 @@ module _ (keep_epochs : Option ℕ) (epoch : ℕ) where
   records_votes_quiet work [] p h = h
   records_votes_quiet work (t ∷ tasks) p h = calls_quiet call.Keys (λ r. records_allowed work (t ∷ tasks) r p) (λ from. tt) (records_free_quiet work (t ∷ tasks) p h)
 
+  casts_for_quiet : (work : SlotWork) (place : ℕ) (votes : List Duty) (next : List Ended → NextPlan) → ((ends : List Ended) → Quiet (next ends)) → (asked : List Ended) → Quiet (casts_for work place votes next asked)
+  casts_for_quiet work place votes next h asked =
+      let tasks = vote_tasks votes asked in
+      let after : List Ended → NextPlan = λ cast. next (vote_ends asked cast) in
+      records_votes_quiet work tasks (works work place tasks after) (works_quiet work place tasks after (λ cast. h (vote_ends asked cast)))
+
   casts_quiet : (work : SlotWork) (place : ℕ) (votes : List Duty) (next : List Ended → NextPlan) → ((ends : List Ended) → Quiet (next ends)) → Quiet (casts work place votes next)
   casts_quiet work place votes next h =
-      let cast : List Ended → NextPlan = λ asked. works work place (vote_tasks votes asked) (λ ends. next (vote_ends asked ends)) in
-      works_quiet work place (data_tasks votes) (λ asked. records_votes work (vote_tasks votes asked) (cast asked))
-      (λ asked. records_votes_quiet work (vote_tasks votes asked) (cast asked) (works_quiet work place (vote_tasks votes asked) (λ ends. next (vote_ends asked ends)) (λ ends. h (vote_ends asked ends))))
+      works_quiet work place (data_tasks votes) (λ ends. casts_for work place votes next (vote_answers votes ends)) (λ ends. casts_for_quiet work place votes next h (vote_answers votes ends))
 
 -- ---- what is old is forgotten
 

@@ -25,7 +25,7 @@ use Rattle.duty_plans.specs.declared.task.Task.TheVariants as task
 use Rattle.duty_plans.specs.Choices.{aggregate_tasks, ends_after, reports}
 use Rattle.duty_plans.specs.Ends.{left_after, merged, results_of}
 use Rattle.duty_plans.specs.Tasks.{again_tasks, fresh}
-use Rattle.duty_plans.specs.Votes.{data_tasks, vote_ends, vote_tasks}
+use Rattle.duty_plans.specs.Votes.{answer_of, data_tasks, vote_answers, vote_ends, vote_tasks}
 use Rattle.duty_plans.specs.declared.setup.DutySetup.{DutySetup}
 use Rattle.duty_plans.specs.declared.work.SlotWork.{SlotWork}
 use Rattle.duty_turns.specs.declared.held.DutyEnd.TheVariants as end
@@ -35,7 +35,7 @@ use Rattle.duty_turns.specs.Recording.{allowed_of, recorded}
 use Rattle.duty_turns.specs.Standing.{Standing}
 use Rattle.duty_turns.specs.Times.{again_start, aggregates_start, is_first_slot, next_slot, slot_start, votes_start}
 use Rattle.duty_turns.specs.TurnSteps.{Fits, TurnCall, TurnPlan, TurnReply, TurnStep, LooksUp, Own, Owned, Refreshes, RefreshesLanes, Waits, Works, Writes, Due, Refreshed, LanesRefreshed, Woke, Worked, Wrote}
-use Rattle.duty_turns.specs.Turns.{Next, NextPlan, active_of, asked_plan, at_slot, blocks_in, calls, casts, choices_of, finish_plan, lanes_refreshed, own_reply, puts, records, records_allowed, records_votes, refreshed, refreshes, refreshes_lanes, is_worth_compacting, report_plan, shortens, sized, unless_short, votes_in, waits, with_active, woken, work_of, works}
+use Rattle.duty_turns.specs.Turns.{Next, NextPlan, active_of, asked_plan, at_slot, blocks_in, calls, casts, casts_for, choices_of, finish_plan, lanes_refreshed, own_reply, puts, records, records_allowed, records_votes, refreshed, refreshes, refreshes_lanes, is_worth_compacting, report_plan, shortens, sized, unless_short, votes_in, waits, with_active, woken, work_of, works}
 use Rattle.duty_safety.specs.OnTime.{AllWaits, IsWait, Wait, again_on_time, aggregates_on_time, cast_plan, chooses_on_time, done_plan, gathers_on_time, left_on_time, listed_on_time, on_time_turn, ready_on_time, told_on_time, tried_on_time}
 use Rattle.duty_safety.specs.Told.{AllDone, AllTold, AreGathered, AreKept, ArePublished, AreRecorded, AreTried, EachDoneIn, ToldIfNext}
 use Rattle.duty_safety.proofs.AskedLemmas.{At, asked_stays}
@@ -125,14 +125,16 @@ recorded_so work (t ∷ tasks) next steps x h =
 
 record Cast {X : Type 0} (work : SlotWork) (place : ℕ) (votes : List Duty) (f : List Ended → TurnPlan X) (steps : List TurnStep) (x : X) : Type 0 where
   asking : List (List DutyStep)
+  told : List Ended
   asked : List Ended
   records : List TurnStep
   voting : List (List DutyStep)
   cast : List Ended
   rest : List TurnStep
-  are : steps ≡ (Works work place (data_tasks votes), Worked asking (Some asked)) ∷ (records ++ (Works work place (vote_tasks votes asked), Worked voting (Some cast)) ∷ rest)
-  questions : AllDone work place (data_tasks votes) asking asked
-  each : length asked ≡ length (data_tasks votes)
+  are : steps ≡ (Works work place (data_tasks votes), Worked asking (Some told)) ∷ (records ++ (Works work place (vote_tasks votes asked), Worked voting (Some cast)) ∷ rest)
+  questions : AllDone work place (data_tasks votes) asking told
+  answers_are : asked ≡ vote_answers votes told
+  each : length asked ≡ length votes
   kept : AreRecorded work (vote_tasks votes asked) records
   done : AllDone work place (vote_tasks votes asked) voting cast
   on : Follows Fits (f (vote_ends asked cast)) rest (Some x)
@@ -143,23 +145,26 @@ step_between a b p q m r s e f g = cc
 
 casts_so : {X : Type 0} (work : SlotWork) (place : ℕ) (votes : List Duty) (f : List Ended → TurnPlan X) (steps : List TurnStep) (x : X) → Follows Fits (casts work place votes f) steps (Some x) → Cast work place votes f steps x
 casts_so {X} work place votes f steps x h =
-    let voting : List Ended → TurnPlan X = λ asked. works work place (vote_tasks votes asked) (λ cast. f (vote_ends asked cast)) in
-    let asked = works_so work place (data_tasks votes) (λ ends. records_votes work (vote_tasks votes ends) (voting ends)) steps x h in
-    let tasks = vote_tasks votes asked.1 in
-    let kept = recorded_so work tasks (voting asked.1) asked.2 x asked.6 in
-    let cast = works_so work place tasks (λ ends. f (vote_ends asked.1 ends)) kept.rest x kept.on in
-    let first : TurnStep = (Works work place (data_tasks votes), Worked asked.0 (Some asked.1)) in
+    let told = works_so work place (data_tasks votes) (λ ends. casts_for work place votes f (vote_answers votes ends)) steps x h in
+    let asked = vote_answers votes told.1 in
+    let tasks = vote_tasks votes asked in
+    let after : List Ended → TurnPlan X = λ cast. f (vote_ends asked cast) in
+    let kept = recorded_so work tasks (works work place tasks after) told.2 x told.6 in
+    let cast = works_so work place tasks after kept.rest x kept.on in
+    let first : TurnStep = (Works work place (data_tasks votes), Worked told.0 (Some told.1)) in
     let second : TurnStep = (Works work place tasks, Worked cast.0 (Some cast.1)) in
     record {
-      asking = asked.0;
-      asked = asked.1;
+      asking = told.0;
+      told = told.1;
+      asked = asked;
       records = kept.front;
       voting = cast.0;
       cast = cast.1;
       rest = cast.2;
-      are = step_between first second steps asked.2 kept.front kept.rest cast.2 asked.3 kept.are cast.3;
-      questions = asked.4;
-      each = asked.5;
+      are = step_between first second steps told.2 kept.front kept.rest cast.2 told.3 kept.are cast.3;
+      questions = told.4;
+      answers_are = refl;
+      each = length-map votes (answer_of (data_tasks votes) told.1);
       kept = kept.is;
       done = cast.4;
       on = cast.6;
@@ -187,21 +192,16 @@ all_due answers slot active ds due =
 fresh_count : (ds : List Duty) (ends : List Ended) → length ends ≡ length (fresh ds) → length ends ≡ length ds
 fresh_count ds ends h = h ∙ length-map ds task.Fresh
 
-data_count : (ds : List Duty) → length (data_tasks (votes_in ds)) ≡ length (votes_in ds)
-data_count [] = refl
-data_count (duty.Block row ∷ ds) = data_count ds
-data_count (duty.Vote row ∷ ds) = ap suc (data_count ds)
-
 vote_count : (asked cast : List Ended) → length (vote_ends asked cast) ≡ length asked
 vote_count [] cast = refl
 vote_count (e ∷ asked) cast = ap suc (vote_count asked (ends_after e.aggregation cast))
 
-as_many : (ds : List Duty) (proposed asked cast : List Ended) → length proposed ≡ length (fresh (blocks_in ds)) → length asked ≡ length (data_tasks (votes_in ds)) → blocks_in ds ++ votes_in ds ≡ ds
+as_many : (ds : List Duty) (proposed asked cast : List Ended) → length proposed ≡ length (fresh (blocks_in ds)) → length asked ≡ length (votes_in ds) → blocks_in ds ++ votes_in ds ≡ ds
     → length (proposed ++ vote_ends asked cast) ≡ length ds
 as_many ds proposed asked cast left right all =
     let both = ap (λ (l : List Duty). length l) all in
     let one = fresh_count (blocks_in ds) proposed left in
-    let two : length (vote_ends asked cast) ≡ length (votes_in ds) = vote_count asked cast ∙ right ∙ data_count ds in
+    let two : length (vote_ends asked cast) ≡ length (votes_in ds) = vote_count asked cast ∙ right in
     omega (arith, length-append proposed (vote_ends asked cast), length-append (blocks_in ds) (votes_in ds))
 
 count_merged : (ends again : List Ended) → length (merged ends again) ≡ length ends
@@ -351,7 +351,7 @@ told_due setup s active ds steps t due f =
     let looked : TurnStep = (LooksUp s.answers s.slot active, Due ds) in
     let first : TurnStep = (Works work 0 (fresh (blocks_in ds)), Worked blocks.0 (Some blocks.1)) in
     let second : TurnStep = (Waits moment, Woke woke.0) in
-    let third : TurnStep = (Works work place (data_tasks (votes_in ds)), Worked votes.asking (Some votes.asked)) in
+    let third : TurnStep = (Works work place (data_tasks (votes_in ds)), Worked votes.asking (Some votes.told)) in
     let fourth : TurnStep = (Works work place (vote_tasks (votes_in ds) votes.asked), Worked votes.voting (Some votes.cast)) in
     record {
       front = [];
@@ -363,6 +363,7 @@ told_due setup s active ds steps t due f =
       proposed = blocks.1;
       reached = woke.0;
       asking = votes.asking;
+      told = votes.told;
       asked = votes.asked;
       records = votes.records;
       voting = votes.voting;
@@ -377,6 +378,7 @@ told_due setup s active ds steps t due f =
       work_slot = refl;
       blocks = blocks.4;
       questions = votes.questions;
+      answers_are = votes.answers_are;
       kept = votes.kept;
       votes = votes.done;
       tried = tried;
@@ -403,6 +405,7 @@ more_told setup slot xs ys (Ok t) h = record {
   proposed = h.proposed;
   reached = h.reached;
   asking = h.asking;
+  told = h.told;
   asked = h.asked;
   records = h.records;
   voting = h.voting;
@@ -417,6 +420,7 @@ more_told setup slot xs ys (Ok t) h = record {
   work_slot = h.work_slot;
   blocks = h.blocks;
   questions = h.questions;
+  answers_are = h.answers_are;
   kept = h.kept;
   votes = h.votes;
   tried = h.tried;

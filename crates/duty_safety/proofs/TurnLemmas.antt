@@ -21,7 +21,7 @@ use Rattle.duty_plans.specs.declared.task.Task.{Task}
 use Rattle.duty_plans.specs.Choices.{aggregate_tasks, reports}
 use Rattle.duty_plans.specs.Ends.{merged, results_of}
 use Rattle.duty_plans.specs.Tasks.{again_tasks, fresh}
-use Rattle.duty_plans.specs.Votes.{data_tasks, vote_ends, vote_tasks}
+use Rattle.duty_plans.specs.Votes.{data_tasks, vote_answers, vote_ends, vote_tasks}
 use Rattle.duty_plans.specs.declared.setup.DutySetup.{DutySetup}
 use Rattle.duty_plans.specs.declared.work.SlotWork.{SlotWork}
 use Rattle.duty_turns.specs.declared.held.DutyEnd.{DutyEnd}
@@ -32,7 +32,7 @@ use Rattle.duty_turns.specs.Standing.{Standing}
 use Rattle.duty_pruning.specs.Pruning.{pruning_file}
 use Rattle.duty_turns.specs.Times.{again_start, aggregates_start, epoch_of, is_first_slot, is_missed, next_slot, slot_of, slot_start, votes_start}
 use Rattle.duty_turns.specs.TurnSteps.{Does, Fits, House, TurnCall, TurnPlan, TurnReply, TurnStep, LooksUp, Own, Refreshes, RefreshesLanes, Waits, Works, Writes, Woke, Wrote}
-use Rattle.duty_turns.specs.Turns.{Next, NextPlan, active_of, after_wait, again_plan, aggregates_plan, left_plan, tried_plan, asked_plan, at_moment, at_slot, blocks_in, calls, casts, choices_of, chooses_plan, close_plan, due_plan, exported, exports, failed_plan, finish_plan, found, gathers_plan, keys_of_turn, lanes_refreshed, listed_plan, merges, next_turn, own_reply, prunes, puts, ready_plan, records, records_allowed, records_votes, refreshed, refreshes, refreshes_lanes, is_worth_compacting, report_plan, shortens, sized, told_plan, turn_plan, turns_plan, unless_short, votes_in, votes_plan, waits, with_active, woken, woken_plan, work_of, worked, works, wrote}
+use Rattle.duty_turns.specs.Turns.{Next, NextPlan, active_of, after_wait, again_plan, aggregates_plan, left_plan, tried_plan, asked_plan, at_moment, at_slot, blocks_in, calls, casts, casts_for, choices_of, chooses_plan, close_plan, due_plan, exported, exports, failed_plan, finish_plan, found, gathers_plan, keys_of_turn, lanes_refreshed, listed_plan, merges, next_turn, own_reply, prunes, puts, ready_plan, records, records_allowed, records_votes, refreshed, refreshes, refreshes_lanes, is_worth_compacting, report_plan, shortens, sized, told_plan, turn_plan, turns_plan, unless_short, votes_in, votes_plan, waits, with_active, woken, woken_plan, work_of, worked, works, wrote}
 use Rattle.duty_safety.specs.OnTime.{AllWaits, AreOnTime, IsWait, Wait, WakesInSlot, again_on_time, aggregates_on_time, cast_plan, chooses_on_time, done_plan, gathers_on_time, left_on_time, listed_on_time, on_time_turn, on_time_turns, ready_on_time, told_on_time, tried_on_time}
 use Rattle.duty_safety.proofs.KeepLemmas.{Keeps, found_keeps, keeps_ask, keeps_bind, keeps_done, keeps_else, keeps_if, keeps_stop, lanes_refreshed_keeps, refreshed_keeps, woken_keeps, worked_keeps}
 use Rattle.duty_safety.proofs.AskedLemmas.{At, asked_stays}
@@ -148,14 +148,19 @@ records_votes_keep W first work (t ∷ tasks) p q h =
     keeps_ask W (From first) (Own (Calls call.Keys)) (λ r. records_allowed work (t ∷ tasks) (own_reply r) p) (λ r. records_allowed work (t ∷ tasks) (own_reply r) q)
     (λ r is. records_free_keep W first work (t ∷ tasks) (own_reply r) p q h)
 
+casts_for_keep : (W : Wait) (first : ℕ) (work : SlotWork) (place : ℕ) (votes : List Duty) (f g : List Ended → NextPlan) → ((ends : List Ended) → Keeps W (From first) (f ends) (g ends))
+    → (asked : List Ended) → Keeps W (From first) (casts_for work place votes f asked) (casts_for work place votes g asked)
+casts_for_keep W first work place votes f g h asked =
+    let tasks = vote_tasks votes asked in
+    let old : List Ended → NextPlan = λ cast. f (vote_ends asked cast) in
+    let new : List Ended → NextPlan = λ cast. g (vote_ends asked cast) in
+    records_votes_keep W first work tasks (works work place tasks old) (works work place tasks new) (works_keep W first work place tasks old new (λ cast. h (vote_ends asked cast)))
+
 casts_keep : (W : Wait) (first : ℕ) (work : SlotWork) (place : ℕ) (votes : List Duty) (f g : List Ended → NextPlan) → ((ends : List Ended) → Keeps W (From first) (f ends) (g ends))
     → Keeps W (From first) (casts work place votes f) (casts work place votes g)
 casts_keep W first work place votes f g h =
-    let old : List Ended → NextPlan = λ asked. works work place (vote_tasks votes asked) (λ cast. f (vote_ends asked cast)) in
-    let new : List Ended → NextPlan = λ asked. works work place (vote_tasks votes asked) (λ cast. g (vote_ends asked cast)) in
-    works_keep W first work place (data_tasks votes) (λ asked. records_votes work (vote_tasks votes asked) (old asked)) (λ asked. records_votes work (vote_tasks votes asked) (new asked))
-    (λ asked. records_votes_keep W first work (vote_tasks votes asked) (old asked) (new asked)
-    (works_keep W first work place (vote_tasks votes asked) (λ cast. f (vote_ends asked cast)) (λ cast. g (vote_ends asked cast)) (λ cast. h (vote_ends asked cast))))
+    works_keep W first work place (data_tasks votes) (λ ends. casts_for work place votes f (vote_answers votes ends)) (λ ends. casts_for work place votes g (vote_answers votes ends))
+    (λ ends. casts_for_keep W first work place votes f g h (vote_answers votes ends))
 
 -- ---- a turn
 
