@@ -1,8 +1,8 @@
 #!/bin/sh
-# Nanoseconds a check of a vote among 10, 1,000 and 1,000,000 kept votes of a key, at random places, beside SQLite looking
+# Nanoseconds a check of a vote among 10, 1,000 and 1,000,000 kept votes of a key, at random places, next to SQLite looking
 # up the same targets by an index on (key, target): by a prepared statement from Python, one a lookup, and as one statement
 # that looks them all up by itself. SQLite only looks for a vote of the target, and not for votes that surround. Then a
-# merge of a file of 1,000 votes into the votes that are kept, and 10,000 random records beside a plain walk.
+# merge of a file of 1,000 votes into the votes that are kept, and 10,000 random records next to a plain walk.
 # Run it at the top of the repository. The program is built as lay_out.sh says.
 set -eu
 work=$(mktemp -d)

@@ -1,6 +1,6 @@
 #!/bin/sh
 # Seconds and peak memory of opening a journal of 1,000,000 votes of 1,000 keys, a batch each, of compacting it, and of opening what that
-# leaves, beside SQLite's VACUUM of the same rows, by Python's sqlite3, in the same run. A compaction is one line of a session, from its request
+# leaves, next to SQLite's VACUUM of the same rows, by Python's sqlite3, in the same run. A compaction is one line of a session, from its request
 # to its answer. Memory is the peak of the process; of the compaction also what is held before it.
 # Run it at the top of the repository. A program that is built is measured as it stands, else it is built first. The first argument, if any,
 # divides the number of votes, the second is a folder for the files.

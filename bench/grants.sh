@@ -1,10 +1,10 @@
 #!/usr/bin/env bash
-# Grants per second of the built program with a journal, beside what the disk allows and beside SQLite, in one run.
+# Grants per second of the built program with a journal, next to what the disk allows and next to SQLite, in one run.
 # The limit: a loop that does the two writes and two fsyncs of a grant, of the same sizes, on a file of the same folder. SQLite:
 # Python's sqlite3 inserting one row of the same columns a transaction with synchronous=FULL, in its default journal mode and in WAL.
-# Then: opening a journal of 100,000 batches of one block, beside reading the file; and what the votes of one slot wait for the disk (waiting.sh).
+# Then: opening a journal of 100,000 batches of one block, next to reading the file; and what the votes of one slot wait for the disk (waiting.sh).
 # A program that is built is measured as it stands, else it is built first.
-# Usage: bench/grants.sh [GRANTS] [FOLDER]: so many grants (5000), the files in this folder (a temporary one).
+# Usage: bench/grants.sh [GRANTS] [FOLDER]: that many grants (5000), the files in this folder (a temporary one).
 set -eu
 cd "$(dirname "$0")/.."
 grants=${1:-5000}

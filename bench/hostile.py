@@ -7,7 +7,7 @@ from hostile_inputs import KEY, PATHS, SLOT
 from hostile_readings import GENESIS, TOKEN, Client, compact
 
 PROGRAM, EACH = sys.argv[1], sys.argv[2]
-# The bounds of an input: processor time, and memory above what the program has and so many times the input. The C library takes memory
+# The bounds of an input: processor time, and memory above what the program has and that many times the input. The C library takes memory
 # in steps of 132 KiB, and a thread's first in a step of its own.
 MICROS, TIMES, SLACK = 50000, 3, 600
 
@@ -32,7 +32,7 @@ class Tally:
         self.over, self.late = collections.Counter(), collections.Counter()
 
     def count(self, kind, name, size, micros, wall, extra, peak, data=b''):
-        """An input of this size took so many microseconds of processor time, so many went by, and so many KiB more memory were held at its peak."""
+        """An input of this size took that many microseconds of processor time, that many went by, and that many KiB more memory were held at its peak."""
         self.tried += 1
         self.kinds[kind] += 1
         self.peak = max(self.peak, peak)
@@ -79,7 +79,7 @@ class Living:
         self.earlier, self.data = b'', b''
 
     def limited(self, seconds=LIMIT):
-        """Kills the process after so many seconds, unless what this gives is cancelled before."""
+        """Kills the process after that many seconds, unless what this gives is cancelled before."""
         timer = threading.Timer(seconds, self.expire, [seconds])
         timer.daemon = True
         timer.start()

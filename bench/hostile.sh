@@ -8,7 +8,7 @@
 # size. A process that ends early, or gives no answer within 20 seconds and is killed, is a difference: the input that it had is named, with the
 # status or the signal. README.md has what is compared and what is not ("Changed inputs").
 # Needs gcc (hostile_each.c) and a program that is built: PROGRAM=PATH names another than crates/validator/out/validator. Peers stand on loopback.
-# Usage: bench/hostile.sh [INPUTS] [SEED] [KIND ..]: so many inputs a kind (100,000), drawn from this seed (1), in JOBS processes (2).
+# Usage: bench/hostile.sh [INPUTS] [SEED] [KIND ..]: that many inputs a kind (100,000), drawn from this seed (1), in JOBS processes (2).
 set -eu
 cd "$(dirname "$0")/.."
 program=${PROGRAM:-$PWD/crates/validator/out/validator}

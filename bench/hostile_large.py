@@ -55,12 +55,12 @@ def responses(text, name):
     yield 'a response with ' + name, inputs.response(200, b'{"signature":' + text + b'}')
 
 def head_of_response(status, size):
-    """A head of so many bytes, with as many fields as it may have."""
+    """A head of that many bytes, with as many fields as it may have."""
     front = b'HTTP/1.1 %d Wait\r\n' % status + (b'X: ' + b'y' * 1000 + b'\r\n') * (reading.FIELD_LIMIT - 1) + b'X: '
     return inputs.padded(front, b'y', b'\r\n\r\n', size)
 
 def chunks_of_lines(body, size):
-    """The body in chunks of four bytes, each of whose lines has so many bytes."""
+    """The body in chunks of four bytes, each of whose lines has that many bytes."""
     pieces = [body[at:at + 4] for at in range(0, len(body), 4)]
     lines = [inputs.padded(b'%x;' % len(piece), b'x', b'\r\n', size) + piece + b'\r\n' for piece in pieces]
     return b'HTTP/1.1 200 OK\r\nTransfer-Encoding: chunked\r\n\r\n' + b''.join(lines) + inputs.padded(b'0;', b'x', b'\r\n', size) + b'\r\n'

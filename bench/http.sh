@@ -1,6 +1,6 @@
 #!/bin/sh
 # Reading requests over a link in memory: messages a second of a request of 500 bytes, and MB/s of one of 16 MiB by its
-# length and in chunks of 1,024 and of 65,536 bytes, beside Python's standard library on the same bytes in the same run.
+# length and in chunks of 1,024 and of 65,536 bytes, next to Python's standard library on the same bytes in the same run.
 # Python reads requests by length with http.server's parser. It has no reader of chunked requests, so there http.client
 # reads a response with the same fields and the same chunks. Last, how long a flood of 65,536 empty lines takes.
 # Run it at the top of the repository. The program is built as lay_out.sh says.

@@ -1,5 +1,5 @@
 #!/bin/sh
-# Speed and peak memory of reading large interchange files, alone and with writing them back, beside what Python's json.load and jq take to
+# Speed and peak memory of reading large interchange files, alone and with writing them back, next to what Python's json.load and jq take to
 # read the same files and SQLite, by Python's sqlite3, to insert the same rows into a file in one transaction (without the reading of any text),
 # in the same run: a file of 10,000 keys with 100 entries each, one of a single key with 1,000,000 entries, and one of 2,000,000 blocks
 # of 13 bytes each. Speeds are bytes of the interchange file by the whole time of the process, and by the processor time that it took; memory is

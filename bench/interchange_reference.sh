@@ -1,11 +1,11 @@
 #!/bin/sh
-# Random interchange files read by the program beside a plain reading in Python, which builds the value of the whole text by json.loads
+# Random interchange files read by the program next to a plain reading in Python, which builds the value of the whole text by json.loads
 # and looks into it, written from EIP-3076 and docs/FORMATS.md and not from the code. Names and values are written with escapes,
 # members come twice and in any order, numbers overflow, lists nest, elements are of other kinds, and bytes are broken. Of a file that is
 # read the written text has to be the same, of one that is refused the reason. Prints what was compared; the first difference is shown
 # and ends it with status 1.
 # The program is built as lay_out.sh says.
-# Usage: bench/interchange_reference.sh [FILES] [SEED]: so many files (10,000) of random numbers from this seed (1).
+# Usage: bench/interchange_reference.sh [FILES] [SEED]: that many files (10,000) of random numbers from this seed (1).
 set -eu
 cd "$(dirname "$0")/.."
 . bench/lay_out.sh

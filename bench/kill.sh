@@ -4,7 +4,7 @@
 # moment; after each restart each slot that was answered as signed since the last look, and the highest of before, is proposed with
 # another root and has to be refused. Prints the kills and how many signed slots were lost, which is to be 0.
 # A program that is built is run as it stands, else it is built first.
-# Usage: bench/kill.sh [KILLS] [FOLDER]: so many kills (50), the journal in this folder (a temporary one).
+# Usage: bench/kill.sh [KILLS] [FOLDER]: that many kills (50), the journal in this folder (a temporary one).
 set -eu
 cd "$(dirname "$0")/.."
 kills=${1:-50}

@@ -3,7 +3,7 @@ nothing is refused, and which calls of the signing service and of the node it ma
 no memory to connect, the answers have to be those of a call that fails there."""
 from faulty_runs import *
 
-# A row that is wrong and took so many seconds is run anew, twice at most: on a busy machine `serve` may come too late for a slot.
+# A row that is wrong and took that many seconds is run anew, twice at most: on a busy machine `serve` may come too late for a slot.
 LATE = 6
 STEP = int(os.environ.get('STEP', '1'))
 STEP_ON = int(os.environ.get('STEP_ON', STEP))

@@ -506,7 +506,7 @@ def next_to_hanging(lanes, keys, each):
     return proxy
 
 def growth(proxy, requests=2000):
-    """Files and memory before and after so many signatures."""
+    """Files and memory before and after that many signatures."""
     time.sleep(1)
     for epoch in range(200):
         exchange(proxy.port, sign_request(epoch % STORM_KEYS, vote_body(1_000_000 + epoch, 1_000_001 + epoch)))
@@ -578,14 +578,14 @@ def scene_peers():
     proxy.stop()
 
 def scene_lists():
-    """Peers that hang, some of which read nothing of a list of so many keys that the system does not take it for them at once."""
+    """Peers that hang, some of which read nothing of a list of that many keys that the system does not take it for them at once."""
     for lanes in (LANES, None):
         next_to_hanging(lanes, 1000, 10).stop()
 
 # ---- ends
 
 def scene_ends():
-    """How it ends by SIGTERM, and after so many connections as were asked for."""
+    """How it ends by SIGTERM, and after that many connections as were asked for."""
     proxy = Proxy('ends', 1)
     print('SIGTERM: status %d, standard output %r' % proxy.stop())
     proxy.words += ['--connections', '3']

@@ -1,11 +1,11 @@
 #!/usr/bin/env bash
-# Random sessions of the built program beside a plain reading of EIP-3076 in Python, written from the standard and not from the code:
+# Random sessions of the built program next to a plain reading of EIP-3076 in Python, written from the standard and not from the code:
 # each imported file is kept apart and its conditions are looked at file by file. Slots and epochs are small, so that doubles, surrounds
 # and repeats abound. The sessions of a round go over one journal, each a run of its own; between them `merge` and `show` are run.
 # Each answer, each exported file and each line of `show` has to be what the reading says. Prints what was compared; the first
 # difference is shown and ends it with status 1.
 # A program that is built is run as it stands, else it is built first.
-# Usage: bench/reference.sh [ROUNDS] [SEED]: so many rounds (100) of random numbers from this seed (1).
+# Usage: bench/reference.sh [ROUNDS] [SEED]: that many rounds (100) of random numbers from this seed (1).
 set -eu
 cd "$(dirname "$0")/.."
 program=$PWD/crates/validator/out/validator

@@ -1,10 +1,10 @@
 #!/usr/bin/env bash
-# Rehearsals of the built program beside a plain reading of their rules (docs/FORMATS.md) in Python, written from these and not from the
+# Rehearsals of the built program next to a plain reading of their rules (docs/FORMATS.md) in Python, written from these and not from the
 # code: each imported book is kept apart, EIP-3076's conditions are looked at book by book, and a stop is a place among the four calls of
 # the disk by which a vote gets into a journal. All six lines have to be what the reading counts, and the same bytes a second time. Prints
 # what was compared; the first difference is shown and ends it with status 1.
 # A program that is built is run as it stands, else it is built first.
-# Usage: bench/rehearsal.sh [RUNS] [SEED]: the largest rehearsal of number 7, and so many (50) small ones drawn from this seed (1).
+# Usage: bench/rehearsal.sh [RUNS] [SEED]: the largest rehearsal of number 7, and that many (50) small ones drawn from this seed (1).
 set -eu
 cd "$(dirname "$0")/.."
 program=$PWD/crates/validator/out/validator

@@ -4,14 +4,15 @@
 # signature, and the keys are listed meanwhile. Then one key is deleted with its file, and taken in by a second journal, which must refuse
 # what was signed here. A second process over the same journal must be refused, too. Last, how long the votes of a slot take, from its third
 # to the last post, for each number of votes: in one lane with a service that answers at once, and in 1, 4 and 16 lanes with one that takes
-# 20 ms. Beside it stand the best that so many lanes allow, which is the votes of the fullest lane, each with the servers' own time for its
-# three requests (from the accepted connection to the answer, the mean of the run), and a plain client, a process for each lane that sends
-# as many requests of the same kinds over plain sockets, one after another. Votes that were begun in their slot are cast to the last, past its
+# 20 ms. All votes are of one committee, so one question is asked for what they are to vote. Next to it stand the best that this many lanes allow,
+# which is that question and then the votes of the fullest lane, each with the servers' own time for its two requests (from the accepted
+# connection to the answer, the mean of the run), and a plain client: it asks the question, and then a process for each lane sends as many
+# requests of the same kinds over plain sockets, one after another. Votes that were begun in their slot are cast to the last, past its
 # end too, 8 s after its third: the last column is how many were posted before. Then 100 votes of a slot are cast with --aggregate, of whose
 # validators about a sixteenth are chosen, in 1, 4 and 16 lanes with a service that takes 10, 15 or 20 ms: from two thirds of the slot to the last
-# aggregate, beside the best that so many lanes allow, which is the aggregates of the fullest lane with the servers' time for their three
-# requests, and what the votes and choices of the fullest lane take, by the servers' time for their four, over the 4 seconds before; and beside
-# a plain client. Each validator that is chosen must post once, with its proof, the votes' data and a signature of the service, and no other
+# aggregate, next to the best that this many lanes allow, which is the aggregates of the fullest lane with the servers' time for their three
+# requests, and what the question, the votes and the choices of the fullest lane take, by the servers' time for them, over the 4 seconds before;
+# and next to a plain client. Each validator that is chosen must post once, with its proof, the votes' data and a signature of the service, and no other
 # one. It takes about ten minutes, and three for the aggregates alone.
 # Usage: bench/serve.sh [VOTES ..|aggregates]     (10 100 1000 where none is given; PROGRAM=PATH for another program)
 set -eu
@@ -92,14 +93,14 @@ def taken_in_done_and_deleted():
 # ---- how long votes take
 
 def voted(journal, count, lanes):
-    """The seconds from the third of a slot to each post, in order, and the servers' own time for a vote: the mean."""
+    """The seconds from the third of a slot to each post, in order, and the servers' own time for the question, and for a vote: the mean."""
     child, third = vote_once(journal, count, lanes)
     lines, _ = ended(child)
     wanted('lines:\n' + lines[:500], lines == ''.join('1 vote %s sent\n' % key(n) for n in range(count)))
     requests = node.take() + signer.take()
     took = [[r.ended - r.begun for r in requests if r.target.startswith(path)] for path in (DATA, SIGN, VOTES)]
-    wanted('requests of each kind: %s' % [len(of) for of in took], [len(of) for of in took] == [count] * 3)
-    return sorted(r.ended - third for r, _ in posted(requests)), sum(map(sum, took)) / count
+    wanted('requests of each kind: %s' % [len(of) for of in took], [len(of) for of in took] == [1, count, count])
+    return sorted(r.ended - third for r, _ in posted(requests)), sum(took[0]), sum(map(sum, took[1:])) / count
 
 def round_trip(server, method, target, body):
     text = json.dumps(body).encode() if body is not None else b''
@@ -115,9 +116,14 @@ asked = {'type': 'ATTESTATION', 'fork_info': {'fork': FORK, 'genesis_validators_
 def trips(count, begin):
     time.sleep(begin - time.time())
     for _ in range(count):
-        round_trip(node, 'GET', DATA + '?slot=1&committee_index=0', None)
         round_trip(signer, 'POST', SIGN + key(0), asked)
         round_trip(node, 'POST', VOTES, [vote])
+
+def asks_once():
+    """The seconds of the question for what the votes' committee is to vote, as a plain client asks it."""
+    begun = time.time()
+    round_trip(node, 'GET', DATA + '?slot=1&committee_index=0', None)
+    return time.time() - begun
 
 def plain(count, lanes, trips, target):
     """The seconds of a plain client: a process for each lane, which sends the requests of its votes or aggregates one after another."""
@@ -134,8 +140,8 @@ def votes_table(counts):
     for delay, lanes in (0, 1), (20, 1), (20, 4), (20, 16):
         signer.set(delay=delay / 1000)
         for count in counts:
-            at, own = voted('v%d-%d-%d' % (delay, lanes, count), count, lanes)
-            best, beside, in_slot = math.ceil(count / lanes) * own, plain(count, lanes, trips, VOTES), sum(t < SLOT - THIRD for t in at)
+            at, question, own = voted('v%d-%d-%d' % (delay, lanes, count), count, lanes)
+            best, beside, in_slot = question + math.ceil(count / lanes) * own, asks_once() + plain(count, lanes, trips, VOTES), sum(t < SLOT - THIRD for t in at)
             print('%d; %d; %d; %.3f; %.3f; %.2f; %.3f; %.2f; %d' % (delay, lanes, count, at[-1], best, at[-1] / best, beside, at[-1] / beside, in_slot), flush=True)
 
 # ---- how long aggregates take
@@ -143,8 +149,8 @@ def votes_table(counts):
 MEMBERS = 256
 
 def aggregated(journal, count, lanes):
-    """The seconds from the third of a slot to the last choice, and from its two thirds to each aggregate, in order; and the servers' own time for a vote with its
-    choice, and for an aggregate: the means."""
+    """The seconds from the third of a slot to the last choice, and from its two thirds to each aggregate, in order; and the servers' own time for the question,
+    for a vote with its choice, and for an aggregate: the means of these."""
     child, third = vote_once(journal, count, lanes, options=('--aggregate',), committee=MEMBERS)
     lines, _ = ended(child)
     asked, signatures = node.take(), signer.take()
@@ -164,9 +170,11 @@ def aggregated(journal, count, lanes):
     kinds = [[r for r in asked if r.target.startswith(AGGREGATE + '?')], [r for r in signatures if r.body['type'] == 'AGGREGATE_AND_PROOF'], posts]
     wanted('requests of each kind: %s' % [len(of) for of in kinds], [len(of) for of in kinds] == [len(chosen)] * 3)
     choices = [r for r in signatures if r.body['type'] == 'AGGREGATION_SLOT']
-    before = [r for r in asked if r.target.startswith((DATA, VOTES))] + [r for r in signatures if r.body['type'] == 'ATTESTATION'] + choices
-    own = [sum(r.ended - r.begun for r in of) for of in (before, sum(kinds, []))]
-    return max(r.ended for r in choices) - third, sorted(r.ended - third - 4 for r in posts), own[0] / count, own[1] / len(chosen)
+    questions = [r for r in asked if r.target.startswith(DATA)]
+    wanted('%d questions in place of one' % len(questions), len(questions) == 1)
+    before = [r for r in asked if r.target.startswith(VOTES)] + [r for r in signatures if r.body['type'] == 'ATTESTATION'] + choices
+    own = [sum(r.ended - r.begun for r in of) for of in (questions, before, sum(kinds, []))]
+    return max(r.ended for r in choices) - third, sorted(r.ended - third - 4 for r in posts), own[0], own[1] / count, own[2] / len(chosen)
 
 proof = {'message': {'aggregator_index': '0', 'aggregate': {'aggregation_bits': '0x' + 'ff' * 256 + '01', 'data': data_at(1), 'signature': '0x' + '77' * 96}, 'selection_proof': '0x' + '77' * 96},
          'signature': signature_of(key(0), ZERO)}
@@ -183,8 +191,8 @@ def aggregates_table():
     print('ms a signature; lanes; votes; aggregates; seconds from the third of the slot to the last choice; from its two thirds to the last aggregate; best; ratio; plain client; ratio', flush=True)
     for delay, lanes in ((delay, lanes) for delay in (10, 15, 20) for lanes in (1, 4, 16)):
         signer.set(delay=delay / 1000)
-        chosen_by, at, before, own = aggregated('a%d-%d' % (delay, lanes), 100, lanes)
-        late = max(0, math.ceil(100 / lanes) * before - 4)
+        chosen_by, at, question, before, own = aggregated('a%d-%d' % (delay, lanes), 100, lanes)
+        late = max(0, question + math.ceil(100 / lanes) * before - 4)
         best, beside = late + math.ceil(len(at) / lanes) * own, late + plain(len(at), lanes, aggregate_trips, AGGREGATES)
         print('%d; %d; 100; %d; %.3f; %.3f; %.3f; %.2f; %.3f; %.2f' % (delay, lanes, len(at), chosen_by, at[-1], best, at[-1] / best, beside, at[-1] / beside), flush=True)
 

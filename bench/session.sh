@@ -1,7 +1,7 @@
 #!/usr/bin/env bash
 # Runs the built program on a generated session and prints requests per second and peak memory.
 # A program that is built is measured as it stands, else it is built first.
-# Usage: bench/session.sh [KEYS] [BLOCKS]: so many keys are activated, and so many blocks of growing slots proposed in turn.
+# Usage: bench/session.sh [KEYS] [BLOCKS]: that many keys are activated, and that many blocks of growing slots proposed in turn.
 set -eu
 cd "$(dirname "$0")/.."
 keys=${1:-1000}

@@ -1,7 +1,7 @@
 #!/usr/bin/env bash
 # The built program with a signing service, over TCP: a small HTTP server in Python answers the signing
 # call; each signature must be the server's, and each request's body must carry the type, the fork and the
-# root. In the midst the server is killed and started again. It prints signatures a second beside a Python
+# root. In the midst the server is killed and started again. It prints signatures a second next to a Python
 # client and a plain socket that send the same requests to the same server, and what the service's part of a
 # signature takes: the time of a session in memory with the service, less that of one whose signer is in memory.
 # Usage: bench/signer.sh [BLOCKS]

@@ -23,6 +23,15 @@ def signature_of(pubkey, root):
 # A request: when its connection was accepted, when the last byte of its answer was handed over, what it asked, and the status of the answer.
 Request = collections.namedtuple('Request', 'begun ended method target body status')
 
+class Listening(socket.socket):
+    """Notes when each connection was accepted, by its file number: the loop makes a `Connection` of it some turns later."""
+    accepted = {}
+
+    def accept(self):
+        link, place = super().accept()
+        self.accepted[link.fileno()] = time.time()
+        return link, place
+
 class Connection(asyncio.Protocol):
     """Answers one request, one that signs or asks what a committee is to vote after a delay, and notes it."""
 
@@ -30,7 +39,7 @@ class Connection(asyncio.Protocol):
         self.answer, self.state, self.noted, self.held = answer, state, noted, b''
 
     def connection_made(self, link):
-        self.link, self.begun = link, time.time()
+        self.link, self.begun = link, Listening.accepted.pop(link.get_extra_info('socket').fileno())
 
     def data_received(self, piece):
         self.held += piece
@@ -74,7 +83,7 @@ class Server:
     """Answers requests by what was set, in a process of its own, and hands out what it was asked."""
 
     def __init__(self, answer):
-        listening = socket.create_server(('127.0.0.1', 0))
+        listening = Listening(fileno=socket.create_server(('127.0.0.1', 0)).detach())
         self.port = listening.getsockname()[1]
         self.url = 'http://127.0.0.1:%d' % self.port
         self.pipe, other = multiprocessing.Pipe()
@@ -193,7 +202,7 @@ def is_aggregator(signature, members):
     return int.from_bytes(hashlib.sha256(bytes.fromhex(signature[2:])).digest()[:8], 'little') % max(1, members // 16) == 0
 
 def vote_once(journal, count, lanes, connections=0, options=(), **due):
-    """Starts the program with so many keys, each of which votes in slot 1; gives it, and the moment of the third of that slot."""
+    """Starts the program with that many keys, each of which votes in slot 1; gives it, and the moment of the third of that slot."""
     sessions(journal, [{'op': 'activate', 'pubkey': key(n)} for n in range(count)])
     begun = int(time.time()) - 8
     node.set(genesis_time=begun, blocks={}, votes={n: 1 for n in range(count)}, **due)

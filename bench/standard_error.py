@@ -42,7 +42,7 @@ def unfit(lines, quiet=False):
     return [line for line in lines if not REFUSED.fullmatch(line) and not any(pattern.fullmatch(line) and not (quiet and is_news) for _, pattern, is_news in FORMS)]
 
 def amiss(lines, wanted, what='standard error'):
-    """What is wrong with lines each of which has to fit one of these patterns, the first that it fits, and so many of them each: the least number and the
+    """What is wrong with lines each of which has to fit one of these patterns, the first that it fits, and that many of them each: the least number and the
     most, None where there is no most."""
     counts, wrong = [0] * len(wanted), []
     for line in lines:

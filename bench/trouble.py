@@ -92,7 +92,7 @@ def shown(body):
     return re.escape(''.join(chr(byte) if 32 <= byte < 127 else '.' for byte in body[:200]))
 
 def one_key(name, treat, cause, line, tries=2, seconds=(0, 1)):
-    """A signing service misbehaves for one key: its duties alone are lost, each after so many requests, with a line for each, and each of them took from so
+    """A signing service misbehaves for one key: its duties alone are lost, each after that many requests, with a line for each, and each of them took from so
     many seconds to so many."""
     front = Front(treat, key(1))
     run = begin(name, signing=front.url)
@@ -181,7 +181,7 @@ def answered(request, wait=0, ends=False):
     return came, time.time() - begun
 
 def not_so(what, request, wanted, within=2, ends=False):
-    """What is wrong where this is not the reply to a request, or comes later than within so many seconds."""
+    """What is wrong where this is not the reply to a request, or comes later than within that many seconds."""
     came, took = answered([request], ends=ends)
     return ['%s: %r in place of %r' % (what, came[:200], wanted[:200])] * (came != wanted) + ['%s: after %.1f s' % (what, took)] * (took >= within)
 
@@ -436,7 +436,7 @@ def full_disk(name):
 # ---- a clock that is set
 
 def stepped():
-    """What sets the clock of a program so many seconds ahead, and the words that the program is started by."""
+    """What sets the clock of a program that many seconds ahead, and the words that the program is started by."""
     shim, offset = os.path.join(folder, 'step_clock.so'), os.path.join(folder, 'offset')
     subprocess.run(['gcc', '-shared', '-fPIC', '-O2', '-o', shim, os.path.join(os.path.dirname(os.path.abspath(__file__)), 'step_clock.c')], check=True)
     def step(seconds):

@@ -22,7 +22,7 @@ class Between(Peer):
                 link.sendall(piece)
 
 class Aggregating(Run):
-    """A run in which so many keys vote in slot 1."""
+    """A run in which that many keys vote in slot 1."""
 
     def __init__(self, name, count=4, committee=16, lanes=4, nodes=(), signing=None, before=(), asked=(), **due):
         given_in = sessions(name, [{'op': 'activate', 'pubkey': key(n)} for n in range(count)] + list(asked))

@@ -205,7 +205,7 @@ class Run:
         return [] if self.quiet else found
 
     def amiss(self, told=(), other=(), nobody=(), lines=None, status=0, posts=(), keys=(), by=None):
-        """What is wrong with all that was to be seen, once all has ended, by this moment at the latest. `told` has what standard error has beside the start and the
+        """What is wrong with all that was to be seen, once all has ended, by this moment at the latest. `told` has what standard error has next to the start and the
         epochs, `other` how those duties ended that were not sent, `nobody` the lines of questions that no node answered, and `posts` how often those duties were
         posted that were not posted once. Where `lines` has what the output has, the run may have ended before the line or the post of a duty."""
         other, is_cut = dict(other), lines is not None

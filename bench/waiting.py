@@ -1,5 +1,5 @@
 """What the votes of a slot wait for the disk (`waiting.sh`)."""
-import shutil, statistics
+import collections, shutil, statistics
 from stand_ins import *
 
 count = int(sys.argv[2]) if len(sys.argv) > 2 else 1000
@@ -81,7 +81,10 @@ def slot(microseconds, lanes, delay=0):
     syncs = os.path.getsize(counted) - synced
     wanted('%d syncs for the votes of a slot in place of two' % syncs, syncs == 2)
     questions = [r for r in asked if r.target.startswith(DATA)]
-    wanted('%d questions in place of one for each of %d committees' % (len(questions), COMMITTEES), len(questions) == min(count, COMMITTEES))
+    about = sorted(int(r.target.split('committee_index=')[1].split('&')[0]) for r in questions)
+    wanted('questions for the committees %s in place of one for each of %d' % (about, COMMITTEES), about == list(range(min(count, COMMITTEES))))
+    cast = collections.Counter(int(body['data']['index']) for _, body in posted(asked))
+    wanted('votes by committee: %s' % cast, cast == collections.Counter(n % COMMITTEES for n in range(count)))
     told = max(r.ended for r in questions)
     first = min(r.begun for r in signed_for if r.target.startswith(SIGN))
     return first - told, first - third, max(r.ended for r in posts) - third, os.path.getsize(file) - size

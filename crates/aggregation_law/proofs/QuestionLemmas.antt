@@ -1,6 +1,6 @@
 -- The questions for what committees are to vote, and how they ended for each vote.
 use Rattle.std.proofs.Common.{◌≡◌, ◌⊎◌, inl, inr, ℕ, zero, suc, ◌<◌, ◌==◌, Bool, true, false, cond, not, nat_lt, List, [], ◌∷◌, length, get_or, drop, map, position, Option, Some, None, is_none, refl, sym, ◌∙◌, ap, subst, arith}
-use Rattle.std.specs.Prelude.{if◌then◌else◌, AllPairs, Contains, filter}
+use Rattle.std.specs.Prelude.{◌++◌, if◌then◌else◌, AllPairs, Contains, filter}
 use Rattle.std.proofs.lemmas.Bool.{cond-true, eq-eqb, eqb-true, lt-ltb, ne_eqb}
 use Rattle.std.proofs.lemmas.List.Kept.{AllPairs-cons, AllPairs-filter}
 use Rattle.std.proofs.lemmas.List.Quantifiers.{position-Some}
@@ -9,6 +9,7 @@ use Rattle.phase0_types.specs.declared.attestation.AttestationData.{AttestationD
 use Rattle.protect_record.proofs.MemberLemmas.{All-from_contains, contains_cases, contains_first, contains_later, contains_none}
 use Rattle.protect_record.proofs.UniteLemmas.{contains_filter, contains_from_filter}
 use Rattle.node_calls.specs.declared.answer.AttesterRow.{AttesterRow}
+use Rattle.duty_schedule.specs.declared.checks.DataDiffers.{DataDiffers}
 use Rattle.duty_schedule.specs.Checking.{data_members, first_that_differs}
 use Rattle.duty_schedule.specs.declared.rows.Duty.{Duty}
 use Rattle.duty_schedule.specs.declared.rows.Duty.TheVariants as duty
@@ -20,7 +21,7 @@ use Rattle.duty_plans.specs.declared.result.DutyResult.TheVariants as ended
 use Rattle.duty_plans.specs.declared.task.Task.{Task}
 use Rattle.duty_plans.specs.declared.task.Task.TheVariants as task
 use Rattle.duty_plans.specs.Ends.{over}
-use Rattle.duty_plans.specs.Votes.{answer_at, answer_by, answer_of, asks_for, data_tasks, is_own}
+use Rattle.duty_plans.specs.Votes.{answer_at, answer_by, answer_of, asks_for, data_tasks, is_own, vote_answers, vote_by, vote_tasks}
 use Rattle.duty_turns.specs.Turns.{votes_in}
 use Rattle.aggregation_law.specs.Questions.{AreApart}
 use Rattle.aggregation_law.specs.Reasons.{IsPair}
@@ -161,15 +162,58 @@ asked_at row asked tasks i same apart within is =
     let first = position_or_len_is (asks_for row) tasks i d (omega (arith, within)) before (λ w. here) in
     ap (λ (k : ℕ). cond (nat_lt k (length tasks)) (Some k) None) first ∙ cond-true (nat_lt i (length tasks)) (Some i) None (lt-ltb i (length tasks) within)
 
-is_none_at : {X : Type 0} (o : Option X) → o ≡ None → is_none o ≡ true
-is_none_at {X} o e = ap (λ (x : Option X). is_none x) e
+-- what the end of its committee's question leaves of a vote
+module _ (ds : List Duty) (ends : List Ended) (row asked : AttesterRow) (e : Ended) (pair : IsPair (data_tasks ds) ends (task.Data asked) e) (same : asked.committee_index ≡ row.committee_index) where
+  abbrev Own : Option Aggregation → Bool → Type 0
+  Own o b = is_own row o ≡ b
 
--- what its committee's question went on with, where that is the vote's own, a vote is told
-pub answer_told : (ds : List Duty) (ends : List Ended) (row asked : AttesterRow) (e : Ended) (details : AttestationData) → IsPair (data_tasks ds) ends (task.Data asked) e → asked.committee_index ≡ row.committee_index
-    → e.aggregation ≡ Some (votes.Voted details) → first_that_differs (data_members row details) ≡ None → answer_of (data_tasks ds) ends (duty.Vote row) ≡ e
-answer_told ds ends row asked e details pair same goes_on none =
-    let place = pair_place (data_tasks ds) ends (task.Data asked) e pair in
-    let Own : Option Aggregation → Type 0 = λ o. is_own row o ≡ true in
-    let own = subst Own (sym goes_on) (is_none_at (first_that_differs (data_members row details)) none) in
-    ap (λ (o : Option ℕ). answer_at row ends o) (asked_at row asked (data_tasks ds) place.at same (all_apart ds) place.within place.is) ∙ ap (λ (l : List Ended). answer_by row l) place.from
-    ∙ ap (λ (b : Bool). if b then e else over ended.DataDiffers) own
+  answer_is : (b : Bool) → is_own row e.aggregation ≡ b → answer_of (data_tasks ds) ends (duty.Vote row) ≡ (if b then e else over ended.DataDiffers)
+  answer_is b own =
+      let place = pair_place (data_tasks ds) ends (task.Data asked) e pair in
+      ap (λ (o : Option ℕ). answer_at row ends o) (asked_at row asked (data_tasks ds) place.at same (all_apart ds) place.within place.is) ∙ ap (λ (l : List Ended). answer_by row l) place.from
+      ∙ ap (λ (x : Bool). if x then e else over ended.DataDiffers) own
+
+  -- with data that is the vote's own it is the vote's answer
+  pub answer_told : (details : AttestationData) → e.aggregation ≡ Some (votes.Voted details) → first_that_differs (data_members row details) ≡ None → answer_of (data_tasks ds) ends (duty.Vote row) ≡ e
+  answer_told details goes_on none = answer_is true (subst (λ (o : Option Aggregation). Own o true) (sym goes_on) (ap (λ (o : Option DataDiffers). is_none o) none))
+
+  -- with other data the vote has none
+  pub answer_differs : (details : AttestationData) (member : DataDiffers) → e.aggregation ≡ Some (votes.Voted details) → first_that_differs (data_members row details) ≡ Some member
+      → answer_of (data_tasks ds) ends (duty.Vote row) ≡ over ended.DataDiffers
+  answer_differs details member goes_on differs = answer_is false (subst (λ (o : Option Aggregation). Own o false) (sym goes_on) (ap (λ (o : Option DataDiffers). is_none o) differs))
+
+  -- without data it is the vote's answer
+  pub answer_failed : e.aggregation ≡ None → answer_of (data_tasks ds) ends (duty.Vote row) ≡ e
+  answer_failed none = answer_is true (subst (λ (o : Option Aggregation). Own o true) (sym none) refl)
+
+-- ---- a vote whose answer has data
+
+contains_after : {X : Type 0} (xs ys : List X) (x : X) → Contains ys x → Contains (xs ++ ys) x
+contains_after [] ys x c = c
+contains_after (y ∷ xs) ys x c = contains_later y (xs ++ ys) x (contains_after xs ys x c)
+
+-- of duties whose answers these are, a vote whose answer has data is cast for it
+answer_votes : (f : Duty → Ended) (ds : List Duty) (row : AttesterRow) (details : AttestationData) → (f (duty.Vote row)).aggregation ≡ Some (votes.Voted details) → Contains ds (duty.Vote row)
+    → Contains (vote_tasks ds (map f ds)) (task.Vote row details)
+answer_votes f [] row details is c = contains_none (duty.Vote row) c
+answer_votes f (duty.Block b ∷ ds) row details is c = by_cases (λ h. answer_votes f ds row details is h) (contains_cases (duty.Block b) ds (duty.Vote row) c) where
+  by_cases : (Contains ds (duty.Vote row) → Contains (vote_tasks ds (map f ds)) (task.Vote row details)) → (duty.Block b ≡ duty.Vote row) ⊎ Contains ds (duty.Vote row) → Contains (vote_tasks ds (map f ds)) (task.Vote row details)
+  by_cases later (inl e) = absurd (let bad : duty.Block b ≡ duty.Vote row = e in cc)
+  by_cases later (inr h) = later h
+answer_votes f (duty.Vote v ∷ ds) row details is c = by_cases (λ h. answer_votes f ds row details is h) (contains_cases (duty.Vote v) ds (duty.Vote row) c) where
+  more : List Task
+  more = vote_tasks ds (map f ds)
+
+  Here : AttesterRow → Option Aggregation → Type 0
+  Here r o = Contains (vote_by (duty.Vote r) o ++ more) (task.Vote row details)
+
+  own : Here row (f (duty.Vote row)).aggregation
+  own = subst (λ (o : Option Aggregation). Here row o) (sym is) (contains_first (task.Vote row details) more)
+
+  by_cases : (Contains ds (duty.Vote row) → Contains more (task.Vote row details)) → (duty.Vote v ≡ duty.Vote row) ⊎ Contains ds (duty.Vote row) → Here v (f (duty.Vote v)).aggregation
+  by_cases later (inl e) = let same : v ≡ row = cc in subst (λ (r : AttesterRow). Here r (f (duty.Vote r)).aggregation) (sym same) own
+  by_cases later (inr h) = contains_after (vote_by (duty.Vote v) (f (duty.Vote v)).aggregation) more (task.Vote row details) (later h)
+
+pub answer_cast : (ds : List Duty) (ends : List Ended) (row : AttesterRow) (details : AttestationData) → Contains ds (duty.Vote row) → (answer_of (data_tasks ds) ends (duty.Vote row)).aggregation ≡ Some (votes.Voted details)
+    → Contains (vote_tasks ds (vote_answers ds ends)) (task.Vote row details)
+answer_cast ds ends row details c is = answer_votes (answer_of (data_tasks ds) ends) ds row details is c

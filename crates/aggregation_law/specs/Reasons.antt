@@ -89,10 +89,11 @@ pub record WasChosen (steps : List TurnStep) (work : SlotWork) (row : AttesterRo
 
 -- ---- why a task is done
 
--- A block is proposed where it was found due. What a committee is to vote is asked where a vote of it was found due, in its time; a vote that was
--- found due is cast in its time, for data with which its committee's question went on, and never without. A duty is tried once more in its
--- time, where what is tried is left of it. Whether a validator aggregates is asked where aggregates are wanted, of a vote that got this data. An
--- aggregate is published in its time, by a validator that this proof chose.
+-- A block is proposed where it was found due. What a committee is to vote is asked where a vote of it was found due, after a wait for the slot's
+-- third that was over in the slot; a vote that was found due is cast after such a wait, for data with which its committee's question went on, and
+-- never without. A duty is tried once more after a wait for that, where what is tried is left of it. Whether a validator aggregates is asked where
+-- aggregates are wanted, of a vote that got this data. An aggregate is published after a wait for two thirds of the slot that was over in it, by a
+-- validator that this proof chose. Over a clock that is set back such a wait may stand before the step and its slot after it.
 abbrev pub HasReason : DutySetup → List TurnStep → SlotWork → Task → Type 0
 HasReason setup steps work (task.Fresh (duty.Block row)) = WasDue steps work.slot (duty.Block row)
 HasReason setup steps work (task.Fresh (duty.Vote row)) = ⊥

@@ -9,20 +9,23 @@ ghost use Rattle.node_calls.specs.declared.answer.AttesterRow.{AttesterRow};
 ghost use Rattle.node_calls.specs.declared.ask.Ask.TheVariants as Ask;
 ghost use Rattle.duty_schedule.specs.Aggregators.{is_aggregator};
 ghost use Rattle.duty_schedule.specs.Checking.{data_members, first_that_differs};
+ghost use Rattle.duty_schedule.specs.declared.checks.DataDiffers.{DataDiffers};
 ghost use Rattle.duty_schedule.specs.declared.rows.Duty.{Duty};
 ghost use Rattle.call_plans.specs.Plans.{Follows};
 ghost use Rattle.duty_plans.specs.declared.ended.Aggregation.TheVariants as Aggregation;
 ghost use Rattle.duty_plans.specs.declared.ended.Ended.{Ended};
 ghost use Rattle.duty_plans.specs.declared.got.Got.TheVariants as Got;
+ghost use Rattle.duty_plans.specs.declared.result.DutyResult.TheVariants as DutyResult;
 ghost use Rattle.duty_plans.specs.declared.setup.DutySetup.{DutySetup};
 ghost use Rattle.duty_plans.specs.declared.task.Task.{Task as AnyTask};
 ghost use Rattle.duty_plans.specs.declared.task.Task.TheVariants as Task;
 ghost use Rattle.duty_plans.specs.declared.work.SlotWork.{SlotWork};
+ghost use Rattle.duty_plans.specs.Ends.{over};
 ghost use Rattle.duty_plans.specs.Messages.{slot_request};
 ghost use Rattle.duty_plans.specs.Plans.{task_plan};
 ghost use Rattle.duty_plans.specs.Reading.{vote_of};
 ghost use Rattle.duty_plans.specs.Steps.{Answered, Asks, DutyStep, Fits as FitsDuty, Reveals, Signed, Tried, came_of};
-ghost use Rattle.duty_plans.specs.Votes.{answer_of, data_tasks};
+ghost use Rattle.duty_plans.specs.Votes.{answer_of, data_tasks, vote_answers, vote_tasks};
 ghost use Rattle.duty_turns.specs.declared.held.DutyEnd.{DutyEnd};
 ghost use Rattle.duty_turns.specs.Standing.{Standing};
 ghost use Rattle.duty_turns.specs.TurnSteps.{Fits, TurnStep};
@@ -32,10 +35,11 @@ ghost use Rattle.aggregation_law.specs.Questions.{AreApart};
 ghost use Rattle.aggregation_law.specs.Reasons.{AreReasoned, IsPair};
 
 /// Each task that is done in turns has a reason in the steps before it, however the turns end: a block was found due; what a
-/// committee is to vote is asked where a vote of it was found due, in its time; a vote that was found due is cast in its time,
-/// for data with which its committee's question went on; what is tried once more is left of the duty; whether a validator
-/// aggregates is asked where aggregates are wanted, of a vote that got its data; and an aggregate is published in its time,
-/// by a validator that its proof chose.
+/// committee is to vote is asked where a vote of it was found due, after a wait for the slot's third that was over in the
+/// slot; a vote that was found due is cast after such a wait, for data with which its committee's question went on; what is
+/// tried once more is left of the duty, after a wait for that; whether a validator aggregates is asked where aggregates are
+/// wanted, of a vote that got its data; and an aggregate is published after a wait for two thirds of the slot that was over
+/// in it, by a validator that its proof chose.
 pub fn reason_law()
     ensures { (setup : DutySetup) (n : ℕ) (s : Standing) (steps : List TurnStep) (v : Option (Result (Unit {0}) DutyEnd)) → Follows Fits (turns_plan setup n s) steps v
         → AreReasoned setup [] steps }
@@ -50,8 +54,8 @@ pub fn aggregation_law()
         → AreEarned setup [] steps }
 {}
 
-/// A question whose answer is data of the duty goes on with that data: so the votes of its committee that this data is for
-/// are cast (`question_law`, `vote_tasks`). A vote goes on with the data that it is for, whatever became of the vote: so its
+/// A question whose answer is data of the duty goes on with that data: so the votes of its committee from whose duties no
+/// member of it differs are cast (`question_law`). A vote goes on with the data that it is for, whatever became of the vote: so its
 /// validator's choice is asked for (`choose_tasks`). A choice whose signature of the slot was given, and chooses the validator,
 /// goes on with it: so its aggregate is published (`aggregate_tasks`).
 pub fn choice_law()
@@ -65,9 +69,11 @@ pub fn choice_law()
         → is_aggregator proof row.committee_length ≡ true → e.aggregation ≡ Some (Aggregation.Chosen details proof) }
 {}
 
-/// The votes of a slot ask one question for each committee (`data_tasks`). Each vote's committee has a question. Each question is
-/// that of one of these votes, and no two are of one committee. A question may go on with data: each vote of its committee then has that answer (`vote_answers`), where
-/// no member of the data differs from what this vote's duty is to vote.
+/// The votes of a slot ask one question for each committee (`data_tasks`). Each vote's committee has a question. Each question
+/// is that of one of these votes, and no two are of one committee. How a question ended is the answer of each vote of its
+/// committee (`vote_answers`): where it went on with data of which no member differs from what the vote's duty is to vote
+/// (`told`), and where it did not go on with data (`failed`). Where a member differs, the vote's answer is `DataDiffers`
+/// (`differs`). A vote whose answer has data is cast for it (`cast`).
 pub fn question_law()
     ensures each { (ds : List Duty) (row : AttesterRow) → Contains ds (Duty.Vote row) → (asked : AttesterRow) × Contains (data_tasks ds) (Task.Data asked) × (asked.committee_index ≡ row.committee_index) }
     ensures only { (ds : List Duty) (t : AnyTask) → Contains (data_tasks ds) t → (row : AttesterRow) × Contains ds (Duty.Vote row) × (Task.Data row ≡ t) }
@@ -75,4 +81,12 @@ pub fn question_law()
     ensures told { (ds : List Duty) (ends : List Ended) (row asked : AttesterRow) (e : Ended) (details : AttestationData)
         → IsPair (data_tasks ds) ends (Task.Data asked) e → asked.committee_index ≡ row.committee_index → e.aggregation ≡ Some (Aggregation.Voted details)
         → first_that_differs (data_members row details) ≡ None → answer_of (data_tasks ds) ends (Duty.Vote row) ≡ e }
+    ensures differs { (ds : List Duty) (ends : List Ended) (row asked : AttesterRow) (e : Ended) (details : AttestationData) (member : DataDiffers)
+        → IsPair (data_tasks ds) ends (Task.Data asked) e → asked.committee_index ≡ row.committee_index → e.aggregation ≡ Some (Aggregation.Voted details)
+        → first_that_differs (data_members row details) ≡ Some member → answer_of (data_tasks ds) ends (Duty.Vote row) ≡ over DutyResult.DataDiffers }
+    ensures failed { (ds : List Duty) (ends : List Ended) (row asked : AttesterRow) (e : Ended)
+        → IsPair (data_tasks ds) ends (Task.Data asked) e → asked.committee_index ≡ row.committee_index → e.aggregation ≡ None → answer_of (data_tasks ds) ends (Duty.Vote row) ≡ e }
+    ensures cast { (ds : List Duty) (ends : List Ended) (row : AttesterRow) (details : AttestationData) → Contains ds (Duty.Vote row)
+        → (answer_of (data_tasks ds) ends (Duty.Vote row)).aggregation ≡ Some (Aggregation.Voted details)
+        → Contains (vote_tasks ds (vote_answers ds ends)) (Task.Vote row details) }
 {}

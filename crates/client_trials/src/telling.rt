@@ -40,11 +40,14 @@ fn word(ask: &Ask) -> &'static str {
     }
 }
 
-/// Writes what was posted, with its slot, and a star where it is not of key 1.
+/// Writes what was posted, with its slot, of a vote the committee, and a star where it is not of key 1.
 fn write_post(text: &mut String, call: &PostCall) -> Result<(), AllocError> {
     let star = if call.key == key(1) { "" } else { "*" };
     match &call.post {
-        Post::Vote(vote) => write!(text, " vote@{}{star}", vote.details.slot),
+        Post::Vote(vote) => {
+            let (slot, committee) = (vote.details.slot, vote.details.index);
+            write!(text, " vote@{slot},{committee}{star}")
+        }
         Post::Block(signed) => match &signed.message {
             AnyBlock::Phase0(block) => write!(text, " block@{}{star}", block.slot),
             AnyBlock::Altair(block) => write!(text, " altair_block@{}{star}", block.slot),
@@ -56,11 +59,22 @@ fn write_post(text: &mut String, call: &PostCall) -> Result<(), AllocError> {
     }
 }
 
+/// Writes a question by its name, and that for what a committee is to vote with its slot and the committee.
+fn write_question(text: &mut String, ask: &Ask) -> Result<(), AllocError> {
+    match ask {
+        Ask::Data {
+            slot,
+            committee_index,
+        } => write!(text, " data@{slot},{committee_index}"),
+        _ => write!(text, " {}", word(ask)),
+    }
+}
+
 /// Writes the calls of a node: each question by its name, each post by what was posted.
 fn write_calls(text: &mut String, calls: &[NodeCall]) -> Result<(), AllocError> {
     for call in calls {
         match call {
-            NodeCall::Asked(ask, _) => write!(text, " {}", word(ask))?,
+            NodeCall::Asked(ask, _) => write_question(text, ask)?,
             NodeCall::Posted(call, _) => write_post(text, call)?,
         }
     }

@@ -21,12 +21,12 @@ use Rattle.duty_plans.specs.Tasks.{tasks_by}
 
 -- ---- tasks
 
--- whether this is the question for what the committee of that vote is to vote
+-- whether this is the question for what the committee of that vote is to vote, where both are of one slot
 abbrev pub asks_for : AttesterRow → Task → Bool
 asks_for row (task.Data asked) = asked.committee_index == row.committee_index
 asks_for row t = false
 
--- what the committees of these votes are to vote: one question for each committee, that of its first vote
+-- what the committees of these votes of one slot are to vote: one question for each committee, that of its first vote
 abbrev pub data_tasks : List Duty → List Task
 data_tasks [] = []
 data_tasks (duty.Block row ∷ ds) = data_tasks ds
@@ -45,18 +45,19 @@ vote_by d o = []
 abbrev pub vote_task : Duty → Ended → List Task
 vote_task d e = vote_by d e.aggregation
 
--- the votes for the data that nodes said, where the questions for it ended so for each
+-- the votes for the data that nodes said, where these are the votes' answers (`vote_answers`)
 abbrev pub vote_tasks : List Duty → List Ended → List Task
 vote_tasks ds ends = tasks_by vote_task ds ends
 
 -- ---- what the ends of the questions are for each vote
 
--- whether what a node said, if one did, is for this vote's duty: no member of it differs
+-- whether no member of what a node said, if one did, differs from what this vote's duty is to vote
 abbrev pub is_own : AttesterRow → Option Aggregation → Bool
 is_own row (Some (votes.Voted details)) = is_none (first_that_differs (data_members row details))
 is_own row o = true
 
--- how the question of its committee ended for a vote, where the ends from that question's own on are these; that it has none comes never
+-- a vote's answer, where the ends from that of its committee's question on are these: that end, but where its data is not the vote's own; that there
+-- is none comes never
 abbrev pub answer_by : AttesterRow → List Ended → Ended
 answer_by row [] = over ended.NoData
 answer_by row (e ∷ ends) = if is_own row e.aggregation then e else over ended.DataDiffers
@@ -65,12 +66,12 @@ abbrev pub answer_at : AttesterRow → List Ended → Option ℕ → Ended
 answer_at row ends None = over ended.NoData
 answer_at row ends (Some i) = answer_by row (drop i ends)
 
--- the same where these questions ended so; a block has none
+-- the same where these questions ended so; a block has no question
 abbrev pub answer_of : List Task → List Ended → Duty → Ended
 answer_of tasks ends (duty.Vote row) = answer_at row ends (position (asks_for row) tasks)
 answer_of tasks ends (duty.Block row) = over ended.NoData
 
--- how the questions for these votes ended for each of them
+-- the answers of these votes, where their questions ended so
 abbrev pub vote_answers : List Duty → List Ended → List Ended
 vote_answers ds ends = map (answer_of (data_tasks ds) ends) ds
 
@@ -86,13 +87,14 @@ messages_of domains tasks = filter_map (message_of domains) tasks
 
 -- ---- ends, where these are the ends of the votes that were cast from its own on
 
--- a vote ended as it was cast; where no node said what to vote, as the question for that did; that a vote was cast and has no end comes never
+-- a vote with this answer ended as it was cast, where the answer has data to vote for; else it ended as the answer says; that a vote was cast and has
+-- no end comes never
 abbrev pub end_by : Option Aggregation → Ended → List Ended → Ended
 end_by None asked ends = asked
 end_by (Some x) asked [] = asked
 end_by (Some x) asked (e ∷ ends) = e
 
--- one for each question that ended so
+-- one for each of these answers
 abbrev pub vote_ends : List Ended → List Ended → List Ended
 vote_ends [] ends = []
 vote_ends (asked ∷ more) ends = end_by asked.aggregation asked ends ∷ vote_ends more (ends_after asked.aggregation ends)

@@ -16,8 +16,8 @@ use sign_roots::Domains;
 use slash_defs::Message;
 use std::alloc::{AllocError, Global};
 
-/// The questions for what the committees of these votes are to vote: one for each committee, that of its first vote. A
-/// committee's question is looked for among those so far, of which a slot has 64 at most (consensus-specs,
+/// The questions for what the committees of these votes of one slot are to vote: one for each committee, that of its first
+/// vote. A committee's question is looked for among those so far, of which a slot has 64 at most (consensus-specs,
 /// `MAX_COMMITTEES_PER_SLOT`). The error is want of memory.
 pub fn data_tasks(alloc: Global, votes: &[Duty]) -> Result<Vec<Task>, AllocError>
     ensures { IfOk result (λ tasks. tasks.items ≡ data_tasks votes.now) }
@@ -49,7 +49,7 @@ fn is_asked(tasks: &[Task], row: &AttesterRow) -> bool
     tasks.iter().any(|task| asks_for(row, task))
 }
 
-/// Whether this is the question for what the committee of that vote is to vote.
+/// Whether this is the question for what the committee of that vote is to vote, where both are of one slot.
 fn asks_for(row: &AttesterRow, task: &Task) -> bool
     ensures { result ≡ asks_for row.now task.now }
 {
@@ -60,8 +60,8 @@ fn asks_for(row: &AttesterRow, task: &Task) -> bool
     }
 }
 
-/// How the questions for these votes, which ended so, ended for each of them: as the question of its committee did, and by
-/// `DataDiffers` where what a node said is not for the vote's duty. The error is want of memory.
+/// The answers of these votes, whose questions ended so: of each the end of its committee's question, and `DataDiffers`
+/// where a member of what a node said differs from what the vote's duty is to vote. The error is want of memory.
 pub fn vote_answers(
     alloc: Global,
     votes: &[Duty],
@@ -121,7 +121,7 @@ fn answer_at(
     }
 }
 
-/// Whether what a node said, if one did, is for the duty of this vote.
+/// Whether no member of what a node said, if one did, differs from what this vote's duty is to vote.
 fn is_own(row: &AttesterRow, known: &Option<Aggregation>) -> bool
     ensures { result ≡ is_own row.now known.now }
 {

@@ -396,8 +396,8 @@ abbrev pub records_votes : {X : Type 0} → SlotWork → List Task → TurnPlan 
 records_votes work [] next = next
 records_votes work (t ∷ tasks) next = calls call.Keys (λ r. records_allowed work (t ∷ tasks) r next)
 
--- the questions for votes ended so for each, of which the first has this place: the desk is asked to keep the messages of the votes that follow
--- together, and then each of these votes is cast in the lanes
+-- these votes have these answers, and the first of them has this place: the desk is asked to keep the messages of the votes that follow from the
+-- answers together, and then each of these votes is cast in the lanes
 abbrev pub casts_for : {X : Type 0} → SlotWork → ℕ → List Duty → (List Ended → TurnPlan X) → List Ended → TurnPlan X
 casts_for work place votes next_by asked = records_votes work (vote_tasks votes asked) (works work place (vote_tasks votes asked) (λ cast. next_by (vote_ends asked cast)))
 

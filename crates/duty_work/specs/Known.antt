@@ -1,4 +1,4 @@
--- What is known to be signed of a vote for some data, since it was hashed before.
+-- What is signed of a vote for some data, kept next to the data so that it is hashed once.
 use Rattle.std.specs.Prelude.{◌≡◌}
 use Rattle.slash_defs.specs.declared.message.Message.{Message}
 use Rattle.phase0_types.specs.declared.attestation.AttestationData.{AttestationData}

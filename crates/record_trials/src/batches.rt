@@ -7,16 +7,22 @@
 //! | `book KEY ENTRIES` | the items of a book |
 //! | `snapshot KEY STATE ENTRIES` | how many items each batch of a snapshot has |
 use crate::books::put_books;
-use crate::entries::{book_of, entries_of};
+use crate::entries::{book_of, record_of};
 use crate::fixed_bytes::{key_of, pieces, put_bytes};
 use crate::items::put_items;
 use edge_kit::{PubKey, push_hex};
 use journal_frames::{Found, Reader, header_bytes, parse};
 use key_snapshot::snapshot_batches;
-use protect_record::{Floors, Record};
-use record_codec::{check_batch, decode, encode};
+use protect_record::Floors;
+use record_codec::{JournalItem, check_batch, decode, encode};
 use record_replay::{KeyState, Replayed, book_items, replay};
 use std::alloc::{AllocError, Global};
+
+/// The floors of a record that has none.
+const NO_FLOORS: Floors = Floors {
+    block: None,
+    vote: None,
+};
 
 /// Puts the items that are read of bytes after a text, and the bytes that are written of them; or where they can't be read.
 fn put_read(alloc: Global, out: &mut String, bytes: &[u8]) -> Result<(), AllocError> {
@@ -47,19 +53,34 @@ fn payloads(alloc: Global, text: &str) -> Option<Vec<Vec<u8>>> {
     Some(all)
 }
 
-/// The bytes of a file of these payloads: a header, a frame of each after an open gate, and a closed gate.
-fn file_bytes(alloc: Global, payloads: &[Vec<u8>]) -> Result<Vec<u8>, AllocError> {
-    let mut bytes = Vec::new(alloc);
-    bytes.push(1)?;
-    bytes.extend_from_slice(&header_bytes(alloc, &[0; 32])?)?;
+/// Puts an open gate and then these bytes after those of a file.
+fn push_open(file: &mut Vec<u8>, bytes: &[u8]) -> Result<(), AllocError> {
+    file.push(1)?;
+    file.extend_from_slice(bytes)
+}
+
+/// Puts an open gate and the frame of a payload after the bytes of a file.
+fn push_frame(file: &mut Vec<u8>, payload: &[u8]) -> Result<(), AllocError> {
+    let length = u32::try_from(payload.len()).unwrap_or(u32::MAX);
+    push_open(file, &length.to_le_bytes())?;
+    file.extend_from_slice(payload)
+}
+
+/// Puts a file of these payloads after bytes: a header, a frame of each after an open gate, and a closed gate.
+fn push_file(alloc: Global, file: &mut Vec<u8>, payloads: &[Vec<u8>]) -> Result<(), AllocError> {
+    push_open(file, &header_bytes(alloc, &[0; 32])?)?;
     for payload in payloads {
-        bytes.push(1)?;
-        let length = u32::try_from(payload.len()).unwrap_or(u32::MAX);
-        bytes.extend_from_slice(&length.to_le_bytes())?;
-        bytes.extend_from_slice(payload)?;
+        push_frame(file, payload)?;
     }
-    bytes.push(0)?;
-    Ok(bytes)
+    file.push(0)?;
+    Ok(())
+}
+
+/// The bytes of a file of the payloads that a text writes.
+fn file_bytes(alloc: Global, text: &str) -> Option<Vec<u8>> {
+    let mut file = Vec::new(alloc);
+    push_file(alloc, &mut file, payloads(alloc, text)?.as_slice()).ok()?;
+    Some(file)
 }
 
 /// Puts what payloads are replayed to after a text.
@@ -83,7 +104,7 @@ fn replay_lent(alloc: Global, reader: Reader) -> Option<String> {
 }
 
 fn replays(alloc: Global, text: &str) -> Option<String> {
-    let bytes = file_bytes(alloc, payloads(alloc, text)?.as_slice()).ok()?;
+    let bytes = file_bytes(alloc, text)?;
     match parse(&bytes, &[0; 32]) {
         Found::Kept(payloads, _, _) => replay_lent(alloc, Reader::new(bytes, &payloads)),
         Found::Damaged(offset, byte) => {
@@ -100,16 +121,6 @@ fn items_of_book(alloc: Global, key: PubKey, text: &str) -> Option<String> {
     Some(out)
 }
 
-/// The record of the entries that a text writes, without floors.
-fn record_of(alloc: Global, text: &str) -> Option<Record> {
-    let entries = entries_of(alloc, text)?;
-    let floors = Floors {
-        block: None,
-        vote: None,
-    };
-    Record::of_parts(floors, entries.blocks, entries.votes).ok()
-}
-
 fn state_of(word: &str) -> Option<KeyState> {
     match word {
         "known" => Some(KeyState::Known),
@@ -120,13 +131,20 @@ fn state_of(word: &str) -> Option<KeyState> {
     }
 }
 
+/// Puts how many items each batch has after a text, a line for each.
+fn put_lengths(out: &mut String, batches: &[Vec<JournalItem>]) -> Result<(), AllocError> {
+    for batch in batches {
+        write!(out, "{}\n", batch.len())?;
+    }
+    Ok(())
+}
+
 fn snapshot(alloc: Global, key: &PubKey, text: &str) -> Option<String> {
     let (state, entries) = text.split_once(' ').unwrap_or((text, ""));
-    let record = record_of(alloc, entries)?;
+    let record = record_of(alloc, NO_FLOORS, entries)?;
+    let batches = snapshot_batches(alloc, key, state_of(state)?, &record).ok()?;
     let mut out = String::new(alloc);
-    for batch in &snapshot_batches(alloc, key, state_of(state)?, &record).ok()? {
-        write!(out, "{}\n", batch.len()).ok()?;
-    }
+    put_lengths(&mut out, batches.as_slice()).ok()?;
     Some(out)
 }
 

@@ -173,13 +173,18 @@ fn take(alloc: Global, out: &mut String, books: &mut Books, step: &str) -> Optio
     }
 }
 
+/// Puts a line of a step after a text, and takes the step.
+fn put_step(alloc: Global, out: &mut String, books: &mut Books, step: &str) -> Option<()> {
+    write!(out, "{step}: ").ok()?;
+    take(alloc, out, books, step)?;
+    out.push('\n').ok()
+}
+
 /// The records after these steps, of which each puts a line after a text.
 fn run(alloc: Global, out: &mut String, steps: &str) -> Option<Books> {
     let mut books = Books::new(alloc);
     for step in steps.split('|') {
-        write!(out, "{}: ", step.trim()).ok()?;
-        take(alloc, out, &mut books, step.trim())?;
-        out.push('\n').ok()?;
+        put_step(alloc, out, &mut books, step.trim())?;
     }
     Some(books)
 }
@@ -202,13 +207,23 @@ pub fn put_books(alloc: Global, out: &mut String, books: &Books) -> Result<(), A
     Ok(())
 }
 
+/// Joins the records after these steps to others.
+fn join(alloc: Global, out: &mut String, books: &mut Books, steps: &str) -> Option<()> {
+    let others = run(alloc, out, steps)?;
+    books.join(&others).ok()
+}
+
+/// Puts what comes of the steps of two after a text, and all that is kept where the second is joined to the first.
+fn put_joined(alloc: Global, out: &mut String, steps: &str, others: &str) -> Option<()> {
+    let mut books = run(alloc, out, steps)?;
+    join(alloc, out, &mut books, others)?;
+    put_books(alloc, out, &books).ok()
+}
+
 /// What comes of the steps of two, and of joining the second to the first.
 pub fn outcome_of_join(alloc: Global, steps: &str) -> Option<String> {
     let (steps, others) = steps.split_once('&')?;
     let mut out = String::new(alloc);
-    let mut books = run(alloc, &mut out, steps)?;
-    let others = run(alloc, &mut out, others)?;
-    books.join(&others).ok()?;
-    put_books(alloc, &mut out, &books).ok()?;
+    put_joined(alloc, &mut out, steps, others)?;
     Some(out)
 }

@@ -52,10 +52,19 @@ fn answer(alloc: Global, domains: &Domains, question: &str) -> Option<[u8; 32]> 
     }
 }
 
-/// What comes of a line.
-pub fn outcome(alloc: Global, text: &str) -> Option<String> {
+/// The domains of the fork and the genesis that texts write.
+fn domains_of(alloc: Global, fork: &str, genesis: &str) -> Option<Domains> {
+    Some(Domains::new(value_of::<Fork>(alloc, fork)?, root_of(genesis)?))
+}
+
+/// The answer to the question of a line, on the line's chain.
+fn answer_to(alloc: Global, text: &str) -> Option<[u8; 32]> {
     let (fork, rest) = text.split_once(" | ")?;
     let (genesis, question) = rest.split_once(" | ")?;
-    let domains = Domains::new(value_of::<Fork>(alloc, fork)?, root_of(genesis)?);
-    hex_text(alloc, &answer(alloc, &domains, question)?).ok()
+    answer(alloc, &domains_of(alloc, fork, genesis)?, question)
+}
+
+/// What comes of a line.
+pub fn outcome(alloc: Global, text: &str) -> Option<String> {
+    hex_text(alloc, &answer_to(alloc, text)?).ok()
 }

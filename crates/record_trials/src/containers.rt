@@ -15,13 +15,19 @@ use phase0_types::{
     BeaconBlockHeader, Checkpoint, Eth1Data, Fork, ForkData, ReadFault, Shaped, SigningData,
 };
 use serde_json::Value;
-use std::alloc::Global;
+use std::alloc::{AllocError, Global};
+
+/// Puts the JSON of a value after a text, on a line of its own.
+fn put_json<T: Shaped>(alloc: Global, out: &mut String, value: &T) -> Result<(), AllocError> {
+    let json = value.to_value(alloc)?;
+    write!(out, "\n{json}")
+}
 
 /// The root of a value, and its JSON.
 fn root_and_json<T: Shaped>(alloc: Global, value: &T) -> Option<String> {
-    let json = value.to_value(alloc).ok()?;
-    let root = hex_text(alloc, &value.root().0).ok()?;
-    format!(in alloc; "{}\n{json}", root.as_str()).ok()
+    let mut out = hex_text(alloc, &value.root().0).ok()?;
+    put_json(alloc, &mut out, value).ok()?;
+    Some(out)
 }
 
 /// The root of what JSON writes and the JSON that is written of that, or the fault.
@@ -86,13 +92,19 @@ fn header_of(alloc: Global, version: ConsensusVersion, text: &str) -> Option<Str
     header(alloc, version, &Value::from_str(alloc, text).ok()?)
 }
 
+/// Puts a digit of each bit after a text.
+fn put_bits(out: &mut String, bits: &[bool]) -> Result<(), AllocError> {
+    for bit in bits {
+        out.push(if *bit { '1' } else { '0' })?;
+    }
+    Ok(())
+}
+
 /// How many bits there are, and each.
 fn bits_text(alloc: Global, bits: &[bool]) -> Option<String> {
-    let mut text = format!(in alloc; "{} bits ", bits.len()).ok()?;
-    for bit in bits {
-        text.push(if *bit { '1' } else { '0' }).ok()?;
-    }
-    Some(text)
+    let mut out = format!(in alloc; "{} bits ", bits.len()).ok()?;
+    put_bits(&mut out, bits).ok()?;
+    Some(out)
 }
 
 fn bits(alloc: Global, json: &Value) -> Option<String> {

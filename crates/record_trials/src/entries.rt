@@ -2,7 +2,7 @@
 //! `FIRST..END` may stand, for an entry of each number below the end.
 use crate::fixed_bytes::{put_bytes, root_of};
 use edge_kit::{Items, Root};
-use protect_record::Record;
+use protect_record::{Floors, Record};
 use slash_defs::{BlockEntry, Book, Entry, Message, VoteEntry};
 use std::alloc::{AllocError, Global};
 
@@ -15,19 +15,24 @@ struct Written {
     root: Option<Root>,
 }
 
+/// The number that a text writes.
+fn number_of(text: &str) -> Option<u64> {
+    text.parse::<u64>().ok()
+}
+
 /// The first number of a range and its end. A number alone is a range of one.
 fn range_of(text: &str) -> Option<(u64, u64)> {
     let Some((first, end)) = text.split_once("..") else {
-        let only = text.parse::<u64>().ok()?;
+        let only = number_of(text)?;
         return Some((only, only.saturating_add(1)));
     };
-    Some((first.parse::<u64>().ok()?, end.parse::<u64>().ok()?))
+    Some((number_of(first)?, number_of(end)?))
 }
 
 /// What a text without its root writes.
 fn numbers_of(text: &str, root: Option<Root>) -> Option<Written> {
     let (source, numbers) = match text.split_once("->") {
-        Some((source, target)) => (Some(source.parse::<u64>().ok()?), target),
+        Some((source, target)) => (Some(number_of(source)?), target),
         None => (None, text),
     };
     let (first, end) = range_of(numbers)?;
@@ -108,6 +113,12 @@ pub fn book_of(alloc: Global, text: &str) -> Option<Book> {
         blocks: Items::from_vec(entries.blocks),
         votes: Items::from_vec(entries.votes),
     })
+}
+
+/// The record of these floors and the entries that a text writes.
+pub fn record_of(alloc: Global, floors: Floors, text: &str) -> Option<Record> {
+    let entries = entries_of(alloc, text)?;
+    Record::of_parts(floors, entries.blocks, entries.votes).ok()
 }
 
 fn put_root(alloc: Global, out: &mut String, root: &Option<Root>) -> Result<(), AllocError> {

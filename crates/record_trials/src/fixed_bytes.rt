@@ -42,14 +42,25 @@ pub fn put_bytes(alloc: Global, out: &mut String, bytes: &[u8]) -> Result<(), Al
     }
 }
 
-/// Puts the bytes of a piece after others: hex digits, and after a `*` how often they come.
-fn push_piece(alloc: Global, bytes: &mut Vec<u8>, piece: &str) -> Option<()> {
+/// The hex digits of a piece, and after a `*` how often their bytes come.
+fn piece_of(piece: &str) -> Option<(&str, u16)> {
     let (digits, times) = piece.split_once('*').unwrap_or((piece, "1"));
-    let more = hex::decode(alloc, digits.strip_prefix("0x")?).ok()?;
-    for _ in 0..times.parse::<u16>().ok()? {
-        bytes.extend_from_slice(more.as_slice()).ok()?;
+    Some((digits.strip_prefix("0x")?, times.parse::<u16>().ok()?))
+}
+
+/// Puts more bytes after others, that many times.
+fn push_times(bytes: &mut Vec<u8>, more: &[u8], times: u16) -> Result<(), AllocError> {
+    for _ in 0..times {
+        bytes.extend_from_slice(more)?;
     }
-    Some(())
+    Ok(())
+}
+
+/// Puts the bytes of a piece after others.
+fn push_piece(alloc: Global, bytes: &mut Vec<u8>, piece: &str) -> Option<()> {
+    let (digits, times) = piece_of(piece)?;
+    let more = hex::decode(alloc, digits).ok()?;
+    push_times(bytes, more.as_slice(), times).ok()
 }
 
 /// The bytes that pieces write, with spaces between them.

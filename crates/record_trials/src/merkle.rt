@@ -9,14 +9,20 @@
 use crate::fixed_bytes::{pieces, root_of};
 use edge_kit::{Root, hex_text, push_hex};
 use ssz_roots::{TooLong, bits_root, merkleize, mix_length, pack};
-use std::alloc::Global;
+use std::alloc::{AllocError, Global};
+
+/// Puts the roots that words write after others.
+fn push_roots(roots: &mut Vec<Root>, text: &str) -> Option<()> {
+    for word in text.split_whitespace() {
+        roots.push(root_of(word)?).ok()?;
+    }
+    Some(())
+}
 
 /// The roots that words write.
 fn roots_of(alloc: Global, text: &str) -> Option<Vec<Root>> {
     let mut roots = Vec::new(alloc);
-    for word in text.split_whitespace() {
-        roots.push(root_of(word)?).ok()?;
-    }
+    push_roots(&mut roots, text)?;
     Some(roots)
 }
 
@@ -33,13 +39,20 @@ fn found(alloc: Global, root: &Result<Root, TooLong>) -> Option<String> {
     }
 }
 
+/// Puts chunks after a text, a line for each.
+fn put_chunks(alloc: Global, out: &mut String, chunks: &[Root]) -> Result<(), AllocError> {
+    for chunk in chunks {
+        push_hex(alloc, out, &chunk.0)?;
+        out.push('\n')?;
+    }
+    Ok(())
+}
+
 /// The chunks of bytes, a line for each.
 fn packed(alloc: Global, bytes: &[u8]) -> Option<String> {
+    let chunks = pack(alloc, bytes).ok()?;
     let mut out = String::new(alloc);
-    for chunk in &pack(alloc, bytes).ok()? {
-        push_hex(alloc, &mut out, &chunk.0).ok()?;
-        out.push('\n').ok()?;
-    }
+    put_chunks(alloc, &mut out, chunks.as_slice()).ok()?;
     Some(out)
 }
 

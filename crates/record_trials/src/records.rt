@@ -15,7 +15,9 @@
 //! | `export` | asks for the exported book |
 ghost use Rattle.std.specs.Prelude.{◌≡◌, ◌≢◌, ◌+◌, ◌<◌, ◌≤◌, All, length};
 
-use crate::entries::{book_of, entries_of, message_of, put_block, put_record, put_vote};
+use crate::entries::{
+    Entries, book_of, entries_of, message_of, put_block, put_record, put_vote, record_of,
+};
 use crate::verdicts::put_verdict;
 use edge_kit::Root;
 use protect_record::{Floors, Record, Steps, Verdict};
@@ -24,19 +26,22 @@ use std::alloc::{AllocError, Global};
 use std::marker::Brand;
 use std::sync::ledger::{Blank, Ledger};
 
-/// The record of the floors and the entries that a text writes, with ` of ` between them.
-fn parts(alloc: Global, text: &str) -> Option<Record> {
-    let (least, kept) = text.split_once(" of ")?;
-    let least = entries_of(alloc, least)?;
-    let floors = Floors {
+/// The floors that entries stand for: the first block's and the first vote's.
+fn floors_of(least: &Entries) -> Floors {
+    Floors {
         block: least.blocks.first().map(|entry| entry.slot),
         vote: least
             .votes
             .first()
             .map(|entry| (entry.source, entry.target)),
-    };
-    let kept = entries_of(alloc, kept)?;
-    Record::of_parts(floors, kept.blocks, kept.votes).ok()
+    }
+}
+
+/// The record of the floors and the entries that a text writes, with ` of ` between them.
+fn parts(alloc: Global, text: &str) -> Option<Record> {
+    let (least, kept) = text.split_once(" of ")?;
+    let floors = floors_of(&entries_of(alloc, least)?);
+    record_of(alloc, floors, kept)
 }
 
 /// An empty record that another is joined to twice.
@@ -51,10 +56,9 @@ fn joined_twice(alloc: Global, record: &Record) -> Result<Record, AllocError> {
 fn propose(record: &mut Record, message: &Message) -> Result<Verdict, AllocError> {
     record.reserve(1, 1)?;
     let verdict = record.check(message);
-    if verdict != Verdict::Pass {
-        return Ok(verdict);
+    if let Verdict::Pass = verdict {
+        record.add(message);
     }
-    record.add(message);
     Ok(verdict)
 }
 
@@ -155,12 +159,17 @@ fn take(alloc: Global, out: &mut String, record: &mut Record, step: &str) -> Opt
     Some(())
 }
 
+/// Takes the steps.
+fn take_all(alloc: Global, out: &mut String, record: &mut Record, steps: &str) -> Option<()> {
+    for step in steps.split('|') {
+        take(alloc, out, record, step.trim())?;
+    }
+    Some(())
+}
+
 /// What comes of the steps.
 pub fn outcome(alloc: Global, steps: &str) -> Option<String> {
-    let mut record = Record::new(alloc);
     let mut out = String::new(alloc);
-    for step in steps.split('|') {
-        take(alloc, &mut out, &mut record, step.trim())?;
-    }
+    take_all(alloc, &mut out, &mut Record::new(alloc), steps)?;
     Some(out)
 }

@@ -1,2 +1,3 @@
 pub mod SessionLemmas
 pub mod EndingLemmas
+pub mod RunLemmas

@@ -94,16 +94,6 @@ IsOther (serve options) = ⊥
 IsOther (proxy options) = ⊥
 IsOther asked = Unit {0}
 
--- they do not ask for the validator client
-abbrev pub IsNoClient : Asked → Type 0
-IsNoClient (serve options) = ⊥
-IsNoClient asked = Unit {0}
-
--- they do not ask for the signing proxy
-abbrev pub IsNoProxy : Asked → Type 0
-IsNoProxy (proxy options) = ⊥
-IsNoProxy asked = Unit {0}
-
 -- what was asked for, if it was no server, was done, or ended as it may
 abbrev pub EndsAs : {D : Type 0} → (D → List ℕ → Type 0) → (D → ℕ) → (D → ℕ → List ℕ → Type 0) → (D → ℕ) → Asked → Disks D → Disks D → Outside → Outside → List DeskEvent → Status → Type 0
 EndsAs shows moment leaves faults (session genesis journal fork altair signer watch) disks_before disks_now before now events s = SessionEnds shows moment leaves faults (session_chain genesis fork altair) watch disks_before disks_now before now events s

@@ -1,3 +1,5 @@
 pub mod Rehearsing
 pub mod Endings
 pub mod Clients
+pub mod Views
+pub mod Runs

@@ -1,18 +1,13 @@
 //! The top call.
 ghost use Rattle.std.specs.Prelude.{◌≡◌, ◌⊎◌, ◌≤◌, ℕ, List, [], map, string_bytes};
 ghost use Rattle.edge_kit.specs.Causes.{Rose};
-ghost use Rattle.client_calls.specs.Seats.{signer_seen};
 ghost use Rattle.record_journal.specs.TwoDisks.{EitherRose};
 ghost use Rattle.keymanager_api.specs.Doors.{link_seen};
-ghost use Rattle.command_line.specs.Plans.{asked_of, nothing, proxy, serve};
-ghost use Rattle.command_line.specs.declared.proxy_options.ProxyOptions.{ProxyOptions};
-ghost use Rattle.command_line.specs.declared.serve_options.ServeOptions.{ServeOptions};
+ghost use Rattle.command_line.specs.Plans.{asked_of, nothing};
 ghost use Rattle.journal_commands.specs.Views.{Unwritten, output_of};
-ghost use Rattle.serve_run.specs.Ends.{Because};
-ghost use Rattle.proxy_run.specs.Ends.{ProxyEnds};
-ghost use Rattle.proxy_run.specs.Parts.{parts_seen as proxy_parts};
-ghost use Rattle.validator_cli.specs.Clients.{ClientRuns, parts_of};
-ghost use Rattle.validator_cli.specs.Endings.{Causes, IsComplete, IsNoClient, IsNoProxy, IsOther, IsWithin, NoCommand, RunEnds, outside_of};
+ghost use Rattle.validator_cli.specs.Endings.{Causes, IsOther, NoCommand, RunEnds, outside_of};
+ghost use Rattle.validator_cli.specs.Runs.{ProgramRuns};
+ghost use Rattle.validator_cli.specs.Views.{came_back, disk_view, door_view, handed_in, node_view, signer_view, sink_view, source_view, views};
 
 use crate::ending::Ending;
 use crate::rehearse::run_rehearse;
@@ -31,8 +26,16 @@ use std::alloc::{AllocError, Global};
 use std::sync::Wait;
 use std::thread::Threads;
 
-/// Does what the words say, over whatever stands for the outside. Objects that the command does not use
-/// come back untouched.
+/// Does what the words say, over whatever stands for the outside: the two disks of a journal, a signing service, beacon nodes,
+/// a clock, a door, an input and an output.
+///
+/// What came of it is said by what the words ask for (`ProgramRuns`): of the validator client by `ServeRuns`, of the signing
+/// proxy by `ProxyRuns`, and of all else by `CommandRuns`. Objects that a command does not use come back as they were.
+///
+/// The status is `Usage` only where the words are no command, and then only a fault of the output or want of memory comes in
+/// its place. `ReadFault`, `WriteFault`, `DiskFault` and `DoorFault` come only where the count of faults of the input, of the
+/// output, of one of the disks, or of the door rose. `OutOfMemory` comes where memory was wanted; what was done before then
+/// stands.
 pub fn run_validator<
     T: Threads + Wait + Sync,
     D: Disk + Send,
@@ -56,35 +59,12 @@ pub fn run_validator<
 ) -> Ending<D, S, N, R>
 where
     R::Conn: Send + Drop,
-    ensures ending { IsOther (asked_of (map string_bytes words.now)) → RunEnds D.shows D.moment D.leaves D.faults (asked_of (map string_bytes words.now)) disks result.disks
-        (outside_of I.left I.faults O.held O.faults S.told S.faults S.denials input.old out.old signer) (outside_of I.left I.faults O.held O.faults S.told S.faults S.denials input.new out.new result.signer) result.events.items result.status }
-    ensures serves { (options : ServeOptions) → asked_of (map string_bytes words.now) ≡ serve options
-        → ClientRuns D.shows D.moment D.leaves D.faults (link_seen R.Conn.left R.Conn.held R.Conn.faults) (C.start clock) options disks result.disks
-        (parts_of S.told S.faults S.denials N.told N.faults R.coming R.finished R.faults O.held O.faults signer nodes.items [] [] door out.old)
-        (λ flags. parts_of S.told S.faults S.denials N.told N.faults R.coming R.finished R.faults O.held O.faults result.signer result.nodes.items flags result.lanes.items result.door out.new) result.events.items result.status }
-    ensures proxies { (options : ProxyOptions) → asked_of (map string_bytes words.now) ≡ proxy options
-        → ProxyEnds D.shows D.moment D.leaves D.faults (link_seen R.Conn.left R.Conn.held R.Conn.faults) (C.start clock) options (signer_seen S.told S.faults S.denials signer) disks result.disks
-        (proxy_parts S.told S.faults S.denials R.coming R.finished R.lent R.faults O.held O.faults [] door out.old)
-        (proxy_parts S.told S.faults S.denials R.coming R.finished R.lent R.faults O.held O.faults result.signers.items result.door out.new) result.events.items result.status }
+    ensures runs { ProgramRuns (views (disk_view D.shows D.moment D.leaves D.faults) (signer_view S.told S.faults S.denials) (node_view N.told N.faults)
+        (door_view R.coming R.finished R.lent R.faults (link_seen R.Conn.left R.Conn.held R.Conn.faults)) (source_view I.left I.faults) (sink_view O.held O.faults))
+        (handed_in disks signer nodes door input.old out.old (C.start clock)) (came_back result input.new out.new) (asked_of (map string_bytes words.now)) }
     ensures usage { result.status ≡ Status.Usage → asked_of (map string_bytes words.now) ≡ nothing }
     ensures no_command { asked_of (map string_bytes words.now) ≡ nothing
         → (result.status ≡ Status.Usage) ⊎ (result.status ≡ Status.WriteFault) ⊎ (result.status ≡ Status.OutOfMemory) }
-    ensures read_fault { result.status ≡ Status.ReadFault → Rose (I.faults input.old) (I.faults input.new) }
-    ensures write_fault { result.status ≡ Status.WriteFault → Rose (O.faults out.old) (O.faults out.new) }
-    ensures disk_fault { result.status ≡ Status.DiskFault → EitherRose D.faults disks result.disks }
-    ensures complete { IsWithin (asked_of (map string_bytes words.now)) (I.left input.old)
-        → ¬ (Rose (I.faults input.old) (I.faults input.new)) → ¬ (Rose (O.faults out.old) (O.faults out.new)) → ¬ (EitherRose D.faults disks result.disks)
-        → IsComplete (asked_of (map string_bytes words.now)) result.status }
-    ensures served { (options : ServeOptions) → asked_of (map string_bytes words.now) ≡ serve options
-        → Because (Rose (O.faults out.old) (O.faults out.new)) (EitherRose D.faults disks result.disks) (Rose (R.faults door) (R.faults result.door)) result.status }
-    ensures proxied { (options : ProxyOptions) → asked_of (map string_bytes words.now) ≡ proxy options
-        → Because (Rose (O.faults out.old) (O.faults out.new)) (EitherRose D.faults disks result.disks) (Rose (R.faults door) (R.faults result.door)) result.status }
-    ensures unread { ¬ (IsOther (asked_of (map string_bytes words.now))) → input.new ≡ input.old }
-    ensures signer { (options : ProxyOptions) → asked_of (map string_bytes words.now) ≡ proxy options → result.signer ≡ signer }
-    ensures nodes { IsNoClient (asked_of (map string_bytes words.now)) → result.nodes ≡ nodes }
-    ensures door { IsOther (asked_of (map string_bytes words.now)) → result.door ≡ door }
-    ensures lanes { IsNoClient (asked_of (map string_bytes words.now)) → result.lanes.items ≡ [] }
-    ensures signers { IsNoProxy (asked_of (map string_bytes words.now)) → result.signers.items ≡ [] }
 {
     match is_server(alloc, words) {
         Ok(Some(plan)) => run_server(rt, alloc, &plan, disks, signer, nodes, &clock, door, out),

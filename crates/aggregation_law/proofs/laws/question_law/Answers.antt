@@ -1,4 +1,4 @@
-use Rattle.aggregation_law.proofs.QuestionLemmas.{all_apart, answer_told, each_asked}
+use Rattle.aggregation_law.proofs.QuestionLemmas.{all_apart, answer_cast, answer_differs, answer_failed, answer_told, each_asked}
 use Rattle.aggregation_law.proofs.TaskLemmas.{data_one}
 use Rattle.aggregation_law.proofs.laws.question_law.Goals as goal
 
@@ -12,4 +12,13 @@ pub returns-clause-once : goal.returns-clause-once
 returns-clause-once c = all_apart
 
 pub returns-clause-told : goal.returns-clause-told
-returns-clause-told c = answer_told
+returns-clause-told c = λ ds ends row asked e details pair same. answer_told ds ends row asked e pair same details
+
+pub returns-clause-differs : goal.returns-clause-differs
+returns-clause-differs c = λ ds ends row asked e details member pair same. answer_differs ds ends row asked e pair same details member
+
+pub returns-clause-failed : goal.returns-clause-failed
+returns-clause-failed c = answer_failed
+
+pub returns-clause-cast : goal.returns-clause-cast
+returns-clause-cast c = answer_cast
