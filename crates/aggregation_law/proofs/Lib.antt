@@ -1,4 +1,5 @@
 pub mod QuestionLemmas
+pub mod CastLemmas
 pub mod TaskLemmas
 pub mod SoundLemmas
 pub mod GivenLemmas

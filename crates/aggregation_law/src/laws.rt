@@ -31,7 +31,7 @@ ghost use Rattle.duty_turns.specs.Standing.{Standing};
 ghost use Rattle.duty_turns.specs.TurnSteps.{Fits, TurnStep};
 ghost use Rattle.duty_turns.specs.Turns.{turns_plan};
 ghost use Rattle.aggregation_law.specs.Earned.{AreEarned};
-ghost use Rattle.aggregation_law.specs.Questions.{AreApart};
+ghost use Rattle.aggregation_law.specs.Questions.{AreApart, AreOfTwo, AreTwo};
 ghost use Rattle.aggregation_law.specs.Reasons.{AreReasoned, IsPair};
 
 /// Each task that is done in turns has a reason in the steps before it, however the turns end: a block was found due; what a
@@ -73,7 +73,8 @@ pub fn choice_law()
 /// is that of one of these votes, and no two are of one committee. How a question ended is the answer of each vote of its
 /// committee (`vote_answers`): where it went on with data of which no member differs from what the vote's duty is to vote
 /// (`told`), and where it did not go on with data (`failed`). Where a member differs, the vote's answer is `DataDiffers`
-/// (`differs`). A vote whose answer has data is cast for it (`cast`).
+/// (`differs`). A vote whose answer has data is cast for it (`cast`); no other vote is cast, and none for other data
+/// (`cast_only`). Where no two of the votes are of one validator, none is cast twice (`cast_once`).
 pub fn question_law()
     ensures each { (ds : List Duty) (row : AttesterRow) → Contains ds (Duty.Vote row) → (asked : AttesterRow) × Contains (data_tasks ds) (Task.Data asked) × (asked.committee_index ≡ row.committee_index) }
     ensures only { (ds : List Duty) (t : AnyTask) → Contains (data_tasks ds) t → (row : AttesterRow) × Contains ds (Duty.Vote row) × (Task.Data row ≡ t) }
@@ -89,4 +90,7 @@ pub fn question_law()
     ensures cast { (ds : List Duty) (ends : List Ended) (row : AttesterRow) (details : AttestationData) → Contains ds (Duty.Vote row)
         → (answer_of (data_tasks ds) ends (Duty.Vote row)).aggregation ≡ Some (Aggregation.Voted details)
         → Contains (vote_tasks ds (vote_answers ds ends)) (Task.Vote row details) }
+    ensures cast_only { (ds : List Duty) (ends : List Ended) (t : AnyTask) → Contains (vote_tasks ds (vote_answers ds ends)) t
+        → (row : AttesterRow) × (details : AttestationData) × Contains ds (Duty.Vote row) × ((answer_of (data_tasks ds) ends (Duty.Vote row)).aggregation ≡ Some (Aggregation.Voted details)) × (Task.Vote row details ≡ t) }
+    ensures cast_once { (ds : List Duty) (ends : List Ended) → AllPairs AreTwo ds → AllPairs AreOfTwo (vote_tasks ds (vote_answers ds ends)) }
 {}

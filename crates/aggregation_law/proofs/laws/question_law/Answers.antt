@@ -1,5 +1,7 @@
+use Rattle.aggregation_law.proofs.CastLemmas.{all_of_two, only_votes}
 use Rattle.aggregation_law.proofs.QuestionLemmas.{all_apart, answer_cast, answer_differs, answer_failed, answer_told, each_asked}
 use Rattle.aggregation_law.proofs.TaskLemmas.{data_one}
+use Rattle.duty_plans.specs.Votes.{answer_of, data_tasks}
 use Rattle.aggregation_law.proofs.laws.question_law.Goals as goal
 
 pub returns-clause-each : goal.returns-clause-each
@@ -22,3 +24,9 @@ returns-clause-failed c = answer_failed
 
 pub returns-clause-cast : goal.returns-clause-cast
 returns-clause-cast c = answer_cast
+
+pub returns-clause-cast_only : goal.returns-clause-cast_only
+returns-clause-cast_only c = λ ds ends. only_votes (answer_of (data_tasks ds) ends) ds
+
+pub returns-clause-cast_once : goal.returns-clause-cast_once
+returns-clause-cast_once c = λ ds ends. all_of_two (answer_of (data_tasks ds) ends) ds
