@@ -6,6 +6,7 @@ use Rattle.std.proofs.lemmas.List.{map-append, take_more}
 use Rattle.edge_kit.specs.declared.bytes.PubKey.{PubKey}
 use Rattle.journal_frames.specs.Frames.{IsPayload}
 use Rattle.protect_record.specs.Parts.{Parts}
+use Rattle.record_codec.specs.declared.version.JournalVersion.TheVariants.{One}
 use Rattle.record_codec.specs.Reading.{batch_of}
 use Rattle.record_codec.specs.Spelling.{spelling}
 use Rattle.record_codec.specs.declared.item.JournalItem.{JournalItem}
@@ -24,7 +25,7 @@ pub all_more : {X : Type 0} (P : X → Type 0) (xs ys : List X) → AllByRecursi
 all_more P [] ys first second = second
 all_more P (x ∷ xs) ys first second = (first.0, all_more P xs ys first.1 second)
 
-read_more : (ps : List (List ℕ)) (bs : List (List JournalItem)) (p : List ℕ) (b : List JournalItem) → AreRead ps bs → batch_of p ≡ Ok b → AreRead (ps ++ p ∷ []) (bs ++ b ∷ [])
+read_more : (ps : List (List ℕ)) (bs : List (List JournalItem)) (p : List ℕ) (b : List JournalItem) → AreRead ps bs → batch_of One p ≡ Ok b → AreRead (ps ++ p ∷ []) (bs ++ b ∷ [])
 read_more [] [] p b read is = (is, tt)
 read_more [] (c ∷ bs) p b read is = absurd read
 read_more (q ∷ ps) [] p b read is = absurd read
@@ -33,7 +34,7 @@ read_more (q ∷ ps) (c ∷ bs) p b read is = (read.0, read_more ps bs p b read.
 pub spelled_none : AreSpelled [] []
 spelled_none = record { spelled = refl; read = tt; framed = tt }
 
-pub spelled_more : (ps : List (List ℕ)) (bs : List (List JournalItem)) (p : List ℕ) (b : List JournalItem) → AreSpelled ps bs → p ≡ spelling b → batch_of p ≡ Ok b → IsPayload p → AreSpelled (ps ++ p ∷ []) (bs ++ b ∷ [])
+pub spelled_more : (ps : List (List ℕ)) (bs : List (List JournalItem)) (p : List ℕ) (b : List JournalItem) → AreSpelled ps bs → p ≡ spelling b → batch_of One p ≡ Ok b → IsPayload p → AreSpelled (ps ++ p ∷ []) (bs ++ b ∷ [])
 spelled_more ps bs p b are spells reads payload = record {
   spelled = ap (λ l. l ++ p ∷ []) are.spelled ∙ ap (λ x. map spelling bs ++ x ∷ []) spells ∙ sym (map-append spelling bs (b ∷ []));
   read = read_more ps bs p b are.read reads;

@@ -5,6 +5,7 @@ use Rattle.std.specs.Int.{w64, to_le_bytes}
 use Rattle.edge_kit.specs.Causes.{Rose}
 use Rattle.edge_kit.specs.declared.bytes.PubKey.{PubKey}
 use Rattle.journal_frames.specs.Frames.{generation_of, generation_payload}
+use Rattle.record_codec.specs.declared.version.JournalVersion.TheVariants.{One}
 use Rattle.record_codec.specs.Reading.{bad_at, batch_of}
 use Rattle.record_codec.specs.Spelling.{spelling}
 use Rattle.record_codec.specs.declared.item.JournalItem.{JournalItem}
@@ -47,8 +48,8 @@ spelled_size (b ∷ bs) =
 generation_size : (g : ℕ) → length (generation_payload g) ≡ 9
 generation_size g = refl
 
-no_items : (p : List ℕ) → bad_at p ≡ Some 0 → items_or_none (batch_of p) ≡ []
-no_items p = at (batch_of p) where
+no_items : (p : List ℕ) → bad_at One p ≡ Some 0 → items_or_none (batch_of One p) ≡ []
+no_items p = at (batch_of One p) where
   at : (r : Result (List JournalItem) ℕ) → Rattle.record_codec.specs.Reading.fault_in r ≡ Some 0 → items_or_none r ≡ []
   at (Ok items) bad = absurd (let no : None ≡ Some 0 = bad in cc)
   at (Err k) bad = refl
@@ -71,19 +72,19 @@ module _ (desk : Contents) (state : State) (stands : DeskStands desk state) (ps 
       ap journal_size spelled.spelled ∙ spelled_size (desk_batches desk.states desk.keys) ∙ ap (λ bs. 42 + sum (map (λ b. length (spelling b) + 5) bs)) batches_are in
       omega (arith, spelt, generation_size (generation_of desk.payloads + 1))
 
-  pub is_snapshot : ((number : List ℕ) → bad_at (6 ∷ number) ≡ Some 0)
-      → ((payloads : List (List ℕ)) (batches : List (List JournalItem)) → Rattle.key_snapshot.specs.Restoring.AreRead payloads batches → items_in payloads ≡ items_of batches)
+  pub is_snapshot : ((number : List ℕ) → bad_at One (6 ∷ number) ≡ Some 0)
+      → ((payloads : List (List ℕ)) (batches : List (List JournalItem)) → Rattle.key_snapshot.specs.Restoring.AreRead payloads batches → items_in One payloads ≡ items_of batches)
       → ((payloads snapshot : List (List ℕ)) → generation_of payloads < 2 ^ 64 - 1 → generation_of (next_payloads payloads snapshot) ≡ generation_of payloads + 1)
       → IsSnapshot state desk.payloads ps
   is_snapshot unread read next = record {
     size = snapshot_bytes;
     stand = λ less.
         let gen = generation_payload (generation_of desk.payloads + 1) in
-        let items : items_in (gen ∷ ps) ≡ items_of (desk_batches desk.states desk.keys) =
-        ap (λ l. l ++ items_in ps) (no_items gen (unread (to_le_bytes w64 (generation_of desk.payloads + 1)))) ∙ read ps (desk_batches desk.states desk.keys) spelled.read in
-        let S : List (PubKey × KeyState) → Type 0 = λ states. ItemsStand (items_of (desk_batches states desk.keys)) state.keys state.states in
-        let stand = subst S (sym stands.states) (snapshot_stands (items_in desk.payloads) desk.keys state.keys state.states stands.payloads.items stands.keys) in
-        let I : List JournalItem → Type 0 = λ l. ItemsStand l state.keys state.states in record {
+        let items : items_in One (gen ∷ ps) ≡ items_of (desk_batches desk.states desk.keys) =
+        ap (λ l. l ++ items_in One ps) (no_items gen (unread (to_le_bytes w64 (generation_of desk.payloads + 1)))) ∙ read ps (desk_batches desk.states desk.keys) spelled.read in
+        let S : List (PubKey × KeyState) → Type 0 = λ states. ItemsStand (items_of (desk_batches states desk.keys)) state.keys state.states [] in
+        let stand = subst S (sym stands.states) (snapshot_stands (items_in One desk.payloads) desk.keys state.keys state.states stands.payloads.items stands.keys) in
+        let I : List JournalItem → Type 0 = λ l. ItemsStand l state.keys state.states [] in record {
           items = subst I (sym items) stand;
           size = sym snapshot_bytes;
           generation = ap (λ n. n + 1) stands.payloads.generation ∙ sym (next desk.payloads ps less);

@@ -1,6 +1,7 @@
 -- A call of the desk from its exits.
-use Rattle.std.proofs.Common.{◌≡◌, ℕ, ◌+◌, Bool, true, false, List, ◌++◌, Option, Some, None, Err, refl, sym, ◌∙◌, subst}
+use Rattle.std.proofs.Common.{[], ◌≡◌, ℕ, ◌+◌, Bool, true, false, List, ◌++◌, Option, Some, None, Err, refl, sym, ◌∙◌, subst}
 use Rattle.std.specs.Prelude.{is_some}
+use Rattle.record_codec.specs.declared.version.JournalVersion.TheVariants.{One}
 use Rattle.record_codec.specs.declared.item.JournalItem.{JournalItem}
 use Rattle.record_journal.specs.Journals.{Journaled, journal_size}
 use Rattle.record_journal.specs.declared.log.AppendFault.{AppendFault}
@@ -35,7 +36,7 @@ pub by_reply : {D : Type 0} (faults : D → ℕ) (old new : Journaled D) (items 
     → PayloadsStand old.payloads (lasting state) → old.size ≡ state.size → old.size ≡ journal_size old.payloads → old.torn ≡ None → IsUp state
     → desk.payloads ≡ new.payloads → desk.size ≡ new.size → desk.torn ≡ new.torn
     → Proceeds state c → written state c ≡ items
-    → ItemsStand (items_in old.payloads ++ items) (lasting_after state c).keys (lasting_after state c).states → (lasting_after state c).size ≡ state.size + frame_size items → (lasting_after state c).generation ≡ state.generation → (IsWritten state.size (written state c) → Writes state c) → ((s w : ℕ) → IsOver state.size (written state c) s w → Overfills state c s w)
+    → ItemsStand (items_in One old.payloads ++ items) (lasting_after state c).keys (lasting_after state c).states [] → (lasting_after state c).size ≡ state.size + frame_size items → (lasting_after state c).generation ≡ state.generation → (IsWritten state.size (written state c) → Writes state c) → ((s w : ℕ) → IsOver state.size (written state c) s w → Overfills state c s w)
     → (MayFail state c → R reply.Disk) → (MayWant state c → R reply.OutOfMemory) → ((s w : ℕ) → IsTooMuch state c s w → R (reply.Full s w))
     → A reply.Disk ≡ record state { latest = latest_after state.latest c; torn = torn_first state.torn (lasting_after state c) } → A reply.OutOfMemory ≡ record state { latest = latest_after state.latest c; torn = state.torn }
     → ((s w : ℕ) → A (reply.Full s w) ≡ record state { latest = latest_after state.latest c; torn = state.torn })

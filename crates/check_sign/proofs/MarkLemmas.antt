@@ -9,6 +9,7 @@ use Rattle.std.proofs.lemmas.Map.Steps.{set_value_same}
 use Rattle.edge_kit.specs.declared.bytes.PubKey.{PubKey}
 use Rattle.record_join.specs.Keys.{key_cmp, kept_of, with_key, with_kept}
 use Rattle.record_join.specs.KeyLaws.{kept_here, put_kept, taken_out}
+use Rattle.record_codec.specs.declared.version.JournalVersion.TheVariants.{One}
 use Rattle.record_replay.specs.declared.state.KeyState.{KeyState}
 use Rattle.record_replay.specs.declared.state.KeyState.TheVariants.{Known, Active, Closing, Closed}
 use Rattle.protect_record.specs.Parts.{Parts}
@@ -100,7 +101,7 @@ pub closing_at : (r : KeyState) (states held : List (PubKey × KeyState)) (key :
 closing_at r states held key is same e = found_at r states held key Closing is same closing_known e
 
 pub begun_closing : (desk : Contents) (state : State) (key : PubKey) (states : List (PubKey × KeyState)) (events : List DeskEvent) → DeskStands desk state → states ≡ with_kept desk.states key Closing
-    → ItemsStand (items_in desk.payloads) state.keys (with_kept state.states key Closing)
+    → ItemsStand (items_in One desk.payloads) state.keys (with_kept state.states key Closing) []
     → DeskStands (record desk { states = states; events = events }) (record state { states = with_kept state.states key Closing })
 begun_closing desk state key states events s is items = record {
   genesis = s.genesis;

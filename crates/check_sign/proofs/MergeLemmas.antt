@@ -1,5 +1,5 @@
 -- A file that was not taken in.
-use Rattle.std.proofs.Common.{◌≡◌, inl, inr, ℕ, List, None, refl, sym, ◌∙◌, ap, subst}
+use Rattle.std.proofs.Common.{[], ◌≡◌, inl, inr, ℕ, List, None, refl, sym, ◌∙◌, ap, subst}
 use Rattle.edge_kit.specs.declared.bytes.PubKey.{PubKey}
 use Rattle.edge_kit.specs.declared.disk.Disks.{Disks}
 use Rattle.slash_defs.specs.declared.book.File.{File}
@@ -9,6 +9,7 @@ use Rattle.record_join.specs.BooksPasts.{BooksStand, EachOnce}
 use Rattle.record_journal.specs.Journals.{Journaled, disks_of, journal_size}
 use Rattle.record_journal.specs.TwoDisks.{EitherRose}
 use Rattle.record_replay.proofs.ChangeLemmas.{merged}
+use Rattle.record_codec.specs.declared.version.JournalVersion.TheVariants.{One}
 use Rattle.record_replay.specs.Batches.{file_items}
 use Rattle.record_replay.specs.Items.{items_in}
 use Rattle.desk_machine.specs.Machine.{IsUp, Reply, after}
@@ -53,5 +54,5 @@ module _ {D : Type 0} (faults : D → ℕ) (old new : Journaled D) (desk : Conte
   ungained_step (inr told) same once stand payloads size journal clean up payloads_are size_is torn_is rest =
       by_reply faults old new (file_items (canonical file).books) desk state (call.Merge file) r told.1.0 (λ x. Reply state (call.Merge file) x) (λ x. after state (call.Merge file) x)
       told.1.1 told.1.2 payloads size journal clean up payloads_are size_is torn_is (same, fits_file kept state.keys file.books stand told.0) refl
-      (merged (items_in old.payloads) state.keys state.states payloads.items file once) refl refl (λ h. h) (λ a b h. h)
+      (merged (items_in One old.payloads) state.keys state.states [] payloads.items file once) refl refl (λ h. h) (λ a b h. h)
       (λ h. h) (λ h. h) (λ a b h. h) refl refl (λ a b. refl) rest

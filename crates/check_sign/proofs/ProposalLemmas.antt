@@ -16,6 +16,7 @@ use Rattle.protect_record.specs.Pasts.{Past, no_past, with_own, IsPastBlock, IsP
 use Rattle.protect_record.specs.Exporting.{export_of, prune_book}
 use Rattle.protect_record.specs.Standing.{Stands}
 use Rattle.protect_record.proofs.MemberLemmas.{contains_cases, contains_first, contains_none}
+use Rattle.record_codec.specs.declared.version.JournalVersion.TheVariants.{One}
 use Rattle.record_codec.specs.declared.item.JournalItem.{JournalItem}
 use Rattle.record_codec.specs.declared.item.JournalItem.TheVariants as item
 use Rattle.record_join.specs.Keys.{key_cmp, kept_of, with_kept}
@@ -144,30 +145,31 @@ some_injective : {A : Type 0} (x y : A) → Some x ≡ Some y → x ≡ y
 some_injective x y h = cc
 
 -- so the items stand for it as they are
-repeat_each : (items : List JournalItem) (keys : List (PubKey × Past)) (states : List (PubKey × KeyState)) (key q : PubKey) (m : Message) (past after : Past) → ItemsStand items keys states → IsRepeat past m → kept_of keys key ≡ Some past
+repeat_each : (items : List JournalItem) (keys : List (PubKey × Past)) (states : List (PubKey × KeyState)) (key q : PubKey) (m : Message) (past after : Past) → ItemsStand items keys states [] → IsRepeat past m → kept_of keys key ≡ Some past
     → (b : Bool) → is_at (key_cmp key) q ≡ b → cond b (Some (with_own past m)) (kept_of keys q) ≡ Some after → KeyStands items q after
 repeat_each items keys states key q m past after stand is at true e h =
     let there = subst (λ (k : PubKey). KeyStands items k (with_own past m)) (same_key key q e) (repeat_stands items key past m is (stand.each key past at)) in
     subst (λ (p : Past). KeyStands items q p) (some_injective (with_own past m) after h) there
 repeat_each items keys states key q m past after stand is at false e h = stand.each q after h
 
-repeated : (items : List JournalItem) (keys : List (PubKey × Past)) (states : List (PubKey × KeyState)) (key : PubKey) (m : Message) (past : Past) → ItemsStand items keys states → IsRepeat past m → kept_of keys key ≡ Some past
-    → ItemsStand items (own_grown keys key m) states
+repeated : (items : List JournalItem) (keys : List (PubKey × Past)) (states : List (PubKey × KeyState)) (key : PubKey) (m : Message) (past : Past) → ItemsStand items keys states [] → IsRepeat past m → kept_of keys key ≡ Some past
+    → ItemsStand items (own_grown keys key m) states []
 repeated items keys states key m past stand is at =
-    let K : Option Past → Type 0 = λ o. ItemsStand items (own_grown_from keys key m o) states in
+    let K : Option Past → Type 0 = λ o. ItemsStand items (own_grown_from keys key m o) states [] in
     subst K (sym at) (record {
       named = keys-set_value (is_at (key_cmp key)) keys (with_own past m) ∙ stand.named;
       each = λ q after h. repeat_each items keys states key q m past after stand is at (is_at (key_cmp key) q) refl (sym (changed keys key q (with_own past m) (is_some_of (kept_of keys key) past at)) ∙ h);
       states = stand.states;
+      watches = stand.watches;
     })
 
 -- what a proposal writes stands for the past with its message
-pub proposed : (items : List JournalItem) (keys : List (PubKey × Past)) (states : List (PubKey × KeyState)) (key : PubKey) (m : Message) (past : Past) → ItemsStand items keys states → kept_of keys key ≡ Some past
-    → ItemsStand (items ++ message_item key m ∷ []) (own_grown keys key m) states → ItemsStand (items ++ proposal_items (Some past) key m) (own_grown keys key m) states
+pub proposed : (items : List JournalItem) (keys : List (PubKey × Past)) (states : List (PubKey × KeyState)) (key : PubKey) (m : Message) (past : Past) → ItemsStand items keys states [] → kept_of keys key ≡ Some past
+    → ItemsStand (items ++ message_item key m ∷ []) (own_grown keys key m) states [] → ItemsStand (items ++ proposal_items (Some past) key m) (own_grown keys key m) states []
 proposed items keys states key m past stand at own = by (repeats past m) refl where
-  by : (b : Bool) → repeats past m ≡ b → ItemsStand (items ++ (if b then [] else message_item key m ∷ [])) (own_grown keys key m) states
+  by : (b : Bool) → repeats past m ≡ b → ItemsStand (items ++ (if b then [] else message_item key m ∷ [])) (own_grown keys key m) states []
   by true e =
-      let P : List JournalItem → Type 0 = λ i. ItemsStand i (own_grown keys key m) states in
+      let P : List JournalItem → Type 0 = λ i. ItemsStand i (own_grown keys key m) states [] in
       subst P (sym (append-nil items)) (repeated items keys states key m past stand ((repeats_decides past m).0 e) at)
   by false e = own
 
@@ -192,7 +194,7 @@ later_stands desk state books grants next events latest now s each same counts i
 pub proposal_fault : {D : Type 0} (faults : D → ℕ) (old new : Journaled D) (desk : Contents) (state : State) (key : PubKey) (m : Message) (now : ℕ) (past : Past) (f : AppendFault) (r : DeskReply)
     → kept_of state.keys key ≡ Some past → kept_of state.states key ≡ Some Active → Passes past m → IsAllowed state key → Wrote faults old (proposal_items (Some past) key m) new (Err f)
     → PayloadsStand old.payloads (lasting state) → old.size ≡ state.size → old.size ≡ journal_size old.payloads → old.torn ≡ None → IsUp state
-    → ItemsStand (items_in old.payloads ++ message_item key m ∷ []) (own_grown state.keys key m) state.states
+    → ItemsStand (items_in One old.payloads ++ message_item key m ∷ []) (own_grown state.keys key m) state.states []
     → desk.payloads ≡ new.payloads → desk.size ≡ new.size → desk.torn ≡ new.torn → Rest desk (record state { latest = max state.latest now }) → r ≡ refusal_of f
     → Reply state (call.Propose key m now) r × DeskStands desk (after state (call.Propose key m now) r)
 proposal_fault faults old new desk state key m now past f r at active passes allowed wrote payloads size journal clean up own payloads_are size_is torn_is rest is =
@@ -201,13 +203,13 @@ proposal_fault faults old new desk state key m now past f r at active passes all
     let T : DeskReply → Type 0 = λ x. R x × DeskStands desk (A x) in
     let writes : proposal_items (kept_of state.keys key) key m ≡ proposal_items (Some past) key m = ap (λ o. proposal_items o key m) at in
     subst T (sym is) (by_fault faults old new (proposal_items (Some past) key m) desk state (call.Propose key m now) f R A wrote payloads size journal clean up payloads_are size_is torn_is
-    ((active, some_is (kept_of state.keys key) past (λ p. Passes p m) at passes), allowed) writes (proposed (items_in old.payloads) state.keys state.states key m past payloads.items at own)
+    ((active, some_is (kept_of state.keys key) past (λ p. Passes p m) at passes), allowed) writes (proposed (items_in One old.payloads) state.keys state.states key m past payloads.items at own)
     (ap (λ i. state.size + frame_size i) writes) refl (λ h. h) (λ s w h. h) (λ h. h) (λ h. h) (λ s w h. h) refl refl (λ s w. refl) rest)
 
 pub proposal_granted : {D : Type 0} (faults : D → ℕ) (old new : Journaled D) (desk : Contents) (state : State) (key : PubKey) (m : Message) (now : ℕ) (past : Past) (grant : OpenGrant)
     → kept_of state.keys key ≡ Some past → kept_of state.states key ≡ Some Active → Passes past m → IsAllowed state key → Wrote faults old (proposal_items (Some past) key m) new (Ok tt)
     → PayloadsStand old.payloads (lasting state) → old.size ≡ state.size → old.size ≡ journal_size old.payloads → IsUp state
-    → ItemsStand (items_in old.payloads ++ message_item key m ∷ []) (own_grown state.keys key m) state.states
+    → ItemsStand (items_in One old.payloads ++ message_item key m ∷ []) (own_grown state.keys key m) state.states []
     → desk.payloads ≡ new.payloads → desk.size ≡ new.size → desk.torn ≡ new.torn → Rest desk (after state (call.Propose key m now) (reply.Granted grant)) → grant ≡ grant_for state key m
     → Reply state (call.Propose key m now) (reply.Granted grant) × DeskStands desk (after state (call.Propose key m now) (reply.Granted grant))
 proposal_granted faults old new desk state key m now past grant at active passes allowed wrote payloads size journal up own payloads_are size_is torn_is rest is =
@@ -217,7 +219,7 @@ proposal_granted faults old new desk state key m now past grant at active passes
     let whats : List JournalItem → Type 0 = λ i. HasRoomFor state.size i in (
       ((up, ((active, some_is (kept_of state.keys key) past (λ p. Passes p m) at passes), allowed), subst whats (sym writes) (subst sizes size wrote.0)), is),
       grown faults old new items desk state (after state (call.Propose key m now) (reply.Granted grant)) wrote size journal payloads_are size_is torn_is
-          (proposed (items_in old.payloads) state.keys state.states key m past payloads.items at own) (ap (λ i. state.size + frame_size i) writes) payloads.generation up rest,
+          (proposed (items_in One old.payloads) state.keys state.states key m past payloads.items at own) (ap (λ i. state.size + frame_size i) writes) payloads.generation up rest,
     )
 
 -- ---- the disk of a call that failed
@@ -281,7 +283,7 @@ may_be_closed desk state key book s exported closing idle =
 
 pub closing_fault : {D : Type 0} (faults : D → ℕ) (old new : Journaled D) (desk : Contents) (state : State) (key : PubKey) (f : AppendFault) (r : DeskReply) → Proceeds state (call.FinishClose key) → Wrote faults old (item.Close key ∷ []) new (Err f)
     → PayloadsStand old.payloads (lasting state) → old.size ≡ state.size → old.size ≡ journal_size old.payloads → old.torn ≡ None → IsUp state
-    → ItemsStand (items_in old.payloads ++ item.Close key ∷ []) state.keys (with_kept state.states key Closed)
+    → ItemsStand (items_in One old.payloads ++ item.Close key ∷ []) state.keys (with_kept state.states key Closed) []
     → desk.payloads ≡ new.payloads → desk.size ≡ new.size → desk.torn ≡ new.torn → Rest desk state → r ≡ refusal_of f
     → Reply state (call.FinishClose key) r × DeskStands desk (after state (call.FinishClose key) r)
 closing_fault faults old new desk state key f r proceeds wrote payloads size journal clean up closed payloads_are size_is torn_is rest is =
@@ -292,7 +294,7 @@ closing_fault faults old new desk state key f r proceeds wrote payloads size jou
     proceeds refl closed refl refl (λ h. h) (λ s w h. h) (λ h. h) (λ h. h) (λ s w h. h) refl refl (λ s w. refl) rest)
 
 pub closing_done : {D : Type 0} (faults : D → ℕ) (old new : Journaled D) (desk : Contents) (state : State) (key : PubKey) (parts : Parts) (past : Past) (book : Book) → Proceeds state (call.FinishClose key) → Wrote faults old (item.Close key ∷ []) new (Ok tt)
-    → PayloadsStand old.payloads (lasting state) → old.size ≡ state.size → old.size ≡ journal_size old.payloads → IsUp state → ItemsStand (items_in old.payloads ++ item.Close key ∷ []) state.keys (with_kept state.states key Closed)
+    → PayloadsStand old.payloads (lasting state) → old.size ≡ state.size → old.size ≡ journal_size old.payloads → IsUp state → ItemsStand (items_in One old.payloads ++ item.Close key ∷ []) state.keys (with_kept state.states key Closed) []
     → desk.payloads ≡ new.payloads → desk.size ≡ new.size → desk.torn ≡ new.torn → Rest desk (after state (call.FinishClose key) (reply.Closed book))
     → kept_of state.keys key ≡ Some past → Stands parts past → book ≡ export_of parts
     → Reply state (call.FinishClose key) (reply.Closed book) × DeskStands desk (after state (call.FinishClose key) (reply.Closed book))

@@ -10,7 +10,9 @@ use Rattle.slash_defs.specs.declared.book.Book.{Book}
 use Rattle.protect_record.specs.Parts.{Parts}
 use Rattle.protect_record.specs.Pasts.{Past}
 use Rattle.protect_record.specs.Standing.{Stands}
-use Rattle.record_codec.specs.Spelling.{IsBatch, is_record}
+use Rattle.record_codec.specs.Spelling.{IsBatch, IsOf, MomentFits, is_record}
+use Rattle.record_codec.specs.declared.version.JournalVersion.TheVariants.{One}
+use Rattle.key_snapshot.proofs.BatchLemmas.{records_old}
 use Rattle.record_codec.specs.declared.item.JournalItem.{JournalItem}
 use Rattle.record_codec.specs.declared.item.JournalItem.TheVariants as item
 use Rattle.record_replay.specs.Batches.{book_items, file_items}
@@ -30,7 +32,7 @@ use Rattle.check_sign.specs.Standing.{DeskStands, PayloadsStand, TornStands}
 use Rattle.desk_machine.specs.Machine.{key_standings}
 use Rattle.desk_machine.specs.declared.call.KeyStanding.{KeyStanding}
 use Rattle.check_sign.specs.Opening.{IsBroughtBack}
-use Rattle.check_sign.specs.Writing.{Moved, HoldsJournal, journal_of}
+use Rattle.check_sign.specs.Writing.{IsWritable, Moved, HoldsJournal, journal_of}
 use Rattle.check_sign.proofs.OpenLemmas.{still}
 
 -- each of the items is a record
@@ -52,19 +54,33 @@ file_records : (books : List (PubKey × Book)) → Records (file_items books)
 file_records [] = tt
 file_records (b ∷ books) = records_append _ _ (book_records b) (file_records books)
 
-pub as_batch : (items : List JournalItem) → Records items → (items ≡ []) ⊎ IsBatch items
-as_batch [] all = inl refl
-as_batch (i ∷ []) all = inr tt
-as_batch (i ∷ j ∷ items) all = inr all
+-- an item that the first version has says no moment
+moment_old : (i : JournalItem) → IsOf One i → MomentFits i
+moment_old (item.Block key entry) is = tt
+moment_old (item.Vote key entry) is = tt
+moment_old (item.Floors key block vote) is = tt
+moment_old (item.ActivateUndated key) is = tt
+moment_old (item.Activate key epoch) is = absurd cc
+moment_old (item.Answer key epoch live moment) is = absurd cc
+moment_old (item.Close key) is = tt
 
-abbrev pub Batch : List JournalItem → Type 0
-Batch items = (items ≡ []) ⊎ IsBatch items
+pub moments_old : (items : List JournalItem) → AllByRecursion (IsOf One) items → AllByRecursion MomentFits items
+moments_old [] all = tt
+moments_old (i ∷ items) all = (moment_old i all.0, moments_old items all.1)
 
-pub book_batch : (items : List JournalItem) (listed : PubKey × Book) → items ≡ book_items listed → (items ≡ []) ⊎ IsBatch items
-book_batch items listed is = subst Batch (sym is) (as_batch (book_items listed) (book_records listed))
+one_batch : (items : List JournalItem) → Records items → (items ≡ []) ⊎ IsBatch items
+one_batch [] all = inl refl
+one_batch (i ∷ []) all = inr tt
+one_batch (i ∷ j ∷ items) all = inr all
 
-pub file_batch : (items : List JournalItem) (books : List (PubKey × Book)) → items ≡ file_items books → (items ≡ []) ⊎ IsBatch items
-file_batch items books is = subst Batch (sym is) (as_batch (file_items books) (file_records books))
+pub as_batch : (items : List JournalItem) → Records items → IsWritable items
+as_batch items all = (one_batch items all, records_old items all)
+
+pub book_batch : (items : List JournalItem) (listed : PubKey × Book) → items ≡ book_items listed → IsWritable items
+book_batch items listed is = subst IsWritable (sym is) (as_batch (book_items listed) (book_records listed))
+
+pub file_batch : (items : List JournalItem) (books : List (PubKey × Book)) → items ≡ file_items books → IsWritable items
+file_batch items books is = subst IsWritable (sym is) (as_batch (file_items books) (file_records books))
 
 -- ---- where nothing was written
 
@@ -123,7 +139,7 @@ last (s ∷ states) = ap (λ x. (s.0, x) ∷ lasting_states (lasting_states stat
 
 stand_on : (payloads : List (List ℕ)) (l : Lasting) → PayloadsStand payloads l → PayloadsStand payloads (record { keys = l.keys; states = lasting_states l.states; size = l.size; generation = l.generation })
 stand_on payloads l s = record {
-  items = record { named = s.items.named; each = s.items.each; states = s.items.states ∙ sym (last l.states) };
+  items = record { named = s.items.named; each = s.items.each; states = s.items.states ∙ sym (last l.states); watches = s.items.watches };
   size = s.size;
   generation = s.generation;
 }
@@ -154,7 +170,7 @@ reopens desk genesis watch now l fresh keys states s = let at_torn : Option (Lis
 }
 
 pub opened_stands : (desk : Contents) (genesis : Root) (watch : Bool) (now : ℕ) (payloads : List (List ℕ)) → IsFresh desk genesis watch now
-    → payloads ≡ desk.payloads → ((pasts : List (PubKey × Past)) (states : List (PubKey × KeyState)) → ItemsStand (items_in payloads) pasts states → BooksStand desk.keys pasts × (desk.states ≡ lasting_states states))
+    → payloads ≡ desk.payloads → ((pasts : List (PubKey × Past)) (states : List (PubKey × KeyState)) → ItemsStand (items_in One payloads) pasts states [] → BooksStand desk.keys pasts × (desk.states ≡ lasting_states states))
     → (l : Lasting) → PayloadsStand desk.payloads l → DeskStands desk (reopened genesis l watch now)
 opened_stands desk genesis watch now payloads fresh same replayed l s =
     let P : List (List ℕ) → Type 0 = λ ps. PayloadsStand ps l in
@@ -163,12 +179,12 @@ opened_stands desk genesis watch now payloads fresh same replayed l s =
     reopens desk genesis watch now l fresh both.0 both.1 s
 
 -- what was replayed of these payloads, the desk's own, is brought back
-pub brought_back : (desk : Contents) (payloads : List (List ℕ)) → payloads ≡ desk.payloads → keys_of desk.keys ≡ named_keys (items_in payloads)
-    → length desk.keys ≤ key_limit → ((key : PubKey) (parts : Parts) → kept_of desk.keys key ≡ Some parts → IsReplayed (items_in payloads) key parts) → desk.states ≡ states_in (items_in payloads) → IsBroughtBack desk
+pub brought_back : (desk : Contents) (payloads : List (List ℕ)) → payloads ≡ desk.payloads → keys_of desk.keys ≡ named_keys (items_in One payloads)
+    → length desk.keys ≤ key_limit → ((key : PubKey) (parts : Parts) → kept_of desk.keys key ≡ Some parts → IsReplayed (items_in One payloads) key parts) → desk.states ≡ states_in (items_in One payloads) → IsBroughtBack desk
 brought_back desk payloads same keys limit each states =
-    let K : List (List ℕ) → Type 0 = λ ps. keys_of desk.keys ≡ named_keys (items_in ps) in
-    let E : List (List ℕ) → Type 0 = λ ps. (key : PubKey) (parts : Parts) → kept_of desk.keys key ≡ Some parts → IsReplayed (items_in ps) key parts in
-    let S : List (List ℕ) → Type 0 = λ ps. desk.states ≡ states_in (items_in ps) in record {
+    let K : List (List ℕ) → Type 0 = λ ps. keys_of desk.keys ≡ named_keys (items_in One ps) in
+    let E : List (List ℕ) → Type 0 = λ ps. (key : PubKey) (parts : Parts) → kept_of desk.keys key ≡ Some parts → IsReplayed (items_in One ps) key parts in
+    let S : List (List ℕ) → Type 0 = λ ps. desk.states ≡ states_in (items_in One ps) in record {
       keys = subst K same keys;
       limit = let listed : length (keys_of desk.keys) ≡ length desk.keys = length-map desk.keys (λ (e : PubKey × Parts). e.0) in
           let named = ap (λ (l : List PubKey). length l) (subst K same keys) in omega (arith, listed, named, limit);

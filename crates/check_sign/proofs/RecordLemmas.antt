@@ -1,5 +1,5 @@
 -- Messages of several keys that are kept, or are not.
-use Rattle.std.proofs.Common.{◌≡◌, ◌⊎◌, inl, inr, ℕ, ◌+◌, ◌<◌, max, length, take, get_or, true, false, List, [], ◌∷◌, ◌++◌, Option, Some, None, Ok, Err, refl, sym, ◌∙◌, ap, subst}
+use Rattle.std.proofs.Common.{◌≡◌, ◌⊎◌, inl, inr, ℕ, ◌+◌, ◌<◌, max, length, take, get_or, true, false, List, [], Option, Some, None, refl, sym, ◌∙◌, ap, subst}
 use Rattle.std.specs.Prelude.{Contains, IsSome, IsSomeAnd}
 use Rattle.std.proofs.lemmas.List.Elements.{Contains-get_or, Contains-push_cases}
 use Rattle.edge_kit.specs.declared.bytes.PubKey.{PubKey}
@@ -8,7 +8,8 @@ use Rattle.slash_defs.specs.declared.message.Message.{Message}
 use Rattle.slash_defs.specs.declared.message.Message.TheVariants as message
 use Rattle.protect_record.specs.Parts.{Parts}
 use Rattle.protect_record.specs.Pasts.{Past}
-use Rattle.record_codec.specs.Spelling.{IsBatch, is_record}
+use Rattle.record_codec.specs.declared.version.JournalVersion.TheVariants.{One}
+use Rattle.record_codec.specs.Spelling.{is_record}
 use Rattle.record_codec.specs.declared.item.JournalItem.{JournalItem}
 use Rattle.record_join.specs.Keys.{kept_of}
 use Rattle.record_join.specs.BooksPasts.{AreNew, BooksStand}
@@ -27,10 +28,10 @@ use Rattle.desk_machine.specs.declared.call.DeskReply.TheVariants as reply
 use Rattle.check_sign.specs.Contents.{Contents}
 use Rattle.check_sign.specs.Refusing.{BarsOne, IsUnable, IsUnkept}
 use Rattle.check_sign.specs.Standing.{DeskStands, PayloadsStand}
-use Rattle.check_sign.specs.Writing.{refusal_of}
+use Rattle.check_sign.specs.Writing.{IsWritable, refusal_of}
 use Rattle.check_sign.proofs.DeskLemmas.{by_reply}
 use Rattle.check_sign.proofs.ProposalLemmas.{rose_from}
-use Rattle.check_sign.proofs.ReadLemmas.{Batch, as_batch, records_map}
+use Rattle.check_sign.proofs.ReadLemmas.{as_batch, records_map}
 use Rattle.check_sign.proofs.RefusalLemmas.{IsPlain, of_fault}
 use Rattle.check_sign.proofs.StepLemmas.{Rest, none_torn, whole}
 
@@ -40,8 +41,8 @@ item_record : (one : PubKey × Message) → is_record (message_item one.0 one.1)
 item_record (key, message.Block slot root) = refl
 item_record (key, message.Vote source target root) = refl
 
-pub messages_batch : (items : List JournalItem) (listed : List (PubKey × Message)) → items ≡ message_items listed → (items ≡ []) ⊎ IsBatch items
-messages_batch items listed is = subst Batch (sym is) (as_batch (message_items listed) (records_map (λ (one : PubKey × Message). message_item one.0 one.1) item_record listed))
+pub messages_batch : (items : List JournalItem) (listed : List (PubKey × Message)) → items ≡ message_items listed → IsWritable items
+messages_batch items listed is = subst IsWritable (sym is) (as_batch (message_items listed) (records_map (λ (one : PubKey × Message). message_item one.0 one.1) item_record listed))
 
 -- ---- replies that change no grant and are not noted
 
@@ -144,7 +145,7 @@ module _ {D : Type 0} (faults : D → ℕ) (old new : Journaled D) (desk : Conte
   unkept_step (inr (inr told)) may stand payloads size journal clean up payloads_are size_is torn_is rest =
       by_reply faults old new (message_items ps) desk state (call.Record ps now) r told.1.0 (λ x. Reply state (call.Record ps now) x) (λ x. after state (call.Record ps now) x)
       told.1.1 told.1.2 payloads size journal clean up payloads_are size_is torn_is (fresh_of state ps may (told.0 state.keys stand)) refl
-      (recorded (items_in old.payloads) state.keys state.states ps payloads.items (λ one c. (may one c).0.0)) refl refl (λ h. h) (λ a b h. h) (λ h. h) (λ h. h.0) (λ a b h. h) refl refl (λ a b. refl) rest
+      (recorded (items_in One old.payloads) state.keys state.states [] ps payloads.items (λ one c. (may one c).0.0)) refl refl (λ h. h) (λ a b h. h) (λ h. h) (λ h. h.0) (λ a b h. h) refl refl (λ a b. refl) rest
 
 -- ---- one after another
 

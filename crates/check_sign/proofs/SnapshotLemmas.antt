@@ -83,10 +83,10 @@ brought states held (r ∷ records) = brought states (with_held held r.0 (key_st
 
 module _ (states : List (PubKey × KeyState)) where
   all_added : (items : List JournalItem) (done : List (PubKey × Past)) (held : List (PubKey × KeyState)) (records : List (PubKey × Parts)) (keys : List (PubKey × Past))
-      → ItemsStand items done held → BooksStand records keys → IsStrictlySortedBy key_cmp (keys_of (done ++ keys))
-      → ItemsStand (items ++ items_of (desk_batches states records)) (done ++ keys) (brought states held records)
+      → ItemsStand items done held [] → BooksStand records keys → IsStrictlySortedBy key_cmp (keys_of (done ++ keys))
+      → ItemsStand (items ++ items_of (desk_batches states records)) (done ++ keys) (brought states held records) []
   all_added items done held [] [] stand each sorted =
-      subst (λ (l : List JournalItem). ItemsStand l (done ++ []) held) (sym (append-nil items)) (subst (λ (ks : List (PubKey × Past)). ItemsStand items ks held) (sym (append-nil done)) stand)
+      subst (λ (l : List JournalItem). ItemsStand l (done ++ []) held []) (sym (append-nil items)) (subst (λ (ks : List (PubKey × Past)). ItemsStand items ks held []) (sym (append-nil done)) stand)
   all_added items done held [] (k ∷ keys) stand each sorted = absurd each
   all_added items done held (r ∷ records) [] stand each sorted = absurd each
   all_added items done held (r ∷ records) (k ∷ keys) stand each sorted =
@@ -94,14 +94,14 @@ module _ (states : List (PubKey × KeyState)) where
       let more : List (PubKey × KeyState) = with_held held r.0 (key_state states r.0) in
       let new : kept_of done r.0 ≡ None = ap (λ key. kept_of done key) each.0 ∙ once_before done k keys (distinct_ordered (done ++ k ∷ keys) sorted) in
       let last : with_key done r.0 k.1 ≡ done ++ k ∷ [] = ap (λ key. with_key done key k.1) each.0 ∙ comes_last done k keys sorted in
-      let next : ItemsStand (items ++ items_of batches) (done ++ k ∷ []) more =
-      subst (λ (ks : List (PubKey × Past)). ItemsStand (items ++ items_of batches) ks more) last (added_stands items done held stand r.0 (key_state states r.0) r.1 k.1 new each.1) in
+      let next : ItemsStand (items ++ items_of batches) (done ++ k ∷ []) more [] =
+      subst (λ (ks : List (PubKey × Past)). ItemsStand (items ++ items_of batches) ks more []) last (added_stands items done held stand r.0 (key_state states r.0) r.1 k.1 new each.1) in
       let in_order : (done ++ k ∷ []) ++ keys ≡ done ++ k ∷ keys = append_assoc done (k ∷ []) keys in
       let joined : (items ++ items_of batches) ++ items_of (desk_batches states records) ≡ items ++ items_of (batches ++ desk_batches states records) =
       append_assoc items (items_of batches) (items_of (desk_batches states records)) ∙ ap (λ l. items ++ l) (sym (flat_map-append (λ batch. batch) batches (desk_batches states records))) in
       let rest = all_added (items ++ items_of batches) (done ++ k ∷ []) more records keys next each.2 (subst (λ (ks : List (PubKey × Past)). IsStrictlySortedBy key_cmp (keys_of ks)) (sym in_order) sorted) in
-      subst (λ (l : List JournalItem). ItemsStand l (done ++ k ∷ keys) (brought states more records)) joined
-      (subst (λ (ks : List (PubKey × Past)). ItemsStand ((items ++ items_of batches) ++ items_of (desk_batches states records)) ks (brought states more records)) in_order rest)
+      subst (λ (l : List JournalItem). ItemsStand l (done ++ k ∷ keys) (brought states more records) []) joined
+      (subst (λ (ks : List (PubKey × Past)). ItemsStand ((items ++ items_of batches) ++ items_of (desk_batches states records)) ks (brought states more records) []) in_order rest)
 
 -- ---- the states that are brought back, key by key
 
@@ -152,7 +152,9 @@ module _ (states : List (PubKey × KeyState)) (q : PubKey) where
 -- ---- the states that items say
 
 step_sorted : (states : List (PubKey × KeyState)) (i : JournalItem) → IsStrictlySortedBy key_cmp (keys_of states) → IsStrictlySortedBy key_cmp (keys_of (with_state states i))
-step_sorted states (item.Activate key) sorted = subst (IsStrictlySortedBy key_cmp) (sym (keys_with states key Active)) (sorted_inserted key_cmp key_total key (keys_of states) sorted)
+step_sorted states (item.ActivateUndated key) sorted = subst (IsStrictlySortedBy key_cmp) (sym (keys_with states key Active)) (sorted_inserted key_cmp key_total key (keys_of states) sorted)
+step_sorted states (item.Activate key epoch) sorted = subst (IsStrictlySortedBy key_cmp) (sym (keys_with states key Active)) (sorted_inserted key_cmp key_total key (keys_of states) sorted)
+step_sorted states (item.Answer key epoch live moment) sorted = sorted
 step_sorted states (item.Close key) sorted = subst (IsStrictlySortedBy key_cmp) (sym (keys_with states key Closed)) (sorted_inserted key_cmp key_total key (keys_of states) sorted)
 step_sorted states (item.Block key entry) sorted = sorted
 step_sorted states (item.Vote key entry) sorted = sorted
@@ -188,8 +190,11 @@ module _ (q : PubKey) where
   one_set false named s o set said = wider false named o said
 
   step_said : (found : List (PubKey × KeyState)) (i : JournalItem) (named : Bool) → IsSaid named (kept_of found q) → IsSaid (named || is_at (key_cmp q) (key_of i)) (kept_of (with_state found i) q)
-  step_said found (item.Activate key) named said =
+  step_said found (item.ActivateUndated key) named said =
       let b : Bool = is_at (key_cmp q) key in subst (λ (o : Option KeyState). IsSaid (named || b) o) (sym (kept_with found key q Active)) (one_set b named Active (kept_of found q) refl said)
+  step_said found (item.Activate key epoch) named said =
+      let b : Bool = is_at (key_cmp q) key in subst (λ (o : Option KeyState). IsSaid (named || b) o) (sym (kept_with found key q Active)) (one_set b named Active (kept_of found q) refl said)
+  step_said found (item.Answer key epoch live moment) named said = wider (is_at (key_cmp q) key) named (kept_of found q) said
   step_said found (item.Close key) named said =
       let b : Bool = is_at (key_cmp q) key in subst (λ (o : Option KeyState). IsSaid (named || b) o) (sym (kept_with found key q Closed)) (one_set b named Closed (kept_of found q) refl said)
   step_said found (item.Block key entry) named said = wider (is_at (key_cmp q) key) named (kept_of found q) said
@@ -253,14 +258,14 @@ same_kept xs ys sorted also same =
 
 -- ---- the keys and the states of the whole
 
-nothing_stands : ItemsStand [] [] []
-nothing_stands = record { named = refl; each = λ key past is. absurd (let bad : None ≡ Some past = is in cc); states = refl }
+nothing_stands : ItemsStand [] [] [] []
+nothing_stands = record { named = refl; each = λ key past is. absurd (let bad : None ≡ Some past = is in cc); states = refl; watches = refl }
 
-module _ (items : List JournalItem) (records : List (PubKey × Parts)) (keys : List (PubKey × Past)) (states : List (PubKey × KeyState)) (stand : ItemsStand items keys states) (each : BooksStand records keys) where
+module _ (items : List JournalItem) (records : List (PubKey × Parts)) (keys : List (PubKey × Past)) (states : List (PubKey × KeyState)) (stand : ItemsStand items keys states []) (each : BooksStand records keys) where
   ascending : IsStrictlySortedBy key_cmp (keys_of keys)
   ascending = subst (IsStrictlySortedBy key_cmp) (sym stand.named) (named_sorted items)
 
-  all_brought : ItemsStand (items_of (desk_batches states records)) keys (brought states [] records)
+  all_brought : ItemsStand (items_of (desk_batches states records)) keys (brought states [] records) []
   all_brought = all_added states [] [] [] records keys nothing_stands each ascending
 
   -- items name the keys of just the records
@@ -283,9 +288,9 @@ module _ (items : List JournalItem) (records : List (PubKey × Parts)) (keys : L
   same_states = same_kept (lasting_states (brought states [] records)) (lasting_states states)
       (lasting_sorted (items_of (desk_batches states records)) (brought states [] records) all_brought.states) (lasting_sorted items states stand.states) same_state
 
-  stands_again : ItemsStand (items_of (desk_batches states records)) keys states
-  stands_again = record { named = all_brought.named; each = all_brought.each; states = all_brought.states ∙ same_states }
+  stands_again : ItemsStand (items_of (desk_batches states records)) keys states []
+  stands_again = record { named = all_brought.named; each = all_brought.each; states = all_brought.states ∙ same_states; watches = all_brought.watches }
 
-pub snapshot_stands : (items : List JournalItem) (records : List (PubKey × Parts)) (keys : List (PubKey × Past)) (states : List (PubKey × KeyState)) → ItemsStand items keys states → BooksStand records keys
-    → ItemsStand (items_of (desk_batches states records)) keys states
+pub snapshot_stands : (items : List JournalItem) (records : List (PubKey × Parts)) (keys : List (PubKey × Past)) (states : List (PubKey × KeyState)) → ItemsStand items keys states [] → BooksStand records keys
+    → ItemsStand (items_of (desk_batches states records)) keys states []
 snapshot_stands items records keys states stand each = stands_again items records keys states stand each

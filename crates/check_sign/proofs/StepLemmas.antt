@@ -1,5 +1,6 @@
 -- What the writing of a batch makes of the states that a desk stands for.
 use Rattle.std.proofs.Common.{◌≡◌, inr, ℕ, ◌+◌, arith, Bool, true, false, cond, nat_eq, ◌&&◌, List, [], ◌∷◌, ◌++◌, length, Option, Some, None, Ok, Err, refl, sym, ◌∙◌, ap, subst, append_assoc, append-nil}
+use Rattle.record_codec.specs.declared.version.JournalVersion.TheVariants.{One}
 use Rattle.record_codec.specs.Spelling.{spelling}
 use Rattle.record_codec.specs.Reading.{batch_of}
 use Rattle.record_codec.specs.declared.item.JournalItem.{JournalItem}
@@ -22,12 +23,12 @@ use Rattle.desk_machine.specs.declared.call.DeskCall.{DeskCall}
 use Rattle.desk_machine.specs.declared.call.DeskReply.{DeskReply}
 use Rattle.desk_machine.specs.declared.call.DeskReply.TheVariants as reply
 
-flat_append : (ps qs : List (List ℕ)) → items_in (ps ++ qs) ≡ items_in ps ++ items_in qs
+flat_append : (ps qs : List (List ℕ)) → items_in One (ps ++ qs) ≡ items_in One ps ++ items_in One qs
 flat_append [] qs = refl
-flat_append (p ∷ ps) qs = ap (λ l. items_or_none (batch_of p) ++ l) (flat_append ps qs) ∙ sym (append_assoc (items_or_none (batch_of p)) (items_in ps) (items_in qs))
+flat_append (p ∷ ps) qs = ap (λ l. items_or_none (batch_of One p) ++ l) (flat_append ps qs) ∙ sym (append_assoc (items_or_none (batch_of One p)) (items_in One ps) (items_in One qs))
 
-items_more : (ps : List (List ℕ)) (p : List ℕ) (items : List JournalItem) → batch_of p ≡ Ok items → items_in (ps ++ p ∷ []) ≡ items_in ps ++ items
-items_more ps p items is = flat_append ps (p ∷ []) ∙ ap (λ l. items_in ps ++ l) (ap (λ r. items_or_none r ++ []) is ∙ append-nil items)
+items_more : (ps : List (List ℕ)) (p : List ℕ) (items : List JournalItem) → batch_of One p ≡ Ok items → items_in One (ps ++ p ∷ []) ≡ items_in One ps ++ items
+items_more ps p items is = flat_append ps (p ∷ []) ∙ ap (λ l. items_in One ps ++ l) (ap (λ r. items_or_none r ++ []) is ∙ append-nil items)
 
 size_more : (ps : List (List ℕ)) (p : List ℕ) → journal_size (ps ++ p ∷ []) ≡ journal_size ps + (length p + 5)
 size_more [] p = refl
@@ -42,7 +43,9 @@ generation_none : (i : JournalItem) (items : List JournalItem) → generation_in
 generation_none (item.Block key entry) items = no_tag (nat_eq (length (spelling (item.Block key entry ∷ items))) 9) _
 generation_none (item.Vote key entry) items = no_tag (nat_eq (length (spelling (item.Vote key entry ∷ items))) 9) _
 generation_none (item.Floors key block vote) items = no_tag (nat_eq (length (spelling (item.Floors key block vote ∷ items))) 9) _
-generation_none (item.Activate key) items = no_tag (nat_eq (length (spelling (item.Activate key ∷ items))) 9) _
+generation_none (item.ActivateUndated key) items = no_tag (nat_eq (length (spelling (item.ActivateUndated key ∷ items))) 9) _
+generation_none (item.Activate key epoch) items = no_tag (nat_eq (length (spelling (item.Activate key epoch ∷ items))) 9) _
+generation_none (item.Answer key epoch live moment) items = no_tag (nat_eq (length (spelling (item.Answer key epoch live moment ∷ items))) 9) _
 generation_none (item.Close key) items = no_tag (nat_eq (length (spelling (item.Close key ∷ items))) 9) _
 
 generation_more : (ps : List (List ℕ)) (i : JournalItem) (items : List JournalItem) → generation_of (ps ++ spelling (i ∷ items) ∷ []) ≡ generation_of ps
@@ -50,24 +53,24 @@ generation_more [] i items = generation_none i items
 generation_more (p ∷ ps) i items = refl
 
 -- one payload more
-payload_stands : (ps : List (List ℕ)) (p : List ℕ) (items : List JournalItem) (l : Lasting) → batch_of p ≡ Ok items → ItemsStand (items_in ps ++ items) l.keys l.states → l.size ≡ journal_size ps + (length p + 5) → l.generation ≡ generation_of (ps ++ p ∷ []) → PayloadsStand (ps ++ p ∷ []) l
-payload_stands ps p items l is stand size generation = let P : List JournalItem → Type 0 = λ i. ItemsStand i l.keys l.states in record {
+payload_stands : (ps : List (List ℕ)) (p : List ℕ) (items : List JournalItem) (l : Lasting) → batch_of One p ≡ Ok items → ItemsStand (items_in One ps ++ items) l.keys l.states [] → l.size ≡ journal_size ps + (length p + 5) → l.generation ≡ generation_of (ps ++ p ∷ []) → PayloadsStand (ps ++ p ∷ []) l
+payload_stands ps p items l is stand size generation = let P : List JournalItem → Type 0 = λ i. ItemsStand i l.keys l.states [] in record {
   items = subst P (sym (items_more ps p items is)) stand;
   size = size ∙ sym (size_more ps p);
   generation = generation;
 }
 
 -- a batch more, or none
-pub batch_stands : (ps : List (List ℕ)) (items : List JournalItem) (size : ℕ) (l : Lasting) → IsRead items → ItemsStand (items_in ps ++ items) l.keys l.states → size ≡ journal_size ps → l.size ≡ size + frame_size items → l.generation ≡ generation_of ps
+pub batch_stands : (ps : List (List ℕ)) (items : List JournalItem) (size : ℕ) (l : Lasting) → IsRead items → ItemsStand (items_in One ps ++ items) l.keys l.states [] → size ≡ journal_size ps → l.size ≡ size + frame_size items → l.generation ≡ generation_of ps
     → PayloadsStand (ps ++ payloads_of items) l
 batch_stands ps [] size l read stand same is generation =
-    let P : List JournalItem → Type 0 = λ i. ItemsStand i l.keys l.states in
+    let P : List JournalItem → Type 0 = λ i. ItemsStand i l.keys l.states [] in
     let Q : List (List ℕ) → Type 0 = λ x. PayloadsStand x l in
-    subst Q (sym (append-nil ps)) (record { items = subst P (append-nil (items_in ps)) stand; size = omega (arith, same, is); generation = generation })
+    subst Q (sym (append-nil ps)) (record { items = subst P (append-nil (items_in One ps)) stand; size = omega (arith, same, is); generation = generation })
 batch_stands ps (i ∷ items) size l read stand same is generation = payload_stands ps (spelling (i ∷ items)) (i ∷ items) l read stand (omega (arith, same, is)) (generation ∙ sym (generation_more ps i items))
 
 -- the same of a batch that is written
-written_stands : (ps : List (List ℕ)) (items : List JournalItem) (size : ℕ) (l : Lasting) → IsWritten size items → IsRead items → ItemsStand (items_in ps ++ items) l.keys l.states → size ≡ journal_size ps → l.size ≡ size + frame_size items → l.generation ≡ generation_of ps
+written_stands : (ps : List (List ℕ)) (items : List JournalItem) (size : ℕ) (l : Lasting) → IsWritten size items → IsRead items → ItemsStand (items_in One ps ++ items) l.keys l.states [] → size ≡ journal_size ps → l.size ≡ size + frame_size items → l.generation ≡ generation_of ps
     → PayloadsStand (ps ++ spelling items ∷ []) l
 written_stands ps [] size l w read stand same is generation = absurd w
 written_stands ps (i ∷ items) size l w read stand same is generation = payload_stands ps (spelling (i ∷ items)) (i ∷ items) l read stand (omega (arith, same, is)) (generation ∙ sym (generation_more ps i items))
@@ -124,7 +127,7 @@ some_torn t l p x e f s =
 pub grown : {D : Type 0} (faults : D → ℕ) (old new : Journaled D) (items : List JournalItem) (desk : Contents) (state after : State)
     → Wrote faults old items new (Ok tt) → old.size ≡ state.size → old.size ≡ journal_size old.payloads
     → desk.payloads ≡ new.payloads → desk.size ≡ new.size → desk.torn ≡ new.torn
-    → ItemsStand (items_in old.payloads ++ items) after.keys after.states → after.size ≡ state.size + frame_size items → after.generation ≡ generation_of old.payloads → after.torn ≡ None
+    → ItemsStand (items_in One old.payloads ++ items) after.keys after.states [] → after.size ≡ state.size + frame_size items → after.generation ≡ generation_of old.payloads → after.torn ≡ None
     → Rest desk after → DeskStands desk after
 grown faults old new items desk state after wrote size journal payloads_are size_is torn_is stand grows generation up rest =
     let made = wrote.2 in
@@ -147,7 +150,7 @@ module _ {D : Type 0} (faults : D → ℕ) (old new : Journaled D) (items : List
       → PayloadsStand old.payloads (lasting state) → old.size ≡ state.size → old.size ≡ journal_size old.payloads → old.torn ≡ None → IsUp state
       → desk.payloads ≡ new.payloads → desk.size ≡ new.size → desk.torn ≡ new.torn
       → Proceeds state c → written state c ≡ items
-      → ItemsStand (items_in old.payloads ++ items) (lasting_after state c).keys (lasting_after state c).states → (lasting_after state c).size ≡ state.size + frame_size items → (lasting_after state c).generation ≡ state.generation → (IsWritten state.size (written state c) → Writes state c) → ((s w : ℕ) → IsOver state.size (written state c) s w → Overfills state c s w)
+      → ItemsStand (items_in One old.payloads ++ items) (lasting_after state c).keys (lasting_after state c).states [] → (lasting_after state c).size ≡ state.size + frame_size items → (lasting_after state c).generation ≡ state.generation → (IsWritten state.size (written state c) → Writes state c) → ((s w : ℕ) → IsOver state.size (written state c) s w → Overfills state c s w)
       → (MayFail state c → R reply.Disk) → (MayWant state c → R reply.OutOfMemory) → ((s w : ℕ) → IsTooMuch state c s w → R (reply.Full s w))
       → A reply.Disk ≡ moved_on (torn_first state.torn (lasting_after state c)) → A reply.OutOfMemory ≡ moved_on state.torn → ((s w : ℕ) → A (reply.Full s w) ≡ moved_on state.torn)
       → Rest desk (moved_on state.torn)

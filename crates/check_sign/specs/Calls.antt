@@ -18,7 +18,8 @@ use Rattle.record_replay.specs.Batches.{message_item, message_items}
 use Rattle.record_replay.specs.declared.state.KeyState.{KeyState}
 use Rattle.record_replay.specs.declared.state.KeyState.TheVariants.{Active}
 use Rattle.desk_machine.specs.States.{State, key_standing, key_state, state_in}
-use Rattle.desk_machine.specs.Watches.{IsOwnWatch, Watched, Watching, WatchesStand, standing_of, standing_under}
+use Rattle.record_replay.specs.Watches.{Watched}
+use Rattle.desk_machine.specs.Watches.{IsOwnWatch, Watching, WatchesStand, standing_of, standing_under}
 use Rattle.desk_machine.specs.Machine.{Reply, after, latest_after}
 use Rattle.desk_machine.specs.Grants.{IsGrantFor, IsIdleOrBusy, IsNumbered, grants_after, next_after}
 use Rattle.desk_machine.specs.Kinds.{IsKind}

@@ -12,6 +12,7 @@ use Rattle.protect_record.specs.Parts.{Parts}
 use Rattle.record_join.specs.Keys.{kept_of}
 use Rattle.record_join.specs.BooksPasts.{key_limit}
 use Rattle.record_journal.specs.Journals.{journal_size}
+use Rattle.record_codec.specs.declared.version.JournalVersion.TheVariants.{One}
 use Rattle.record_replay.specs.Items.{items_in, named_keys, states_in}
 use Rattle.record_replay.specs.Replaying.{IsReplayed}
 use Rattle.record_journal.specs.declared.open.OpenFault.TheVariants as journal_fault
@@ -30,7 +31,7 @@ use Rattle.check_sign.specs.declared.open.OpenFault.TheVariants as fault
 pub record NamesTooMany (genesis : Root) (new : ℕ) (a b : List ℕ) : Type 0 where
   pub payloads : List (List ℕ)
   pub read : Reads genesis.0 payloads a b
-  pub count : new ≡ length (named_keys (items_in payloads))
+  pub count : new ≡ length (named_keys (items_in One payloads))
   pub over : key_limit < new
 
 -- a fault of opening is the files' own, or one of the outside
@@ -46,10 +47,10 @@ open_fault_of replay_fault.OutOfMemory = fault.Journal journal_fault.OutOfMemory
 -- a desk keeps what the items of its payloads say, whatever they say: just the keys that they name, which are no more than may be
 -- kept; of each the greatest of each floor and the entries that still count; and the state that the last of its items says
 pub record IsBroughtBack (desk : Contents) : Type 0 where
-  pub keys : keys_of desk.keys ≡ named_keys (items_in desk.payloads)
-  pub limit : length (named_keys (items_in desk.payloads)) ≤ key_limit
-  pub each : (key : PubKey) (parts : Parts) → kept_of desk.keys key ≡ Some parts → IsReplayed (items_in desk.payloads) key parts
-  pub states : desk.states ≡ states_in (items_in desk.payloads)
+  pub keys : keys_of desk.keys ≡ named_keys (items_in One desk.payloads)
+  pub limit : length (named_keys (items_in One desk.payloads)) ≤ key_limit
+  pub each : (key : PubKey) (parts : Parts) → kept_of desk.keys key ≡ Some parts → IsReplayed (items_in One desk.payloads) key parts
+  pub states : desk.states ≡ states_in (items_in One desk.payloads)
 
 -- A desk that was opened over two disks, at this moment. It has the payloads that the bytes read as and keeps what the items of these
 -- say, whatever they say; and whatever these payloads stand for, the desk stands for it.

@@ -1,10 +1,11 @@
 -- Which states a desk stands for, and to what two files open.
-use Rattle.std.specs.Prelude.{◌≡◌, ◌⊎◌, ℕ, List, Option, None, Some, IsSomeAnd}
+use Rattle.std.specs.Prelude.{[], ◌≡◌, ◌⊎◌, ℕ, List, Option, None, Some, IsSomeAnd}
 use Rattle.edge_kit.specs.declared.bytes.Root.{Root}
 use Rattle.record_join.specs.BooksPasts.{BooksStand}
 use Rattle.journal_frames.specs.Frames.{generation_of}
 use Rattle.record_journal.specs.Pairs.{Reads}
 use Rattle.record_journal.specs.Journals.{journal_size}
+use Rattle.record_codec.specs.declared.version.JournalVersion.TheVariants.{One}
 use Rattle.record_replay.specs.Items.{items_in}
 use Rattle.record_replay.specs.Replaying.{ItemsStand}
 use Rattle.desk_machine.specs.States.{State, Lasting, lasting}
@@ -14,7 +15,7 @@ use Rattle.check_sign.specs.Crashes.{Files}
 
 -- payloads stand for what lasts
 pub record PayloadsStand (payloads : List (List ℕ)) (l : Lasting) : Type 0 where
-  pub items : ItemsStand (items_in payloads) l.keys l.states
+  pub items : ItemsStand (items_in One payloads) l.keys l.states []
   pub size : l.size ≡ journal_size payloads
   pub generation : l.generation ≡ generation_of payloads
 

@@ -2,7 +2,9 @@
 use Rattle.std.specs.Prelude.{◌≡◌, ◌⊎◌, ℕ, ◌+◌, List, [], ◌∷◌, ◌++◌, None, IsSome, Result, Ok, Err}
 use Rattle.edge_kit.specs.Causes.{Rose}
 use Rattle.edge_kit.specs.declared.bytes.Root.{Root}
-use Rattle.record_codec.specs.Spelling.{spelling}
+use Rattle.record_codec.specs.declared.version.JournalVersion.TheVariants.{One}
+use Rattle.std.specs.List.{AllByRecursion}
+use Rattle.record_codec.specs.Spelling.{IsBatch, IsOf, spelling}
 use Rattle.record_codec.specs.Reading.{batch_of}
 use Rattle.record_codec.specs.declared.item.JournalItem.{JournalItem}
 use Rattle.record_journal.specs.Journals.{Journaled, MayRead, disks_of, journal_size, with_torn}
@@ -27,10 +29,14 @@ payloads_of (i ∷ items) = spelling (i ∷ items) ∷ []
 abbrev pub with_batch : {D : Type 0} → Journaled D → List JournalItem → D → Journaled D
 with_batch journal items disk = record { current = disk; other = journal.other; place = journal.place; root = journal.root; payloads = journal.payloads ++ payloads_of items; size = journal.size + frame_size items; torn = None }
 
+-- no items, or one batch of items that the first version has
+abbrev pub IsWritable : List JournalItem → Type 0
+IsWritable items = ((items ≡ []) ⊎ IsBatch items) × AllByRecursion (IsOf One) items
+
 -- what was written is read as it was meant
 abbrev pub IsRead : List JournalItem → Type 0
 IsRead [] = Unit {0}
-IsRead (i ∷ items) = batch_of (spelling (i ∷ items)) ≡ Ok (i ∷ items)
+IsRead (i ∷ items) = batch_of One (spelling (i ∷ items)) ≡ Ok (i ∷ items)
 
 -- how the writing of a batch may end
 abbrev pub Wrote : {D : Type 0} → (D → ℕ) → Journaled D → List JournalItem → Journaled D → Result (Unit {0}) AppendFault → Type 0

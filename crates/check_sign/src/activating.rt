@@ -100,7 +100,7 @@ fn write_active<D: Disk>(
 ) -> Result<(), DeskReply>
     requires up { journal.old.torn ≡ None }
     requires held { (g : Root) × HoldsJournal D.moment D.leaves g journal.old }
-    ensures wrote { WroteOrTold D.faults journal.old (item.Activate key ∷ []) journal.new result }
+    ensures wrote { WroteOrTold D.faults journal.old (item.ActivateUndated key ∷ []) journal.new result }
     ensures moved { Moved D.moment D.leaves D.faults journal.old journal.new }
     ensures holds { (g : Root) → HoldsJournal D.moment D.leaves g journal.old → HoldsJournal D.moment D.leaves g journal.new }
     ensures known { OnOk result ((pasts : List (PubKey × Past)) → BooksStand books.old pasts → BooksStand books.new (with_known pasts key)) }
@@ -111,7 +111,7 @@ fn write_active<D: Disk>(
     let Ok((fresh, before)) = mark_kept(books, states, key) else {
         return Err(DeskReply::OutOfMemory);
     };
-    match write_items(journal, alloc, &[JournalItem::Activate { key }]) {
+    match write_items(journal, alloc, &[JournalItem::ActivateUndated { key }]) {
         Ok(()) => Ok(()),
         Err(fault) => {
             unmark(states, &key, before);

@@ -3,7 +3,8 @@ ghost use Rattle.std.specs.Prelude.{◌≡◌, ◌<◌, ◌≤◌, ◌++◌, Lis
 ghost use Rattle.journal_frames.specs.Frames.{generation_of};
 ghost use Rattle.desk_machine.specs.Machine.{last_generation};
 ghost use Rattle.std.specs.List.{AllByRecursion};
-ghost use Rattle.record_codec.specs.Spelling.{IsBatch};
+ghost use Rattle.record_codec.specs.Spelling.{IsBatch, IsOf};
+ghost use Rattle.record_codec.specs.declared.version.JournalVersion.TheVariants.{One};
 ghost use Rattle.record_codec.specs.declared.item.JournalItem.{JournalItem};
 ghost use Rattle.record_journal.specs.TwoDisks.{EitherRose};
 ghost use Rattle.check_sign.specs.Contents.{disks_in};
@@ -105,6 +106,7 @@ fn push_spelled(
     batches: &[Vec<JournalItem>],
 ) -> Result<(), AllocError>
     requires batches { AllByRecursion IsBatch (map (λ v. v.items) batches.now) }
+    requires versions { AllByRecursion (AllByRecursion (IsOf One)) (map (λ v. v.items) batches.now) }
     requires short { AllByRecursion (λ batch. length batch ≤ 4096) (map (λ v. v.items) batches.now) }
     ensures { OnOk result ((before : List (List JournalItem)) → AreSpelled (map (λ v. v.items) payloads.old.items) before
         → AreSpelled (map (λ v. v.items) payloads.new.items) (before ++ map (λ v. v.items) batches.now)) }

@@ -6,6 +6,7 @@ ghost use Rattle.check_sign.specs.Opening.{Opening, OpeningRefused, open_fault_o
 use crate::desk::Desk;
 use desk_machine::{Events, OpenGrants, Watches};
 use edge_kit::{Disk, Disks, Root};
+use record_codec::JournalVersion;
 use record_journal::Journal;
 use record_replay::{ReplayFault, Replayed, replay};
 use std::alloc::Global;
@@ -49,7 +50,11 @@ impl<D: Disk> Desk<D> {
             Ok(opened) => opened,
             Err((fault, disks)) => return Err((OpenFault::Journal(fault), disks)),
         };
-        let Replayed { books, states } = match replay(alloc, reader) {
+        let Replayed {
+            books,
+            states,
+            watches: _,
+        } = match replay(alloc, JournalVersion::One, reader) {
             Ok(replayed) => replayed,
             Err(fault) => {
                 let disks = journal.end();

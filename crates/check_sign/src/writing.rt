@@ -3,12 +3,11 @@ ghost use Rattle.std.specs.Prelude.{◌≡◌, ◌⊎◌, [], ◌∷◌, None, S
 ghost use Rattle.edge_kit.specs.declared.bytes.Root.{Root};
 ghost use Rattle.slash_defs.specs.declared.book.File.{File};
 ghost use Rattle.interchange_io.specs.WrittenOrder.{canonical};
-ghost use Rattle.record_codec.specs.Spelling.{IsBatch};
 ghost use Rattle.record_join.specs.Repeats.{repeats};
 ghost use Rattle.record_replay.specs.Batches.{book_items, file_items, message_item, message_items};
 ghost use Rattle.protect_record.specs.Pasts.{Past};
 ghost use Rattle.desk_machine.specs.Written.{proposal_items};
-ghost use Rattle.check_sign.specs.Writing.{HoldsJournal, Moved, Wrote, refusal_of};
+ghost use Rattle.check_sign.specs.Writing.{HoldsJournal, IsWritable, Moved, Wrote, refusal_of};
 
 use desk_machine::DeskReply;
 use edge_kit::{Disk, PubKey};
@@ -25,7 +24,7 @@ pub fn write_items<D: Disk>(
     alloc: Global,
     items: &[JournalItem],
 ) -> Result<(), AppendFault>
-    requires batch { (items.now ≡ []) ⊎ IsBatch items.now }
+    requires batch { IsWritable items.now }
     requires up { journal.old.torn ≡ None }
     requires held { (g : Root) × HoldsJournal D.moment D.leaves g journal.old }
     ensures wrote { Wrote D.faults journal.old items.now journal.new result }
@@ -62,7 +61,7 @@ pub fn write_file<D: Disk>(
 /// The items of a file, in written order.
 fn items_of_file(alloc: Global, file: &File) -> Result<Vec<JournalItem>, AllocError>
     ensures items { IfOk result (λ items. items.items ≡ file_items (canonical file.now).books) }
-    ensures batch { IfOk result (λ items. (items.items ≡ []) ⊎ IsBatch items.items) }
+    ensures batch { IfOk result (λ items. IsWritable items.items) }
 {
     let sorted = in_written_order(alloc, file)?;
     file_items(alloc, sorted.books.as_slice())
@@ -89,7 +88,7 @@ pub fn write_book<D: Disk>(
 /// The items of a book.
 fn items_of_book(alloc: Global, listed: &(PubKey, Book)) -> Result<Vec<JournalItem>, AllocError>
     ensures items { IfOk result (λ items. items.items ≡ book_items listed.now) }
-    ensures batch { IfOk result (λ items. (items.items ≡ []) ⊎ IsBatch items.items) }
+    ensures batch { IfOk result (λ items. IsWritable items.items) }
 {
     book_items(alloc, listed)
 }
@@ -139,7 +138,7 @@ fn items_of_messages(
     listed: &[(PubKey, Message)],
 ) -> Result<Vec<JournalItem>, AllocError>
     ensures items { IfOk result (λ items. items.items ≡ message_items listed.now) }
-    ensures batch { IfOk result (λ items. (items.items ≡ []) ⊎ IsBatch items.items) }
+    ensures batch { IfOk result (λ items. IsWritable items.items) }
 {
     message_items(alloc, listed)
 }

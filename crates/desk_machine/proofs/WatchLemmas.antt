@@ -9,7 +9,8 @@ use Rattle.doppel_watch.specs.Watching.{Stands, Telling, watch_state}
 use Rattle.doppel_watch.specs.declared.watch.Watch.{Watch}
 use Rattle.doppel_watch.specs.declared.watch.WatchState.{WatchState}
 use Rattle.doppel_watch.specs.declared.watch.WatchState.TheVariants.{Allowed}
-use Rattle.desk_machine.specs.Watches.{IsOneWatch, IsOwnWatch, KeptWatches, Watched, Watching, WatchesStand, fresh_watch, fresh_watching, standing_of, standing_under, told_more, watch_of, with_begun, with_told}
+use Rattle.record_replay.specs.Watches.{Watched, fresh_watch, told_more}
+use Rattle.desk_machine.specs.Watches.{IsOneWatch, IsOwnWatch, KeptWatches, Watching, WatchesStand, fresh_watching, standing_of, standing_under, watch_of, with_begun, with_told}
 
 -- ---- how a watch stands
 

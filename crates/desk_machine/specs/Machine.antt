@@ -237,7 +237,7 @@ pruned_keys keys key (Some past) = with_file keys ((key, pruning_of past) ∷ []
 -- what lasts after the success of a call
 abbrev pub lasting_after : State → DeskCall → Lasting
 lasting_after state (call.Merge file) = record { keys = with_file state.keys file.books; states = state.states; size = state.size + frame_size (file_items (canonical file).books); generation = state.generation }
-lasting_after state (call.Activate key now) = record { keys = with_known state.keys key; states = with_key state.states key Active; size = state.size + frame_size (item.Activate key ∷ []); generation = state.generation }
+lasting_after state (call.Activate key now) = record { keys = with_known state.keys key; states = with_key state.states key Active; size = state.size + frame_size (item.ActivateUndated key ∷ []); generation = state.generation }
 lasting_after state (call.Propose key m now) = record { keys = own_grown state.keys key m; states = state.states; size = state.size + frame_size (proposal_items (past_of state key) key m); generation = state.generation }
 lasting_after state (call.Record ps now) = record { keys = with_messages state.keys ps; states = state.states; size = state.size + frame_size (message_items ps); generation = state.generation }
 lasting_after state (call.BeginClose key) = record { keys = state.keys; states = with_kept state.states key Closing; size = state.size; generation = state.generation }

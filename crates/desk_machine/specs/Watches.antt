@@ -1,16 +1,12 @@
 -- The watches of a desk's keys.
-use Rattle.std.specs.Prelude.{◌≡◌, ℕ, Bool, List, [], ◌∷◌, ◌++◌, Option, None, Some, unwrap_or, if◌then◌else◌}
+use Rattle.std.specs.Prelude.{◌≡◌, ℕ, Bool, List, [], Option, None, Some, unwrap_or, if◌then◌else◌}
 use Rattle.edge_kit.specs.declared.bytes.PubKey.{PubKey}
 use Rattle.record_join.specs.Keys.{kept_of, with_key}
+use Rattle.record_replay.specs.Watches.{Watched, fresh_watch, told_more}
 use Rattle.doppel_watch.specs.Watching.{Stands, Telling, watch_state}
 use Rattle.doppel_watch.specs.declared.watch.Watch.{Watch}
 use Rattle.doppel_watch.specs.declared.watch.WatchState.{WatchState}
 use Rattle.doppel_watch.specs.declared.watch.WatchState.TheVariants.{Allowed}
-
--- the watch of a key: the moment at which it began, and what was told of the key since
-pub record Watched : Type 0 where
-  pub start : ℕ
-  pub told : List Telling
 
 -- whether keys are watched; the moment of the desk's opening; and the watch of each key that became active since, or of which
 -- something was told since, in key order
@@ -18,10 +14,6 @@ pub record Watching : Type 0 where
   pub on : Bool
   pub opened : ℕ
   pub kept : List (PubKey × Watched)
-
--- a watch that begins at this moment
-abbrev pub fresh_watch : ℕ → Watched
-fresh_watch start = record { start = start; told = [] }
 
 -- a desk is opened at this moment: each key that is active then is watched from then on
 abbrev pub fresh_watching : Bool → ℕ → Watching
@@ -37,10 +29,6 @@ standing_under on watch = if on then watch_state watch.start watch.told else All
 
 abbrev pub standing_of : Watching → PubKey → WatchState
 standing_of w key = standing_under w.on (watch_of w key)
-
--- the watch with one thing more that was told
-abbrev pub told_more : Watched → Telling → Watched
-told_more watch telling = record { start = watch.start; told = watch.told ++ telling ∷ [] }
 
 -- a key becomes active at this moment: its watch begins
 abbrev pub with_begun : Watching → PubKey → ℕ → Watching

@@ -28,7 +28,7 @@ prune_items key (Some past) = book_items (key, pruning_of past)
 -- the batch that a call adds to the journal where it succeeds; a file without keys adds nothing, and a compaction begins a file anew
 abbrev pub written : State → DeskCall → List JournalItem
 written state (call.Merge file) = file_items (canonical file).books
-written state (call.Activate key now) = item.Activate key ∷ []
+written state (call.Activate key now) = item.ActivateUndated key ∷ []
 written state (call.Propose key m now) = proposal_items (past_of state key) key m
 written state (call.Record ps now) = message_items ps
 written state (call.Allow key now) = []

@@ -2,7 +2,8 @@
 ghost use Rattle.std.specs.Prelude.{◌≡◌, ◌≤◌, [], IsSome, OnOk};
 ghost use Rattle.doppel_watch.specs.Moments.{moment_limit};
 ghost use Rattle.record_join.specs.Keys.{kept_of};
-ghost use Rattle.desk_machine.specs.Watches.{IsOwnWatch, Watched, Watching, WatchesStand, fresh_watching, standing_of, standing_under, with_begun, with_told};
+ghost use Rattle.record_replay.specs.Watches.{Watched};
+ghost use Rattle.desk_machine.specs.Watches.{IsOwnWatch, Watching, WatchesStand, fresh_watching, standing_of, standing_under, with_begun, with_told};
 
 use doppel_watch::{Watch, WatchState};
 use edge_kit::PubKey;

@@ -3,7 +3,7 @@ use Rattle.std.proofs.Common.{◌≡◌, ◌↔◌, ◌≢◌, if◌then◌else�
 use Rattle.std.proofs.lemmas.Bool.{cases_Bool, or_left}
 use Rattle.std.proofs.lemmas.List.Folds.{list_any-append}
 use Rattle.doppel_watch.specs.Notes.{liveness}
-use Rattle.doppel_watch.specs.Watching.{Telling, Stands, IsSeenSilent, by_missing, latest, was_live, was_absent, watch_state}
+use Rattle.doppel_watch.specs.Watching.{Telling, IsNoted, IsSeenSilent, by_missing, latest, was_live, was_absent, watch_state}
 use Rattle.doppel_watch.specs.declared.liveness.Liveness.{Liveness}
 use Rattle.doppel_watch.specs.declared.watch.Watch.{Watch}
 use Rattle.doppel_watch.specs.declared.watch.WatchState.TheVariants as state
@@ -29,27 +29,27 @@ noted-push s e ts t old new moment is seen was notes =
     let after = notes (was_live e ts) (was_absent s e ts) was in
     cc
 
-pub Stands-first : (old new : Watch) (s : ℕ) (ts : List Telling) (t : Telling) → Stands old s ts → t.epoch ≡ old.start + 1
-    → new.start ≡ old.start → new.latest ≡ max old.latest t.moment → Notes old.first new.first t new.latest → new.second ≡ old.second → Stands new s (ts ++ t ∷ [])
-Stands-first old new s ts t stands is same_start seen notes same = record {
+pub IsNoted-first : (old new : Watch) (s : ℕ) (ts : List Telling) (t : Telling) → IsNoted old s ts → t.epoch ≡ old.start + 1
+    → new.start ≡ old.start → new.latest ≡ max old.latest t.moment → Notes old.first new.first t new.latest → new.second ≡ old.second → IsNoted new s (ts ++ t ∷ [])
+IsNoted-first old new s ts t stands is same_start seen notes same = record {
   begun = same_start ∙ stands.begun;
   seen = seen ∙ ap (λ m. max m t.moment) stands.seen ∙ sym (latest-push s ts t);
   first = noted-push s (s + 1) ts t old.first new.first new.latest (omega (arith, stands.begun)) (seen ∙ ap (λ m. max m t.moment) stands.seen) stands.first notes;
   second = same ∙ stands.second ∙ sym (noted-push_other s (s + 2) ts t (omega (arith, stands.begun)));
 }
 
-pub Stands-second : (old new : Watch) (s : ℕ) (ts : List Telling) (t : Telling) → Stands old s ts → t.epoch ≡ old.start + 2
-    → new.start ≡ old.start → new.latest ≡ max old.latest t.moment → new.first ≡ old.first → Notes old.second new.second t new.latest → Stands new s (ts ++ t ∷ [])
-Stands-second old new s ts t stands is same_start seen same notes = record {
+pub IsNoted-second : (old new : Watch) (s : ℕ) (ts : List Telling) (t : Telling) → IsNoted old s ts → t.epoch ≡ old.start + 2
+    → new.start ≡ old.start → new.latest ≡ max old.latest t.moment → new.first ≡ old.first → Notes old.second new.second t new.latest → IsNoted new s (ts ++ t ∷ [])
+IsNoted-second old new s ts t stands is same_start seen same notes = record {
   begun = same_start ∙ stands.begun;
   seen = seen ∙ ap (λ m. max m t.moment) stands.seen ∙ sym (latest-push s ts t);
   first = same ∙ stands.first ∙ sym (noted-push_other s (s + 1) ts t (omega (arith, stands.begun)));
   second = noted-push s (s + 2) ts t old.second new.second new.latest (omega (arith, stands.begun)) (seen ∙ ap (λ m. max m t.moment) stands.seen) stands.second notes;
 }
 
-pub Stands-neither : (old new : Watch) (s : ℕ) (ts : List Telling) (t : Telling) → Stands old s ts → t.epoch ≢ old.start + 1 → t.epoch ≢ old.start + 2
-    → new.start ≡ old.start → new.latest ≡ max old.latest t.moment → new.first ≡ old.first → new.second ≡ old.second → Stands new s (ts ++ t ∷ [])
-Stands-neither old new s ts t stands not_first not_second same_start seen first second = record {
+pub IsNoted-neither : (old new : Watch) (s : ℕ) (ts : List Telling) (t : Telling) → IsNoted old s ts → t.epoch ≢ old.start + 1 → t.epoch ≢ old.start + 2
+    → new.start ≡ old.start → new.latest ≡ max old.latest t.moment → new.first ≡ old.first → new.second ≡ old.second → IsNoted new s (ts ++ t ∷ [])
+IsNoted-neither old new s ts t stands not_first not_second same_start seen first second = record {
   begun = same_start ∙ stands.begun;
   seen = seen ∙ ap (λ m. max m t.moment) stands.seen ∙ sym (latest-push s ts t);
   first = first ∙ stands.first ∙ sym (noted-push_other s (s + 1) ts t (omega (arith, stands.begun)));

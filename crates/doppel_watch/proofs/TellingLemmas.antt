@@ -14,7 +14,7 @@ and-true true b h = h
 and-true false b h = refl
 
 -- whether one passes of a list with one more
-any-push : {X : Type 0} (p : X → Bool) (xs : List X) (x : X) → list_any p (xs ++ x ∷ []) ≡ (list_any p xs || p x)
+pub any-push : {X : Type 0} (p : X → Bool) (xs : List X) (x : X) → list_any p (xs ++ x ∷ []) ≡ (list_any p xs || p x)
 any-push p xs x = list_any-append p xs (x ∷ []) ∙ ap (λ b. list_any p xs || b) (or-false (p x))
 
 -- and where it does not pass
@@ -25,10 +25,10 @@ pub latest-push : (s : ℕ) (ts : List Telling) (t : Telling) → latest s (ts +
 latest-push s [] t = refl
 latest-push s (x ∷ ts) t = latest-push (max s x.moment) ts t
 
-abbrev at_its_moment : ℕ → List Telling → Telling → Telling
+abbrev pub at_its_moment : ℕ → List Telling → Telling → Telling
 at_its_moment s ts t = record t { moment = max (latest s ts) t.moment }
 
-counted-push : (s : ℕ) (ts : List Telling) (t : Telling) → counted s (ts ++ t ∷ []) ≡ counted s ts ++ at_its_moment s ts t ∷ []
+pub counted-push : (s : ℕ) (ts : List Telling) (t : Telling) → counted s (ts ++ t ∷ []) ≡ counted s ts ++ at_its_moment s ts t ∷ []
 counted-push s [] t = refl
 counted-push s (x ∷ ts) t = ap (λ (rest : List Telling). record x { moment = max s x.moment } ∷ rest) (counted-push (max s x.moment) ts t)
 
@@ -42,7 +42,7 @@ was_live-push_other e ts t other = any-push_none (λ t. t.live && t.epoch == e) 
 pub was_live-push_not : (e : ℕ) (ts : List Telling) (t : Telling) → t.live ≡ false → was_live e (ts ++ t ∷ []) ≡ was_live e ts
 was_live-push_not e ts t absent = any-push_none (λ t. t.live && t.epoch == e) ts t (and_left t.live (t.epoch == e) absent)
 
-abbrev is_absence : ℕ → Telling → Bool
+abbrev pub is_absence : ℕ → Telling → Bool
 is_absence e t = not t.live && t.epoch == e && nat_lt e t.moment
 
 pub was_absent-push : (s e : ℕ) (ts : List Telling) (t : Telling) → t.epoch ≡ e

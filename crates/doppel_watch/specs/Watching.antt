@@ -1,7 +1,9 @@
 -- The watch of a key before it may sign, by all that was told of the key.
-use Rattle.std.specs.Prelude.{◌≡◌, ℕ, ◌+◌, ◌==◌, ◌&&◌, not, nat_lt, max, Bool, true, false, List, [], ◌∷◌, ◌++◌, Some, None, if◌then◌else◌}
+use Rattle.std.specs.Prelude.{◌≡◌, ℕ, suc, ◌+◌, ◌==◌, ◌&&◌, not, nat_lt, max, Bool, true, false, List, [], ◌∷◌, ◌++◌, take, map, Option, Some, None, if◌then◌else◌}
 use Rattle.std.specs.List.{list_any}
 use Rattle.doppel_watch.specs.Notes.{liveness}
+use Rattle.doppel_watch.specs.declared.kept.KeptAnswer.{KeptAnswer}
+use Rattle.doppel_watch.specs.declared.kept.KeptAnswers.{KeptAnswers}
 use Rattle.doppel_watch.specs.declared.watch.Watch.{Watch}
 use Rattle.doppel_watch.specs.declared.watch.WatchState.{WatchState}
 use Rattle.doppel_watch.specs.declared.watch.WatchState.TheVariants.{Allowed, Missing, Live}
@@ -55,10 +57,53 @@ pub record IsSeenSilent (start : ℕ) (ts : List Telling) : Type 0 where
   pub first_absent : was_absent start (start + 1) ts ≡ true
   pub second_absent : was_absent start (start + 2) ts ≡ true
 
--- a watch stands for what was told since it began at `start`: it keeps the start, the latest moment, and what counts of
--- each watched epoch
-pub record Stands (watch : Watch) (start : ℕ) (ts : List Telling) : Type 0 where
+-- whether two states are the same
+abbrev pub same_epoch : Option ℕ → Option ℕ → Bool
+same_epoch None None = true
+same_epoch None (Some f) = false
+same_epoch (Some e) None = false
+same_epoch (Some e) (Some f) = e == f
+
+abbrev pub is_same : WatchState → WatchState → Bool
+is_same Allowed Allowed = true
+is_same Allowed (Missing f g) = false
+is_same Allowed (Live f) = false
+is_same (Missing e d) Allowed = false
+is_same (Missing e d) (Missing f g) = e == f && same_epoch d g
+is_same (Missing e d) (Live f) = false
+is_same (Live e) Allowed = false
+is_same (Live e) (Missing f g) = false
+is_same (Live e) (Live f) = e == f
+
+-- the telling at this place changed the state of the watch
+abbrev pub has_changed : ℕ → List Telling → ℕ → Bool
+has_changed start ts i = not (is_same (watch_state start (take i ts)) (watch_state start (take (suc i) ts)))
+
+-- those tellings of a list at whose place this holds
+abbrev pub picked : (ℕ → Bool) → List Telling → List Telling
+picked holds [] = []
+picked holds (t ∷ ts) = if holds 0 then t ∷ picked (λ i. holds (suc i)) ts else picked (λ i. holds (suc i)) ts
+
+-- the tellings that changed the state of the watch, each with its moment as it counts
+abbrev pub kept : ℕ → List Telling → List Telling
+kept start ts = picked (has_changed start ts) (counted start ts)
+
+-- an answer that is kept, and several, as what was told
+abbrev pub telling_of : KeptAnswer → Telling
+telling_of answer = record { epoch = answer.epoch; live = answer.live; moment = answer.moment }
+
+abbrev pub tellings_of : KeptAnswers → List Telling
+tellings_of answers = map telling_of (take answers.count answers.answers)
+
+-- what a watch notes of what was told since it began at `start`: the start, the latest moment, and what counts of each
+-- watched epoch
+pub record IsNoted (watch : Watch) (start : ℕ) (ts : List Telling) : Type 0 where
   pub begun : watch.start ≡ start
   pub seen : watch.latest ≡ latest start ts
   pub first : watch.first ≡ liveness (was_live (start + 1) ts) (was_absent start (start + 1) ts)
   pub second : watch.second ≡ liveness (was_live (start + 2) ts) (was_absent start (start + 2) ts)
+
+-- a watch stands for what was told since it began at `start`: it notes that, and keeps what changed its state
+pub record Stands (watch : Watch) (start : ℕ) (ts : List Telling) : Type 0 where
+  pub noted : IsNoted watch start ts
+  pub remembered : tellings_of watch.kept ≡ kept start ts

@@ -2,9 +2,11 @@
 //! first. Clients call it doppelganger protection.
 #![tactic(auto)]
 
+mod kept;
 mod laws;
 mod liveness;
 mod watch;
 
-pub use laws::watch_law;
+pub use kept::{KeptAnswer, KeptAnswers};
+pub use laws::{kept_law, watch_law};
 pub use watch::{MOMENT_LIMIT, Watch, WatchState};

@@ -6,7 +6,7 @@ ghost use Rattle.journal_frames.specs.Frames.{IsPayload};
 use crate::words::{bytes_of, push_named, root_of, value_of};
 use edge_kit::{Disks, MemDisk, Root};
 use journal_frames::Reader;
-use record_codec::check_batch;
+use record_codec::{JournalVersion, check_batch};
 use record_journal::{Journal, OpenFault};
 use std::alloc::{AllocError, Global};
 
@@ -18,7 +18,7 @@ fn append(
     text: &mut String,
 ) -> Option<()> {
     let payload = bytes_of(alloc, payload)?;
-    if check_batch(&payload).is_err() {
+    if check_batch(JournalVersion::One, &payload).is_err() {
         return None;
     }
     match journal.append(alloc, payload) {
@@ -32,7 +32,10 @@ fn payload_of(alloc: Global, word: &str) -> Option<Vec<u8>>
     ensures { IfSome result (λ p. IsPayload p.items) }
 {
     let payload = bytes_of(alloc, word)?;
-    if payload.is_empty() || payload.len() > 1000 || check_batch(&payload).is_err() {
+    if payload.is_empty()
+        || payload.len() > 1000
+        || check_batch(JournalVersion::One, &payload).is_err()
+    {
         return None;
     }
     Some(payload)

@@ -23,6 +23,7 @@ use Rattle.protect_record.specs.Pasts.{Past}
 use Rattle.protect_record.specs.Standing.{Stands}
 use Rattle.protect_record.proofs.FloorLemmas.{some-injective}
 use Rattle.protect_record.proofs.UniteLemmas.{same_in_order}
+use Rattle.record_codec.specs.declared.version.JournalVersion.TheVariants.{One}
 use Rattle.record_codec.specs.declared.item.JournalItem.{JournalItem}
 use Rattle.record_codec.specs.declared.item.JournalItem.TheVariants as item
 use Rattle.record_join.specs.Keys.{key_cmp, kept_of, with_key}
@@ -30,6 +31,7 @@ use Rattle.record_join.specs.KeyLaws.{apart_back, at_itself, kept_apart, kept_he
 use Rattle.record_replay.specs.Batches.{floors_item}
 use Rattle.record_replay.specs.Items.{blocks_in, floors_in, items_in, items_or_none, key_of, named_keys, states_in, votes_in, with_state}
 use Rattle.record_replay.specs.Replaying.{IsReplayed, ItemsStand, KeyStands, lasting_state, lasting_states}
+use Rattle.record_replay.specs.Watches.{with_watch}
 use Rattle.record_replay.specs.declared.state.KeyState.{KeyState}
 use Rattle.record_replay.specs.declared.state.KeyState.TheVariants.{Known, Active, Closing, Closed}
 use Rattle.record_replay.proofs.NamedLemmas.{has, has_kept, has_named, inserted_same, keys_with, named_more, named_sorted, or_none}
@@ -38,6 +40,7 @@ use Rattle.record_replay.proofs.GrowLemmas.{unnamed_stands}
 use Rattle.key_snapshot.specs.Cuts.{cut}
 use Rattle.key_snapshot.specs.Snapshots.{entry_items, items_of, snapshot_of, state_batches}
 use Rattle.key_snapshot.specs.Restoring.{AreRead, with_held}
+use Rattle.key_snapshot.proofs.BatchLemmas.{all_old, none_watched, snapshot_versions_are}
 use Rattle.key_snapshot.proofs.CutLemmas.{cut_joined}
 
 -- ---- the items of the batches
@@ -45,8 +48,8 @@ use Rattle.key_snapshot.proofs.CutLemmas.{cut_joined}
 -- what says the state of a key
 abbrev pub state_items : PubKey → KeyState → List JournalItem
 state_items key Known = []
-state_items key Active = item.Activate key ∷ []
-state_items key Closing = item.Activate key ∷ []
+state_items key Active = item.ActivateUndated key ∷ []
+state_items key Closing = item.ActivateUndated key ∷ []
 state_items key Closed = item.Close key ∷ []
 
 state_joined : (key : PubKey) (state : KeyState) → items_of (state_batches key state) ≡ state_items key state
@@ -65,12 +68,12 @@ items_of_snapshot key state parts =
     ∙ ap (λ l. l ++ floors_item key parts.floors ∷ items_of (state_batches key state)) (cut_joined 4096 (entry_items key parts) (omega arith))
     ∙ ap (λ l. entry_items key parts ++ floors_item key parts.floors ∷ l) (state_joined key state)
 
-pub items_read : (payloads : List (List ℕ)) (batches : List (List JournalItem)) → AreRead payloads batches → items_in payloads ≡ items_of batches
+pub items_read : (payloads : List (List ℕ)) (batches : List (List JournalItem)) → AreRead payloads batches → items_in One payloads ≡ items_of batches
 items_read [] [] read = refl
 items_read [] (batch ∷ batches) read = absurd read
 items_read (payload ∷ payloads) [] read = absurd read
 items_read (payload ∷ payloads) (batch ∷ batches) read =
-    ap (λ r. items_or_none r ++ items_in payloads) read.0 ∙ ap (λ l. batch ++ l) (items_read payloads batches read.1)
+    ap (λ r. items_or_none r ++ items_in One payloads) read.0 ∙ ap (λ l. batch ++ l) (items_read payloads batches read.1)
 
 -- ---- what they name: the key alone
 
@@ -251,7 +254,7 @@ states_alone key state parts = snapshot_says key state parts []
 
 -- ---- behind the items of other keys
 
-module _ (items : List JournalItem) (keys : List (PubKey × Past)) (states : List (PubKey × KeyState)) (stand : ItemsStand items keys states)
+module _ (items : List JournalItem) (keys : List (PubKey × Past)) (states : List (PubKey × KeyState)) (stand : ItemsStand items keys states [])
     (key : PubKey) (state : KeyState) (parts : Parts) (past : Past) (new : kept_of keys key ≡ None) (stands : Stands parts past) where
   abbrev snapshot : List JournalItem
   snapshot = snapshot_items key state parts
@@ -291,8 +294,8 @@ module _ (items : List JournalItem) (keys : List (PubKey × Past)) (states : Lis
     at false e is =
         unnamed_stands items snapshot q p (snapshot_names q key state parts ∙ apart_back key q e) (stand.each q p (sym (kept_apart keys key q past e) ∙ is))
 
-  pub added_stands : ItemsStand (items ++ items_of (snapshot_of key state parts)) (with_key keys key past) (with_held states key state)
-  added_stands = subst (λ (more : List JournalItem). ItemsStand (items ++ more) (with_key keys key past) (with_held states key state)) (sym (items_of_snapshot key state parts)) (record {
+  pub added_stands : ItemsStand (items ++ items_of (snapshot_of key state parts)) (with_key keys key past) (with_held states key state) []
+  added_stands = subst (λ (more : List JournalItem). ItemsStand (items ++ more) (with_key keys key past) (with_held states key state) []) (sym (items_of_snapshot key state parts)) (record {
     named =
         keys_with keys key past
         ∙ ap (λ ks. insert_key key_cmp ks key) stand.named
@@ -302,4 +305,9 @@ module _ (items : List JournalItem) (keys : List (PubKey × Past)) (states : Lis
         fold-append with_state [] items snapshot
         ∙ ap (λ said. fold with_state said snapshot) stand.states
         ∙ ap (λ l. fold with_state (lasting_states states) l) (sym (items_of_snapshot key state parts)) ∙ snapshot_says key state parts states;
+    watches =
+        fold-append with_watch [] items snapshot
+        ∙ ap (λ watched. fold with_watch watched snapshot) stand.watches
+        ∙ ap (λ l. fold with_watch [] l) (sym (items_of_snapshot key state parts))
+        ∙ none_watched (items_of (snapshot_of key state parts)) (all_old (snapshot_of key state parts) (snapshot_versions_are key state parts));
   })

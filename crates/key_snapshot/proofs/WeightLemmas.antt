@@ -114,8 +114,8 @@ one_length i = omega (arith, length-append (item_bytes i) [])
 
 state_weighs : (key : PubKey) (state : KeyState) → length key.0 ≡ 48 → framed_by (state_batches key state) ≤ 54
 state_weighs key Known long = omega arith
-state_weighs key Active long = omega (arith, sum_by-cons framed (item.Activate key ∷ []) [], one_length (item.Activate key))
-state_weighs key Closing long = omega (arith, sum_by-cons framed (item.Activate key ∷ []) [], one_length (item.Activate key))
+state_weighs key Active long = omega (arith, sum_by-cons framed (item.ActivateUndated key ∷ []) [], one_length (item.ActivateUndated key))
+state_weighs key Closing long = omega (arith, sum_by-cons framed (item.ActivateUndated key ∷ []) [], one_length (item.ActivateUndated key))
 state_weighs key Closed long = omega (arith, sum_by-cons framed (item.Close key ∷ []) [], one_length (item.Close key))
 
 snapshot_weighs : (key : PubKey) (state : KeyState) (parts : Parts) → IsSized key parts → framed_by (snapshot_of key state parts) ≤ key_weight parts

@@ -2,6 +2,7 @@
 use Rattle.std.specs.Prelude.{◌≡◌, ℕ, List, [], ◌∷◌, Ok}
 use Rattle.edge_kit.specs.declared.bytes.PubKey.{PubKey}
 use Rattle.record_codec.specs.declared.item.JournalItem.{JournalItem}
+use Rattle.record_codec.specs.declared.version.JournalVersion.TheVariants.{One}
 use Rattle.record_codec.specs.Reading.{batch_of}
 use Rattle.record_join.specs.Keys.{with_key}
 use Rattle.record_replay.specs.declared.state.KeyState.{KeyState}
@@ -17,6 +18,6 @@ with_held states key Closed = with_key states key Closed
 -- each payload is read as its batch
 abbrev pub AreRead : List (List ℕ) → List (List JournalItem) → Type 0
 AreRead [] [] = Unit {0}
-AreRead (payload ∷ payloads) (batch ∷ batches) = (batch_of payload ≡ Ok batch) × AreRead payloads batches
+AreRead (payload ∷ payloads) (batch ∷ batches) = (batch_of One payload ≡ Ok batch) × AreRead payloads batches
 AreRead [] (batch ∷ batches) = ⊥
 AreRead (payload ∷ payloads) [] = ⊥

@@ -16,8 +16,8 @@ entry_items key parts = map (item.Block key) parts.blocks ++ map (item.Vote key)
 -- what says the state of a key, alone in its batch: that it is closing does not outlast a stop
 abbrev pub state_batches : PubKey → KeyState → List (List JournalItem)
 state_batches key Known = []
-state_batches key Active = (item.Activate key ∷ []) ∷ []
-state_batches key Closing = (item.Activate key ∷ []) ∷ []
+state_batches key Active = (item.ActivateUndated key ∷ []) ∷ []
+state_batches key Closing = (item.ActivateUndated key ∷ []) ∷ []
 state_batches key Closed = (item.Close key ∷ []) ∷ []
 
 -- the entries in batches of 4,096, the last with the rest; the record's floors, so that the key is named; its state

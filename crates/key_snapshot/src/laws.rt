@@ -6,7 +6,8 @@ ghost use Rattle.protect_record.specs.Gathering.{IsWellKept, SameEntries};
 ghost use Rattle.protect_record.specs.Parts.{Parts};
 ghost use Rattle.protect_record.specs.Pasts.{Past};
 ghost use Rattle.protect_record.specs.Standing.{Stands};
-ghost use Rattle.record_codec.specs.Spelling.{IsBatch};
+ghost use Rattle.record_codec.specs.Spelling.{IsBatch, IsOf};
+ghost use Rattle.record_codec.specs.declared.version.JournalVersion.TheVariants.{One};
 ghost use Rattle.record_codec.specs.declared.item.JournalItem.{JournalItem};
 ghost use Rattle.record_join.specs.Keys.{kept_of, with_key};
 ghost use Rattle.record_replay.specs.Items.{items_in, named_keys, states_in};
@@ -19,13 +20,14 @@ ghost use Rattle.key_snapshot.specs.Weights.{IsSized, framed_size, key_weight};
 
 use record_replay::KeyState;
 
-/// The batches of a snapshot are batches of a journal. A list that is cut keeps its items in order; each part but
+/// The batches of a snapshot are batches of a journal, of items that the first version has. A list that is cut keeps its items in order; each part but
 /// the last is full, and none is empty. Payloads that are read as batches have the items of the batches.
 pub fn batches_law()
     ensures batches { (key : PubKey) (state : KeyState) (parts : Parts) → AllByRecursion IsBatch (snapshot_of key state parts) }
+    ensures versions { (key : PubKey) (state : KeyState) (parts : Parts) → AllByRecursion (AllByRecursion (IsOf One)) (snapshot_of key state parts) }
     ensures joined { (limit : ℕ) (items : List JournalItem) → 0 < limit → items_of (cut limit items) ≡ items }
     ensures filled { (limit : ℕ) (items : List JournalItem) → 0 < limit → AreFilled limit (cut limit items) }
-    ensures read { (payloads : List (List ℕ)) (batches : List (List JournalItem)) → AreRead payloads batches → items_in payloads ≡ items_of batches }
+    ensures read { (payloads : List (List ℕ)) (batches : List (List JournalItem)) → AreRead payloads batches → items_in One payloads ≡ items_of batches }
 {}
 
 /// The replay of a key's snapshot brings back its record, with the same floors and entries and nothing else, and
@@ -39,8 +41,8 @@ pub fn restoring_law()
         → IsReplayed (items_of (snapshot_of key state parts)) key other → SameEntries parts other }
     ensures states { (key : PubKey) (state : KeyState) (parts : Parts) → states_in (items_of (snapshot_of key state parts)) ≡ lasting_states (with_held [] key state) }
     ensures stands { (items : List JournalItem) (keys : List (PubKey × Past)) (states : List (PubKey × KeyState)) (key : PubKey) (state : KeyState) (parts : Parts) (past : Past)
-        → ItemsStand items keys states → kept_of keys key ≡ None → Stands parts past
-        → ItemsStand (items ++ items_of (snapshot_of key state parts)) (with_key keys key past) (with_held states key state) }
+        → ItemsStand items keys states [] → kept_of keys key ≡ None → Stands parts past
+        → ItemsStand (items ++ items_of (snapshot_of key state parts)) (with_key keys key past) (with_held states key state) [] }
 {}
 
 /// The snapshots of keys take no more bytes in a file than the keys' records weigh, whatever the states of the keys.

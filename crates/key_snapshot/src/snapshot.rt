@@ -37,7 +37,7 @@ pub fn snapshot_batches(
     match state {
         KeyState::Known => {}
         KeyState::Active | KeyState::Closing => {
-            push_alone(&mut batches, alloc, JournalItem::Activate { key })?;
+            push_alone(&mut batches, alloc, JournalItem::ActivateUndated { key })?;
         }
         KeyState::Closed => push_alone(&mut batches, alloc, JournalItem::Close { key })?,
     }

@@ -6,8 +6,9 @@ use Rattle.std.proofs.lemmas.Bool.{eq-eqb, ne_eqb}
 use Rattle.std.proofs.lemmas.List.{append-nil, nil_from_length}
 use Rattle.std.proofs.lemmas.List.Concat.{flat_map-cons}
 use Rattle.record_codec.specs.declared.item.JournalItem.{JournalItem}
-use Rattle.record_codec.specs.declared.item.JournalItem.TheVariants.{Block, Vote, Floors, Activate, Close}
-use Rattle.record_codec.specs.Spelling.{item_bytes, spelling, is_record, IsBatch, Fits, IsFirstBad}
+use Rattle.record_codec.specs.declared.item.JournalItem.TheVariants.{Block, Vote, Floors, ActivateUndated, Activate, Answer, Close}
+use Rattle.record_codec.specs.declared.version.JournalVersion.{JournalVersion}
+use Rattle.record_codec.specs.Spelling.{item_bytes, spelling, is_record, IsBatch, IsOf, MomentFits, Fits, IsFirstBad}
 use Rattle.record_codec.specs.Reading.{record_at, state_at, prepend, first_then, rest_of, records_at, state_or, batch_of, fault_in}
 use Rattle.std.specs.Prelude.{IfOk, IfErr}
 use Rattle.std.specs.Global.{Vec}
@@ -22,6 +23,9 @@ AllRecords items = AllByRecursion (λ i. is_record i ≡ true) items
 
 abbrev pub AllFit : List JournalItem → Type 0
 AllFit items = AllByRecursion Fits items
+
+abbrev pub AllOf : JournalVersion → List JournalItem → Type 0
+AllOf version items = AllByRecursion (IsOf version) items
 
 abbrev Read : Type 0
 Read = Result (List JournalItem) ℕ
@@ -251,9 +255,6 @@ ends_well payload front rest item behind count so_far some last fuel enough =
 
 -- ---- a whole payload
 
-abbrev pub AreItems : List JournalItem → Type 0
-AreItems items = IsBatch items × AllFit items
-
 batch_records : (items : List JournalItem) → AllRecords items → 0 < length items → IsBatch items
 batch_records [] records some = absurd (omega arith)
 batch_records (item ∷ []) records some = tt
@@ -263,55 +264,85 @@ cases_state : (o : Option JournalItem) → (o ≡ None) ⊎ ((item : JournalItem
 cases_state None = inl refl
 cases_state (Some item) = inr (item, refl)
 
-with_state : (payload : List ℕ) (item : JournalItem) → state_at payload ≡ Some item → batch_of payload ≡ Ok (item ∷ [])
+with_state : (version : JournalVersion) (payload : List ℕ) (item : JournalItem) → state_at version payload ≡ Some item → batch_of version payload ≡ Ok (item ∷ [])
 unfolding batch_of
-with_state payload item some = ap (λ (o : Option JournalItem). state_or o (records_at (suc (length payload)) 0 payload)) some
+with_state version payload item some = ap (λ (o : Option JournalItem). state_or o (records_at (suc (length payload)) 0 payload)) some
 
-without_state : (payload : List ℕ) → state_at payload ≡ None → batch_of payload ≡ records_at (suc (length payload)) 0 payload
+without_state : (version : JournalVersion) (payload : List ℕ) → state_at version payload ≡ None → batch_of version payload ≡ records_at (suc (length payload)) 0 payload
 unfolding batch_of
-without_state payload none = ap (λ (o : Option JournalItem). state_or o (records_at (suc (length payload)) 0 payload)) none
+without_state version payload none = ap (λ (o : Option JournalItem). state_or o (records_at (suc (length payload)) 0 payload)) none
 
-pub batch_takes : (payload : List ℕ) (items : List JournalItem) → AreBytes payload → batch_of payload ≡ Ok items → IsBatch items × AllFit items × (payload ≡ spelling items)
-batch_takes payload items fits e =
-    elim (cases_state (state_at payload)) [
+-- each version has all records
+record_of : (version : JournalVersion) (item : JournalItem) → is_record item ≡ true → IsOf version item
+record_of version (Block key entry) one = tt
+record_of version (Vote key entry) one = tt
+record_of version (Floors key block vote) one = tt
+record_of version (ActivateUndated key) one = absurd cc
+record_of version (Activate key epoch) one = absurd cc
+record_of version (Answer key epoch live moment) one = absurd cc
+record_of version (Close key) one = tt
+
+pub records_of_each : (version : JournalVersion) (items : List JournalItem) → AllRecords items → AllOf version items
+records_of_each version [] records = tt
+records_of_each version (item ∷ items) records = (record_of version item records.0, records_of_each version items records.1)
+
+-- and no record has a moment
+record_untimed : (item : JournalItem) → is_record item ≡ true → MomentFits item
+record_untimed (Block key entry) one = tt
+record_untimed (Vote key entry) one = tt
+record_untimed (Floors key block vote) one = tt
+record_untimed (ActivateUndated key) one = absurd cc
+record_untimed (Activate key epoch) one = absurd cc
+record_untimed (Answer key epoch live moment) one = absurd cc
+record_untimed (Close key) one = absurd cc
+
+pub records_untimed : (items : List JournalItem) → AllRecords items → AllByRecursion MomentFits items
+records_untimed [] records = tt
+records_untimed (item ∷ items) records = (record_untimed item records.0, records_untimed items records.1)
+
+pub batch_takes : (version : JournalVersion) (payload : List ℕ) (items : List JournalItem) → AreBytes payload → batch_of version payload ≡ Ok items → IsBatch items × AllOf version items × AllFit items × (payload ≡ spelling items)
+batch_takes version payload items fits e =
+    elim (cases_state (state_at version payload)) [
       | inl none ↦
-          let all = records_take (suc (length payload)) 0 payload items fits (sym (without_state payload none) ∙ e) in
-          (batch_records items all.records all.some, all.fits, all.whole)
+          let all = records_take (suc (length payload)) 0 payload items fits (sym (without_state version payload none) ∙ e) in
+          (batch_records items all.records all.some, records_of_each version items all.records, all.fits, all.whole)
       | inr some ↦
-          let state = state_takes payload some.0 fits some.1 in
-          subst (λ (l : List JournalItem). IsBatch l × AllFit l × (payload ≡ spelling l)) (ok_is (some.0 ∷ []) items (sym (with_state payload some.0 some.1) ∙ e))
-          (tt, (state.fits, tt), state.whole ∙ sym (append-nil (item_bytes some.0)) ∙ sym (spelling-cons some.0 []))
+          let state = state_takes version payload some.0 fits some.1 in
+          subst (λ (l : List JournalItem). IsBatch l × AllOf version l × AllFit l × (payload ≡ spelling l)) (ok_is (some.0 ∷ []) items (sym (with_state version payload some.0 some.1) ∙ e))
+          (tt, (state.of, tt), (state.fits, tt), state.whole ∙ sym (append-nil (item_bytes some.0)) ∙ sym (spelling-cons some.0 []))
     ]
 
 cases_record : (item : JournalItem) → (is_record item ≡ true) ⊎ (is_record item ≡ false)
 cases_record (Block key entry) = inl refl
 cases_record (Vote key entry) = inl refl
 cases_record (Floors key block vote) = inl refl
-cases_record (Activate key) = inr refl
+cases_record (ActivateUndated key) = inr refl
+cases_record (Activate key epoch) = inr refl
+cases_record (Answer key epoch live moment) = inr refl
 cases_record (Close key) = inr refl
 
-records_batch : (item : JournalItem) (items : List JournalItem) → AllRecords (item ∷ items) → AllFit (item ∷ items) → batch_of (spelling (item ∷ items)) ≡ Ok (item ∷ items)
-records_batch item items records fits =
-    without_state (spelling (item ∷ items)) (ap state_at (spelling-cons item items) ∙ state_none item (spelling items) records.0)
+records_batch : (version : JournalVersion) (item : JournalItem) (items : List JournalItem) → AllRecords (item ∷ items) → AllFit (item ∷ items) → batch_of version (spelling (item ∷ items)) ≡ Ok (item ∷ items)
+records_batch version item items records fits =
+    without_state version (spelling (item ∷ items)) (ap (state_at version) (spelling-cons item items) ∙ state_none version item (spelling items) records.0)
     ∙ records_again (suc (length (spelling (item ∷ items)))) 0 item items (omega (arith, many_items (item ∷ items))) records fits
 
-pub batch_again : (items : List JournalItem) → IsBatch items → AllFit items → batch_of (spelling items) ≡ Ok items
-batch_again [] batch fits = absurd batch
-batch_again (item ∷ []) batch fits =
+pub batch_again : (version : JournalVersion) (items : List JournalItem) → IsBatch items → AllOf version items → AllFit items → batch_of version (spelling items) ≡ Ok items
+batch_again version [] batch of fits = absurd batch
+batch_again version (item ∷ []) batch of fits =
     elim (cases_record item) [
-      | inl one ↦ records_batch item [] (one, tt) fits
-      | inr state ↦ with_state (spelling (item ∷ [])) item (ap state_at (spelling-cons item [] ∙ append-nil (item_bytes item)) ∙ state_again item fits.0 state)
+      | inl one ↦ records_batch version item [] (one, tt) fits
+      | inr state ↦ with_state version (spelling (item ∷ [])) item (ap (state_at version) (spelling-cons item [] ∙ append-nil (item_bytes item)) ∙ state_again version item of.0 fits.0 state)
     ]
-batch_again (item ∷ other ∷ items) batch fits = records_batch item (other ∷ items) batch fits
+batch_again version (item ∷ other ∷ items) batch of fits = records_batch version item (other ∷ items) batch fits
 
 -- ---- the first that can't be read, in a whole payload
 
-pub first_bad_is : (payload : List ℕ) (k : ℕ) → AreBytes payload → batch_of payload ≡ Err k → IsFirstBad payload k
-first_bad_is payload k fits e =
-    elim (cases_state (state_at payload)) [
-      | inr some ↦ absurd (differ (some.0 ∷ []) (sym (with_state payload some.0 some.1) ∙ e))
+pub first_bad_is : (version : JournalVersion) (payload : List ℕ) (k : ℕ) → AreBytes payload → batch_of version payload ≡ Err k → IsFirstBad version payload k
+first_bad_is version payload k fits e =
+    elim (cases_state (state_at version payload)) [
+      | inr some ↦ absurd (differ (some.0 ∷ []) (sym (with_state version payload some.0 some.1) ∙ e))
       | inl none ↦
-          let stop = records_stop (suc (length payload)) 0 payload k fits (omega arith) (sym (without_state payload none) ∙ e) in
+          let stop = records_stop (suc (length payload)) 0 payload k fits (omega arith) (sym (without_state version payload none) ∙ e) in
           let s = stop.2 in
           record {
             before = s.before;
@@ -321,9 +352,9 @@ first_bad_is payload k fits e =
             records = s.records;
             fits = s.fits;
             within = s.within;
-            unread = λ item behind fit is. elim (cases_record item) [
+            unread = λ item behind of fit is. elim (cases_record item) [
               | inl one ↦ absurd (missing item behind (sym (ap record_at is ∙ record_again item behind fit one) ∙ s.none))
-              | inr state ↦ (state, λ first last. absurd (absent item (sym (ap state_at (s.split ∙ ap (λ (l : List JournalItem). spelling l ++ s.rest) first ∙ is ∙ ap (λ (l : List ℕ). item_bytes item ++ l) last ∙ append-nil (item_bytes item)) ∙ state_again item fit state) ∙ none)))
+              | inr state ↦ (state, λ first last. absurd (absent item (sym (ap (state_at version) (s.split ∙ ap (λ (l : List JournalItem). spelling l ++ s.rest) first ∙ is ∙ ap (λ (l : List ℕ). item_bytes item ++ l) last ∙ append-nil (item_bytes item)) ∙ state_again version item of fit state) ∙ none)))
             ];
           }
     ]
@@ -341,18 +372,18 @@ AreBytes-rest : (front rest : List ℕ) → AreBytes (front ++ rest) → AreByte
 AreBytes-rest [] rest fits = fits
 AreBytes-rest (b ∷ front) rest fits = AreBytes-rest front rest (λ i. fits (suc i))
 
-pub first_bad_only : (payload : List ℕ) (k : ℕ) → AreBytes payload → IsFirstBad payload k → batch_of payload ≡ Err k
-first_bad_only payload k fits bad =
+pub first_bad_only : (version : JournalVersion) (payload : List ℕ) (k : ℕ) → AreBytes payload → IsFirstBad version payload k → batch_of version payload ≡ Err k
+first_bad_only version payload k fits bad =
     let rest_fits = AreBytes-rest (spelling bad.before) bad.rest (subst (λ (l : List ℕ). AreBytes l) bad.split fits) in
     let none : record_at bad.rest ≡ None = elim (cases_found (record_at bad.rest)) [
       | inl none ↦ none
-      | inr some ↦ let one = record_takes bad.rest some.0 rest_fits some.1 in absurd (both some.0.0 one.is_one (bad.unread some.0.0 some.0.1 one.fits one.takes.parts).0)
+      | inr some ↦ let one = record_takes bad.rest some.0 rest_fits some.1 in absurd (both some.0.0 one.is_one (bad.unread some.0.0 some.0.1 (record_of version some.0.0 one.is_one) one.fits one.takes.parts).0)
     ] in
-    let no_state : state_at payload ≡ None = elim (cases_state (state_at payload)) [
+    let no_state : state_at version payload ≡ None = elim (cases_state (state_at version payload)) [
       | inl none ↦ none
-      | inr some ↦ let state = state_takes payload some.0 fits some.1 in absurd (alone bad.before bad.rest some.0 bad.split bad.records bad.unread state some.1)
+      | inr some ↦ let state = state_takes version payload some.0 fits some.1 in absurd (alone bad.before bad.rest some.0 bad.split bad.records bad.unread state some.1)
     ] in
-    without_state payload no_state
+    without_state version payload no_state
     ∙ ap (λ (l : List ℕ). records_at (suc (length payload)) 0 l) bad.split
     ∙ records_stopped (suc (length payload)) 0 bad.before bad.rest (omega (arith, ap length bad.split, length-append (spelling bad.before) bad.rest, many_items bad.before)) bad.records bad.fits bad.within none
     ∙ ap Err place
@@ -367,10 +398,10 @@ first_bad_only payload k fits bad =
     absent item same = cc
 
     alone : (before : List JournalItem) (rest : List ℕ) (item : JournalItem) → payload ≡ spelling before ++ rest → AllRecords before
-        → ((i : JournalItem) (behind : List ℕ) → Fits i → rest ≡ item_bytes i ++ behind → (is_record i ≡ false) × (before ≡ [] → behind ≡ [] → ⊥)) → IsState payload item → state_at payload ≡ Some item → ⊥
-    alone [] rest item split records unread state some = (unread item [] state.fits (sym split ∙ state.whole ∙ sym (append-nil (item_bytes item)))).1 refl refl
+        → ((i : JournalItem) (behind : List ℕ) → IsOf version i → Fits i → rest ≡ item_bytes i ++ behind → (is_record i ≡ false) × (before ≡ [] → behind ≡ [] → ⊥)) → IsState version payload item → state_at version payload ≡ Some item → ⊥
+    alone [] rest item split records unread state some = (unread item [] state.of state.fits (sym split ∙ state.whole ∙ sym (append-nil (item_bytes item)))).1 refl refl
     alone (first ∷ before) rest item split records unread state some =
-        absent item (sym (ap state_at (split ∙ ap (λ (l : List ℕ). l ++ rest) (spelling-cons first before) ∙ append_assoc (item_bytes first) (spelling before) rest) ∙ state_none first (spelling before ++ rest) records.0) ∙ some)
+        absent item (sym (ap (state_at version) (split ∙ ap (λ (l : List ℕ). l ++ rest) (spelling-cons first before) ∙ append_assoc (item_bytes first) (spelling before) rest) ∙ state_none version first (spelling before ++ rest) records.0) ∙ some)
 
 -- the same where no item is kept
 pub record Counted (payload rest : List ℕ) : Type 0 where
@@ -399,16 +430,16 @@ counted_well payload rest item behind before some last fuel enough = ap fault_in
 
 -- ---- what `decode` gives, by cases
 
-pub found_is : (payload : List ℕ) (r : Result (Result (Vec JournalItem) BadAt) AllocError) → AreBytes payload → IfOk r (λ read. seen read ≡ batch_of payload) → IfOk r (λ read. IfOk read (λ items. IsBatch items.items × AllFit items.items × (payload ≡ spelling items.items)))
-found_is payload (Err e) fits given = tt
-found_is payload (Ok (Err bad)) fits given = tt
-found_is payload (Ok (Ok items)) fits given = batch_takes payload items.items fits (sym given)
+pub found_is : (version : JournalVersion) (payload : List ℕ) (r : Result (Result (Vec JournalItem) BadAt) AllocError) → AreBytes payload → IfOk r (λ read. seen read ≡ batch_of version payload) → IfOk r (λ read. IfOk read (λ items. IsBatch items.items × AllOf version items.items × AllFit items.items × (payload ≡ spelling items.items)))
+found_is version payload (Err e) fits given = tt
+found_is version payload (Ok (Err bad)) fits given = tt
+found_is version payload (Ok (Ok items)) fits given = batch_takes version payload items.items fits (sym given)
 
-pub bad_is : (payload : List ℕ) (r : Result (Result (Vec JournalItem) BadAt) AllocError) → AreBytes payload → IfOk r (λ read. seen read ≡ batch_of payload) → IfOk r (λ read. IfErr read (λ bad. IsFirstBad payload bad.offset))
-bad_is payload (Err e) fits given = tt
-bad_is payload (Ok (Ok items)) fits given = tt
-bad_is payload (Ok (Err bad)) fits given = first_bad_is payload bad.offset fits (sym given)
+pub bad_is : (version : JournalVersion) (payload : List ℕ) (r : Result (Result (Vec JournalItem) BadAt) AllocError) → AreBytes payload → IfOk r (λ read. seen read ≡ batch_of version payload) → IfOk r (λ read. IfErr read (λ bad. IsFirstBad version payload bad.offset))
+bad_is version payload (Err e) fits given = tt
+bad_is version payload (Ok (Ok items)) fits given = tt
+bad_is version payload (Ok (Err bad)) fits given = first_bad_is version payload bad.offset fits (sym given)
 
-pub read_is : (payload : List ℕ) (to : Result (List JournalItem) ℕ) (r : Result (Result (Vec JournalItem) BadAt) AllocError) → batch_of payload ≡ to → IfOk r (λ read. seen read ≡ batch_of payload) → IfOk r (λ read. seen read ≡ to)
-read_is payload to (Err e) same given = tt
-read_is payload to (Ok read) same given = given ∙ same
+pub read_is : (version : JournalVersion) (payload : List ℕ) (to : Result (List JournalItem) ℕ) (r : Result (Result (Vec JournalItem) BadAt) AllocError) → batch_of version payload ≡ to → IfOk r (λ read. seen read ≡ batch_of version payload) → IfOk r (λ read. seen read ≡ to)
+read_is version payload to (Err e) same given = tt
+read_is version payload to (Ok read) same given = given ∙ same

@@ -6,8 +6,9 @@ use Rattle.std.proofs.lemmas.List.{take_at, drop_at, take-append-drop, length-ap
 use Rattle.std.proofs.lemmas.Nat.{le_bytes_8, from_le_bytes-to_le_bytes_8}
 use Rattle.edge_kit.specs.declared.bytes.PubKey.{PubKey}
 use Rattle.edge_kit.specs.declared.bytes.Root.{Root}
-use Rattle.record_codec.specs.Spelling.{number, optional_root, optional_number, optional_pair, IsBytes, RootFits, NumberFits, PairFits}
-use Rattle.record_codec.specs.Reading.{◌>>=◌, bytes_at, number_at, root_at, key_at, optional_root_at, optional_number_at, optional_pair_at}
+use Rattle.doppel_watch.specs.Moments.{moment_limit}
+use Rattle.record_codec.specs.Spelling.{number, flag_byte, optional_root, optional_number, optional_pair, IsBytes, RootFits, NumberFits, PairFits}
+use Rattle.record_codec.specs.Reading.{◌>>=◌, bytes_at, number_at, root_at, key_at, moment_at, flag_at, optional_root_at, optional_number_at, optional_pair_at}
 
 -- each is a byte
 abbrev pub AreBytes : List ℕ → Type 0
@@ -85,6 +86,20 @@ pub number_again : (n : ℕ) (rest : List ℕ) → n < 2 ^ 64 → number_at (num
 unfolding number_at number
 number_again n rest lt = rw (bytes_again 8 (number n) rest (length-number n)) (ap (λ (m : ℕ). Some (m, rest)) (from_le_bytes-to_le_bytes_8 n lt))
 
+pub moment_takes : (bytes : List ℕ) (x : ℕ × List ℕ) → AreBytes bytes → moment_at bytes ≡ Some x → Takes bytes (number x.0) x.1 × (x.0 ≤ moment_limit)
+unfolding moment_at
+moment_takes bytes x fits e =
+    let m = bind_some (number_at bytes) (λ (m : ℕ × List ℕ). cond (ltb moment_limit m.0) None (Some (m.0, m.1))) x e in
+    let g = guard_some (ltb moment_limit m.0.0) (m.0.0, m.0.1) x m.2 in
+    let t = number_takes bytes m.0 fits m.1 in
+    subst (λ (y : ℕ × List ℕ). Takes bytes (number y.0) y.1 × (y.0 ≤ moment_limit)) g.1 (t.0, ltb-false _ _ g.0)
+
+pub moment_again : (n : ℕ) (rest : List ℕ) → n ≤ moment_limit → moment_at (number n ++ rest) ≡ Some (n, rest)
+unfolding moment_at
+moment_again n rest le =
+    let lt : n < 2 ^ 64 = omega arith in
+    rw (number_again n rest lt, le-ltb moment_limit n le) refl
+
 -- ---- keys and roots
 
 pub key_takes : (bytes : List ℕ) (x : PubKey × List ℕ) → AreBytes bytes → key_at bytes ≡ Some x → Takes bytes x.0.0 x.1 × IsBytes 48 x.0.0
@@ -107,7 +122,21 @@ root_again : (root : Root) (rest : List ℕ) → IsBytes 32 root.0 → root_at (
 unfolding root_at
 root_again root rest fits = rw (bytes_again 32 root.0 rest fits.count) refl
 
--- ---- what stands behind a flag
+-- ---- flags, and what stands behind them
+
+pub flag_takes : (bytes : List ℕ) (x : Bool × List ℕ) → AreBytes bytes → flag_at bytes ≡ Some x → Takes bytes (flag_byte x.0) x.1
+unfolding flag_at
+flag_takes [] x fits e = absurd cc
+flag_takes (zero ∷ bytes) x fits e =
+    subst (λ (y : Bool × List ℕ). Takes (0 ∷ bytes) (flag_byte y.0) y.1) (some_is (false, bytes) x e) (Takes-one 0 bytes fits)
+flag_takes (suc zero ∷ bytes) x fits e =
+    subst (λ (y : Bool × List ℕ). Takes (1 ∷ bytes) (flag_byte y.0) y.1) (some_is (true, bytes) x e) (Takes-one 1 bytes fits)
+flag_takes (suc (suc flag) ∷ bytes) x fits e = absurd cc
+
+pub flag_again : (is_set : Bool) (rest : List ℕ) → flag_at (flag_byte is_set ++ rest) ≡ Some (is_set, rest)
+unfolding flag_at
+flag_again false rest = refl
+flag_again true rest = refl
 
 pub optional_root_takes : (bytes : List ℕ) (x : Option Root × List ℕ) → AreBytes bytes → optional_root_at bytes ≡ Some x → Takes bytes (optional_root x.0) x.1 × RootFits x.0
 unfolding optional_root_at

@@ -1,10 +1,13 @@
 -- What stands at the front of a payload's bytes, and what a payload is read as.
-use Rattle.std.specs.Prelude.{ℕ, zero, suc, ◌+◌, ◌-◌, nat_lt, nat_eq, List, [], ◌∷◌, length, take, drop, Option, Some, None, Result, Ok, Err, option_and_then, if◌then◌else◌}
+use Rattle.std.specs.Prelude.{ℕ, zero, suc, ◌+◌, ◌-◌, nat_lt, nat_eq, Bool, true, false, List, [], ◌∷◌, length, take, drop, Option, Some, None, Result, Ok, Err, option_and_then, if◌then◌else◌}
 use Rattle.std.specs.Int.{w64, from_le_bytes}
 use Rattle.edge_kit.specs.declared.bytes.PubKey.{PubKey}
 use Rattle.edge_kit.specs.declared.bytes.Root.{Root}
 use Rattle.record_codec.specs.declared.item.JournalItem.{JournalItem}
-use Rattle.record_codec.specs.declared.item.JournalItem.TheVariants.{Block, Vote, Floors, Activate, Close}
+use Rattle.record_codec.specs.declared.item.JournalItem.TheVariants.{Block, Vote, Floors, ActivateUndated, Activate, Answer, Close}
+use Rattle.record_codec.specs.declared.version.JournalVersion.{JournalVersion}
+use Rattle.record_codec.specs.declared.version.JournalVersion.TheVariants.{One, Two}
+use Rattle.doppel_watch.specs.Moments.{moment_limit}
 
 infixl 10 ◌>>=◌
 abbrev pub ◌>>=◌ : {A B : Type 0} → Option A → (A → Option B) → Option B
@@ -28,6 +31,18 @@ unfoldable pub key_at : List ℕ → Option (PubKey × List ℕ)
 key_at bytes = do
   b ← bytes_at 48 bytes
   Some (record { 0 = b.0 }, b.1)
+
+-- a moment is within the limit
+unfoldable pub moment_at : List ℕ → Option (ℕ × List ℕ)
+moment_at bytes = do
+  moment ← number_at bytes
+  if nat_lt moment_limit moment.0 then None else Some (moment.0, moment.1)
+
+unfoldable pub flag_at : List ℕ → Option (Bool × List ℕ)
+flag_at [] = None
+flag_at (zero ∷ bytes) = Some (false, bytes)
+flag_at (suc zero ∷ bytes) = Some (true, bytes)
+flag_at (suc (suc flag) ∷ bytes) = None
 
 -- a flag, and behind a 1 what there is
 unfoldable pub optional_root_at : List ℕ → Option (Option Root × List ℕ)
@@ -85,10 +100,31 @@ record_at (tag ∷ bytes) = do
   key ← key_at bytes
   tagged_at tag key.0 key.1
 
--- a state of a key, alone
-unfoldable pub state_at : List ℕ → Option JournalItem
-state_at [] = None
-state_at (tag ∷ bytes) = if nat_eq (length bytes) 48 then (if nat_eq tag 4 then Some (Activate (record { 0 = bytes })) else (if nat_eq tag 5 then Some (Close (record { 0 = bytes })) else None)) else None
+-- what an item that stands alone says of its key
+unfoldable pub activate_at : PubKey → List ℕ → Option (JournalItem × List ℕ)
+activate_at key bytes = do
+  epoch ← moment_at bytes
+  Some (Activate key epoch.0, epoch.1)
+
+unfoldable pub answer_at : PubKey → List ℕ → Option (JournalItem × List ℕ)
+answer_at key bytes = do
+  epoch ← number_at bytes
+  live ← flag_at epoch.1
+  moment ← moment_at live.1
+  Some (Answer key epoch.0 live.0 moment.0, moment.1)
+
+-- by its tag, of the items of a version
+unfoldable pub tagged_state_at : JournalVersion → ℕ → PubKey → List ℕ → Option (JournalItem × List ℕ)
+tagged_state_at One tag key bytes = if nat_eq tag 4 then Some (ActivateUndated key, bytes) else (if nat_eq tag 5 then Some (Close key, bytes) else None)
+tagged_state_at Two tag key bytes = if nat_eq tag 5 then Some (Close key, bytes) else (if nat_eq tag 7 then activate_at key bytes else (if nat_eq tag 8 then answer_at key bytes else None))
+
+-- a state of a key or an answer, alone
+unfoldable pub state_at : JournalVersion → List ℕ → Option JournalItem
+state_at version [] = None
+state_at version (tag ∷ bytes) = do
+  key ← key_at bytes
+  item ← tagged_state_at version tag key.0 key.1
+  if nat_eq (length item.1) 0 then Some item.0 else None
 
 abbrev pub prepend : JournalItem → Result (List JournalItem) ℕ → Result (List JournalItem) ℕ
 prepend item (Ok items) = Ok (item ∷ items)
@@ -111,14 +147,14 @@ abbrev pub state_or : Option JournalItem → Result (List JournalItem) ℕ → R
 state_or None others = others
 state_or (Some item) others = Ok (item ∷ [])
 
--- the items of a payload, or the offset of the first that can't be read
-unfoldable pub batch_of : List ℕ → Result (List JournalItem) ℕ
-batch_of payload = state_or (state_at payload) (records_at (suc (length payload)) 0 payload)
+-- the items of a payload in a file of this version, or the offset of the first that can't be read
+unfoldable pub batch_of : JournalVersion → List ℕ → Result (List JournalItem) ℕ
+batch_of version payload = state_or (state_at version payload) (records_at (suc (length payload)) 0 payload)
 
 -- the offset of the first item that can't be read, if any
 abbrev pub fault_in : Result (List JournalItem) ℕ → Option ℕ
 fault_in (Ok items) = None
 fault_in (Err offset) = Some offset
 
-abbrev pub bad_at : List ℕ → Option ℕ
-bad_at payload = fault_in (batch_of payload)
+abbrev pub bad_at : JournalVersion → List ℕ → Option ℕ
+bad_at version payload = fault_in (batch_of version payload)

@@ -28,10 +28,28 @@ pub enum JournalItem {
         /// The least source and the least target of its votes, where it has votes.
         vote: Option<(u64, u64)>,
     },
-    /// A key becomes active.
+    /// A key becomes active; the epoch isn't said. Of version one.
+    ActivateUndated {
+        /// The key.
+        key: PubKey,
+    },
+    /// A key becomes active at an epoch. Of version two.
     Activate {
         /// The key.
         key: PubKey,
+        /// The epoch.
+        epoch: u64,
+    },
+    /// A beacon node said whether a key was live in an epoch. Of version two.
+    Answer {
+        /// The key.
+        key: PubKey,
+        /// The epoch of which it was said.
+        epoch: u64,
+        /// Whether the key was live in it.
+        live: bool,
+        /// The moment at which it was said, an epoch.
+        moment: u64,
     },
     /// A key is closed.
     Close {
@@ -54,6 +72,10 @@ pub(crate) const VOTE: u8 = 2;
 
 pub(crate) const FLOORS: u8 = 3;
 
-pub(crate) const ACTIVATE: u8 = 4;
+pub(crate) const ACTIVATE_UNDATED: u8 = 4;
 
 pub(crate) const CLOSE: u8 = 5;
+
+pub(crate) const ACTIVATE: u8 = 7;
+
+pub(crate) const ANSWER: u8 = 8;

@@ -3,8 +3,10 @@
 
 mod item;
 mod reading;
+mod version;
 mod writing;
 
 pub use item::{BadAt, JournalItem};
 pub use reading::{check_batch, decode};
+pub use version::JournalVersion;
 pub use writing::encode;

@@ -2,12 +2,16 @@
 ghost use Rattle.std.specs.Prelude.{◌≡◌, ◌<◌, ◌≤◌, ℕ, List, length, IfOk, IfErr, Ok, Err, Some, None, MatchResult};
 ghost use Rattle.std.specs.List.{AllByRecursion};
 ghost use Rattle.record_codec.specs.declared.item.JournalItem.{JournalItem};
-ghost use Rattle.record_codec.specs.Spelling.{IsBatch, Fits, spelling, IsFirstBad};
+ghost use Rattle.record_codec.specs.Spelling.{IsBatch, IsOf, Fits, spelling, IsFirstBad};
 ghost use Rattle.record_codec.specs.Seen.{seen};
 ghost use Rattle.std.specs.Option.{option_map};
-ghost use Rattle.record_codec.specs.Reading.{bytes_at as bytes_of, number_at as number_of, root_at as root_of, key_at as key_of, optional_root_at as optional_root_of, optional_number_at as optional_number_of, optional_pair_at as optional_pair_of, block_at as block_of, vote_at as vote_of, floors_at as floors_of, tagged_at as tagged_of, record_at as record_of, state_at as state_of, records_at as records_of, batch_of, bad_at, fault_in};
+ghost use Rattle.record_codec.specs.Reading.{bytes_at as bytes_of, number_at as number_of, root_at as root_of, key_at as key_of, moment_at as moment_of, flag_at as flag_of, optional_root_at as optional_root_of, optional_number_at as optional_number_of, optional_pair_at as optional_pair_of, block_at as block_of, vote_at as vote_of, floors_at as floors_of, tagged_at as tagged_of, record_at as record_of, activate_at as activate_of, answer_at as answer_of, tagged_state_at as tagged_state_of, state_at as state_of, records_at as records_of, batch_of, bad_at, fault_in};
 
-use crate::item::{ACTIVATE, BLOCK, BadAt, CLOSE, FLOORS, JournalItem, VOTE};
+use crate::item::{
+    ACTIVATE, ACTIVATE_UNDATED, ANSWER, BLOCK, BadAt, CLOSE, FLOORS, JournalItem, VOTE,
+};
+use crate::version::JournalVersion;
+use doppel_watch::MOMENT_LIMIT;
 use edge_kit::{PubKey, Root};
 use slash_defs::{BlockEntry, VoteEntry};
 use std::alloc::{AllocError, Global};
@@ -42,6 +46,28 @@ fn key_at(bytes: &[u8]) -> Option<(PubKey, &[u8])>
 {
     let (front, rest) = bytes_at::<48>(bytes)?;
     Some((PubKey(front), rest))
+}
+
+#[tactic(auto, unfolding(crate::specs::Reading::moment_at))]
+fn moment_at(bytes: &[u8]) -> Option<(u64, &[u8])>
+    ensures { option_map (λ x. (x.0, x.1.now)) result ≡ moment_of bytes.now }
+{
+    let (moment, rest) = number_at(bytes)?;
+    if MOMENT_LIMIT < moment {
+        return None;
+    }
+    Some((moment, rest))
+}
+
+#[tactic(auto, unfolding(crate::specs::Reading::flag_at))]
+fn flag_at(bytes: &[u8]) -> Option<(bool, &[u8])>
+    ensures { option_map (λ x. (x.0, x.1.now)) result ≡ flag_of bytes.now }
+{
+    match bytes {
+        [0, rest @ ..] => Some((false, rest)),
+        [1, rest @ ..] => Some((true, rest)),
+        _ => None,
+    }
 }
 
 #[tactic(auto, unfolding(crate::specs::Reading::optional_root_at))]
@@ -144,41 +170,99 @@ fn record_at(bytes: &[u8]) -> Option<(JournalItem, &[u8])>
     tagged_at(*tag, key, rest)
 }
 
-// A state of a key, alone.
-#[tactic(auto, unfolding(crate::specs::Reading::state_at))]
-fn state_at(bytes: &[u8]) -> Option<JournalItem>
-    ensures { result ≡ state_of bytes.now }
+// What an item that stands alone says of its key.
+#[tactic(auto, unfolding(crate::specs::Reading::activate_at))]
+fn activate_at(key: PubKey, bytes: &[u8]) -> Option<(JournalItem, &[u8])>
+    ensures { option_map (λ x. (x.0, x.1.now)) result ≡ activate_of key bytes.now }
 {
-    let (tag, rest) = bytes.split_first()?;
-    let key = PubKey(<[u8; 48]>::try_from(rest).ok()?);
-    match *tag {
-        ACTIVATE => Some(JournalItem::Activate { key }),
-        CLOSE => Some(JournalItem::Close { key }),
-        _ => None,
+    let (epoch, rest) = moment_at(bytes)?;
+    Some((JournalItem::Activate { key, epoch }, rest))
+}
+
+#[tactic(auto, unfolding(crate::specs::Reading::answer_at))]
+fn answer_at(key: PubKey, bytes: &[u8]) -> Option<(JournalItem, &[u8])>
+    ensures { option_map (λ x. (x.0, x.1.now)) result ≡ answer_of key bytes.now }
+{
+    let (epoch, rest) = number_at(bytes)?;
+    let (live, rest) = flag_at(rest)?;
+    let (moment, rest) = moment_at(rest)?;
+    let item = JournalItem::Answer {
+        key,
+        epoch,
+        live,
+        moment,
+    };
+    Some((item, rest))
+}
+
+#[tactic(auto, unfolding(crate::specs::Reading::tagged_state_at))]
+fn tagged_state_at(
+    version: JournalVersion,
+    tag: u8,
+    key: PubKey,
+    bytes: &[u8],
+) -> Option<(JournalItem, &[u8])>
+    ensures { option_map (λ x. (x.0, x.1.now)) result ≡ tagged_state_of version tag key bytes.now }
+{
+    match version {
+        JournalVersion::One => match tag {
+            ACTIVATE_UNDATED => Some((JournalItem::ActivateUndated { key }, bytes)),
+            CLOSE => Some((JournalItem::Close { key }, bytes)),
+            _ => None,
+        },
+        JournalVersion::Two => match tag {
+            CLOSE => Some((JournalItem::Close { key }, bytes)),
+            ACTIVATE => activate_at(key, bytes),
+            ANSWER => answer_at(key, bytes),
+            _ => None,
+        },
     }
 }
 
-/// The items of a payload, or the place of the first item that can't be read. States of a key stand alone:
-/// one with a byte before or after it can't be read, nor can the first item of an empty payload.
-pub fn decode(alloc: Global, payload: &[u8]) -> Result<Result<Vec<JournalItem>, BadAt>, AllocError>
-    ensures exact { IfOk result (λ read. seen read ≡ batch_of payload.now) }
-    // What is read is one batch, and the payload is its one spelling.
-    ensures found { IfOk result (λ read. IfOk read (λ items. IsBatch items.items × AllByRecursion Fits items.items × (payload.now ≡ spelling items.items))) }
-    // What is spelled so is read.
-    ensures only { (items : List JournalItem) → IsBatch items → AllByRecursion Fits items → payload.now ≡ spelling items → IfOk result (λ read. seen read ≡ Ok items) }
-    // The fault is the first item that can't be read.
-    ensures bad { IfOk result (λ read. IfErr read (λ bad. IsFirstBad payload.now bad.offset)) }
-    ensures only_bad { (offset : ℕ) → IsFirstBad payload.now offset → IfOk result (λ read. seen read ≡ Err offset) }
+// A state of a key or an answer, alone.
+#[tactic(auto, unfolding(crate::specs::Reading::state_at))]
+fn state_at(version: JournalVersion, bytes: &[u8]) -> Option<JournalItem>
+    ensures { result ≡ state_of version bytes.now }
 {
-    all(alloc, payload)
+    let (tag, rest) = bytes.split_first()?;
+    let (key, rest) = key_at(rest)?;
+    let (item, behind) = tagged_state_at(version, *tag, key, rest)?;
+    if behind.is_empty() {
+        return Some(item);
+    }
+    None
+}
+
+/// The items of a payload in a file of this version, or the place of the first item that can't be read. States of a key
+/// and answers stand alone: one with a byte before or after it can't be read, nor can the first item of an empty payload,
+/// an item that the version doesn't have, or one whose moment is above the limit of moments.
+pub fn decode(
+    alloc: Global,
+    version: JournalVersion,
+    payload: &[u8],
+) -> Result<Result<Vec<JournalItem>, BadAt>, AllocError>
+    ensures exact { IfOk result (λ read. seen read ≡ batch_of version payload.now) }
+    // What is read is one batch of items of the version, and the payload is its one spelling.
+    ensures found { IfOk result (λ read. IfOk read (λ items. IsBatch items.items × AllByRecursion (IsOf version) items.items × AllByRecursion Fits items.items × (payload.now ≡ spelling items.items))) }
+    // What is spelled so is read.
+    ensures only { (items : List JournalItem) → IsBatch items → AllByRecursion (IsOf version) items → AllByRecursion Fits items → payload.now ≡ spelling items → IfOk result (λ read. seen read ≡ Ok items) }
+    // The fault is the first item that can't be read.
+    ensures bad { IfOk result (λ read. IfErr read (λ bad. IsFirstBad version payload.now bad.offset)) }
+    ensures only_bad { (offset : ℕ) → IsFirstBad version payload.now offset → IfOk result (λ read. seen read ≡ Err offset) }
+{
+    all(alloc, version, payload)
 }
 
 // The items of a payload, as `decode` gives them.
 #[tactic(auto, unfolding(crate::specs::Reading::batch_of))]
-fn all(alloc: Global, payload: &[u8]) -> Result<Result<Vec<JournalItem>, BadAt>, AllocError>
-    ensures { IfOk result (λ read. seen read ≡ batch_of payload.now) }
+fn all(
+    alloc: Global,
+    version: JournalVersion,
+    payload: &[u8],
+) -> Result<Result<Vec<JournalItem>, BadAt>, AllocError>
+    ensures { IfOk result (λ read. seen read ≡ batch_of version payload.now) }
 {
-    if let Some(item) = state_at(payload) {
+    if let Some(item) = state_at(version, payload) {
         let mut items = Vec::new(alloc);
         items.push(item)?;
         return Ok(Ok(items));
@@ -205,13 +289,14 @@ fn records(alloc: Global, payload: &[u8]) -> Result<Result<Vec<JournalItem>, Bad
     }
 }
 
-/// Whether a payload is one batch; else the place of the first item that can't be read. Takes no memory.
+/// Whether a payload is one batch in a file of this version; else the place of the first item that can't be read, as
+/// `decode` has it. Takes no memory.
 #[tactic(auto, unfolding(crate::specs::Reading::batch_of))]
-pub fn check_batch(payload: &[u8]) -> Result<(), BadAt>
+pub fn check_batch(version: JournalVersion, payload: &[u8]) -> Result<(), BadAt>
     ensures within { IfErr result (λ bad. bad.offset ≤ length payload.now) }
-    ensures bad { MatchResult result (λ done. bad_at payload.now ≡ None) (λ bad. bad_at payload.now ≡ Some bad.offset) }
+    ensures bad { MatchResult result (λ done. bad_at version payload.now ≡ None) (λ bad. bad_at version payload.now ≡ Some bad.offset) }
 {
-    if let Some(_state) = state_at(payload) {
+    if let Some(_state) = state_at(version, payload) {
         return Ok(());
     }
     check_records(payload)

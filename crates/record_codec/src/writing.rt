@@ -1,17 +1,22 @@
 //! A batch is written as bytes.
-ghost use Rattle.std.specs.Prelude.{◌≡◌, ◌++◌, ◌<◌, ◌^◌, OnOk, IfOk, Ok};
-ghost use Rattle.record_codec.specs.Spelling.{number, optional_root, optional_number, optional_pair, item_bytes, spelling, IsBatch, IsBytes, RootFits, NumberFits, PairFits, Fits};
+ghost use Rattle.std.specs.Prelude.{◌≡◌, ◌≤◌, ◌++◌, ◌∷◌, ◌<◌, ◌^◌, Bool, OnOk, IfOk, Ok};
+ghost use Rattle.std.specs.List.{AllByRecursion};
+ghost use Rattle.doppel_watch.specs.Moments.{moment_limit};
+ghost use Rattle.record_codec.specs.declared.version.JournalVersion.{JournalVersion};
+ghost use Rattle.record_codec.specs.Spelling.{number, flag_byte, optional_root, optional_number, optional_pair, item_bytes, spelling, IsBatch, IsBytes, RootFits, NumberFits, PairFits, MomentFits, Fits, IsOf};
 ghost use Rattle.record_codec.specs.Reading.{batch_of};
 
-use crate::item::{ACTIVATE, BLOCK, CLOSE, FLOORS, JournalItem, VOTE};
+use crate::item::{ACTIVATE, ACTIVATE_UNDATED, ANSWER, BLOCK, CLOSE, FLOORS, JournalItem, VOTE};
 use edge_kit::Root;
 use slash_defs::{BlockEntry, VoteEntry};
 use std::alloc::{AllocError, Global};
 
-fn put_key(out: &mut Vec<u8>, key: &[u8; 48]) -> Result<(), AllocError>
-    ensures ok { OnOk result (out.new.items ≡ out.old.items ++ key.now) }
+// The tag of an item, and its key.
+fn put_key(out: &mut Vec<u8>, tag: u8, key: &[u8; 48]) -> Result<(), AllocError>
+    ensures ok { OnOk result (out.new.items ≡ out.old.items ++ tag ∷ key.now) }
     ensures fits { IsBytes 48 key.now }
 {
+    out.push(tag)?;
     out.extend_from_slice(key)?;
     Ok(())
 }
@@ -22,6 +27,13 @@ fn put_number(out: &mut Vec<u8>, n: u64) -> Result<(), AllocError>
     ensures fits { n < 2 ^ 64 }
 {
     out.extend_from_slice(&n.to_le_bytes())?;
+    Ok(())
+}
+
+fn put_flag(out: &mut Vec<u8>, is_set: bool) -> Result<(), AllocError>
+    ensures { OnOk result (out.new.items ≡ out.old.items ++ flag_byte is_set) }
+{
+    out.push(if is_set { 1 } else { 0 })?;
     Ok(())
 }
 
@@ -92,45 +104,67 @@ fn put_vote(out: &mut Vec<u8>, entry: &VoteEntry) -> Result<(), AllocError>
     Ok(())
 }
 
+// An answer, behind its key.
+fn put_answer(out: &mut Vec<u8>, epoch: u64, live: bool, moment: u64) -> Result<(), AllocError>
+    ensures ok { OnOk result (out.new.items ≡ out.old.items ++ (number epoch ++ (flag_byte live ++ number moment))) }
+    ensures fits { epoch < 2 ^ 64 }
+{
+    put_number(out, epoch)?;
+    put_flag(out, live)?;
+    put_number(out, moment)?;
+    Ok(())
+}
+
 fn put_item(out: &mut Vec<u8>, item: &JournalItem) -> Result<(), AllocError>
+    requires { MomentFits item.now }
     ensures ok { OnOk result (out.new.items ≡ out.old.items ++ item_bytes item.now) }
     ensures fits { OnOk result (Fits item.now) }
 {
     match item {
         JournalItem::Block { key, entry } => {
-            out.push(BLOCK)?;
-            put_key(out, &key.0)?;
+            put_key(out, BLOCK, &key.0)?;
             put_block(out, entry)?;
         }
         JournalItem::Vote { key, entry } => {
-            out.push(VOTE)?;
-            put_key(out, &key.0)?;
+            put_key(out, VOTE, &key.0)?;
             put_vote(out, entry)?;
         }
         JournalItem::Floors { key, block, vote } => {
-            out.push(FLOORS)?;
-            put_key(out, &key.0)?;
+            put_key(out, FLOORS, &key.0)?;
             put_optional_number(out, *block)?;
             put_optional_pair(out, *vote)?;
         }
-        JournalItem::Activate { key } => {
-            out.push(ACTIVATE)?;
-            put_key(out, &key.0)?;
+        JournalItem::ActivateUndated { key } => {
+            put_key(out, ACTIVATE_UNDATED, &key.0)?;
+        }
+        JournalItem::Activate { key, epoch } => {
+            put_key(out, ACTIVATE, &key.0)?;
+            put_number(out, *epoch)?;
+        }
+        JournalItem::Answer {
+            key,
+            epoch,
+            live,
+            moment,
+        } => {
+            put_key(out, ANSWER, &key.0)?;
+            put_answer(out, *epoch, *live, *moment)?;
         }
         JournalItem::Close { key } => {
-            out.push(CLOSE)?;
-            put_key(out, &key.0)?;
+            put_key(out, CLOSE, &key.0)?;
         }
     }
     Ok(())
 }
 
-/// The one spelling of a batch, which is one or more blocks, votes and floors, or one state of a key alone.
-/// Decoding it gives the batch.
+/// The one spelling of a batch, which is one or more blocks, votes and floors, or one state of a key or one answer alone.
+/// Decoding it gives the batch, in each version that has its items. The epoch of an activation and the moment of an answer
+/// are to be within the limit of moments, since others can't be read. An `Err` is want of memory.
 pub fn encode(alloc: Global, items: &[JournalItem]) -> Result<Vec<u8>, AllocError>
-    requires { IsBatch items.now }
+    requires batch { IsBatch items.now }
+    requires moments { AllByRecursion MomentFits items.now }
     ensures spelled { IfOk result (λ bytes. bytes.items ≡ spelling items.now) }
-    ensures read_back { IfOk result (λ bytes. batch_of bytes.items ≡ Ok items.now) }
+    ensures read_back { IfOk result (λ bytes. (version : JournalVersion) → AllByRecursion (IsOf version) items.now → batch_of version bytes.items ≡ Ok items.now) }
 {
     let mut out = Vec::new(alloc);
     for item in items {

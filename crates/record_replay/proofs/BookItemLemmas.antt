@@ -22,6 +22,7 @@ use Rattle.record_join.specs.Keys.{key_cmp, kept_of}
 use Rattle.record_join.specs.KeyLaws.{same_key}
 use Rattle.record_replay.specs.Batches.{book_items, file_items, floors_item}
 use Rattle.record_replay.specs.Items.{blocks_in, floors_in, key_of, votes_in, with_state}
+use Rattle.record_replay.specs.Watches.{Watched, with_watch}
 use Rattle.record_replay.specs.declared.state.KeyState.{KeyState}
 use Rattle.record_replay.proofs.NamedLemmas.{has, or_none}
 use Rattle.record_replay.proofs.ItemLemmas.{blocks_more, floors-none, floors_more, no_blocks_in, no_floors_in, no_votes_in, votes_more}
@@ -69,6 +70,26 @@ pub file_state : (states : List (PubKey × KeyState)) (books : List (PubKey × B
 file_state states [] = refl
 file_state states (one ∷ more) =
     fold-append with_state states (book_items one) (file_items more) ∙ ap (λ s. fold with_state s (file_items more)) (book_state states one) ∙ file_state states more
+
+-- ---- and nothing of watches
+
+blocks_watch : (watched : List (PubKey × Watched)) (k : PubKey) (bs : List BlockEntry) (more : List JournalItem) → fold with_watch watched (map (item.Block k) bs ++ more) ≡ fold with_watch watched more
+blocks_watch watched k [] more = refl
+blocks_watch watched k (b ∷ bs) more = blocks_watch watched k bs more
+
+votes_watch : (watched : List (PubKey × Watched)) (k : PubKey) (vs : List VoteEntry) (more : List JournalItem) → fold with_watch watched (map (item.Vote k) vs ++ more) ≡ fold with_watch watched more
+votes_watch watched k [] more = refl
+votes_watch watched k (v ∷ vs) more = votes_watch watched k vs more
+
+book_watch : (watched : List (PubKey × Watched)) (one : PubKey × Book) → fold with_watch watched (book_items one) ≡ watched
+book_watch watched one =
+    let last : List JournalItem = floors_item one.0 (book_floors one.1) ∷ [] in
+    blocks_watch watched one.0 one.1.blocks (map (item.Vote one.0) one.1.votes ++ last) ∙ votes_watch watched one.0 one.1.votes last
+
+pub file_watch : (watched : List (PubKey × Watched)) (books : List (PubKey × Book)) → fold with_watch watched (file_items books) ≡ watched
+file_watch watched [] = refl
+file_watch watched (one ∷ more) =
+    fold-append with_watch watched (book_items one) (file_items more) ∙ ap (λ w. fold with_watch w (file_items more)) (book_watch watched one) ∙ file_watch watched more
 
 -- ---- what they give
 

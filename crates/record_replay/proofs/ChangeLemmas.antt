@@ -1,6 +1,7 @@
 -- What each change makes of the items and of the pasts that they stand for.
 use Rattle.std.proofs.Common.{◌≡◌, Bool, true, false, cond, List, [], ◌∷◌, ◌++◌, map, fold, None, Some, Option, refl, sym, ◌∙◌, ap, subst, append-nil, arith, Contains}
-use Rattle.std.specs.Prelude.{◌↔◌, IsSome, is_some, if◌then◌else◌}
+use Rattle.doppel_watch.specs.Watching.{Telling}
+use Rattle.std.specs.Prelude.{ℕ, ◌↔◌, IsSome, is_some, if◌then◌else◌}
 use Rattle.std.specs.BTreeMap.{is_at}
 use Rattle.std.specs.BTreeSet.{insert_key}
 use Rattle.std.specs.List.Sorted.{IsStrictlySortedBy}
@@ -29,20 +30,21 @@ use Rattle.record_join.specs.Keys.{key_cmp, kept_of, with_key, with_kept}
 use Rattle.record_join.specs.BooksPasts.{EachOnce, gained, known_past, own_grown, own_grown_from, with_file}
 use Rattle.record_join.specs.KeyLaws.{apart_back, at_itself, changed, kept_apart, kept_here, same_key, distinct_once}
 use Rattle.record_join.specs.BooksPastsLaws.{gained_listed}
-use Rattle.record_replay.specs.Batches.{book_items, file_items, message_item}
+use Rattle.record_replay.specs.Batches.{answer_item, book_items, file_items, message_item}
 use Rattle.record_replay.specs.Items.{blocks_in, floors_in, key_of, named_keys, votes_in, with_state}
 use Rattle.record_replay.specs.Replaying.{ItemsStand, KeyStands, with_known}
+use Rattle.record_replay.specs.Watches.{Watched, fresh_watch, with_telling, with_watch, without_watch}
 use Rattle.record_replay.specs.declared.state.KeyState.{KeyState}
 use Rattle.record_replay.specs.declared.state.KeyState.TheVariants.{Active, Closing, Closed}
 use Rattle.record_replay.proofs.NamedLemmas.{has, has_kept, has_named, inserted_same, inserted_there, keys_with, keys_with_file, named_more, named_sorted}
-use Rattle.record_replay.proofs.StateLemmas.{states_activated, states_closed, states_closing, states_more}
+use Rattle.record_replay.proofs.StateLemmas.{states_activated, states_closed, states_closing, states_more, watches_more, watches_one}
 use Rattle.record_replay.proofs.GrowLemmas.{Grows, grown_stands, grows_block, grows_gained, grows_nothing, grows_same, grows_vote, unnamed_first, unnamed_stands}
-use Rattle.record_replay.proofs.BookItemLemmas.{file_blocks, file_names, file_sets, file_state, file_votes}
+use Rattle.record_replay.proofs.BookItemLemmas.{file_blocks, file_names, file_sets, file_state, file_votes, file_watch}
 use Rattle.record_replay.proofs.SameBookLemmas.{hold_same_itself, same_blocks, same_book_floors, same_listed, same_votes}
 
 -- ---- keys and their pasts
 
-module _ (items : List JournalItem) (keys : List (PubKey × Past)) (states : List (PubKey × KeyState)) (stand : ItemsStand items keys states) where
+module _ (items : List JournalItem) (keys : List (PubKey × Past)) (states : List (PubKey × KeyState)) (watched : List (PubKey × Watched)) (stand : ItemsStand items keys states watched) where
   keys_sorted : IsStrictlySortedBy key_cmp (keys_of keys)
   keys_sorted = subst (IsStrictlySortedBy key_cmp) (sym stand.named) (named_sorted items)
 
@@ -86,22 +88,39 @@ module _ (items : List JournalItem) (keys : List (PubKey × Past)) (states : Lis
     at true found is = ap known_past is
     at false none is = here none (is_at (key_cmp key) q) refl is
 
-  pub activated : (key : PubKey) → ItemsStand (items ++ item.Activate key ∷ []) (with_known keys key) (with_key states key Active)
-  activated key = record {
-    named = known_keys key ∙ ap (λ ks. insert_key key_cmp ks key) stand.named ∙ sym (named_more items (item.Activate key ∷ []));
-    each = λ q past is.
-        grown_stands items (item.Activate key ∷ []) q past past (subst (λ (p : Past). KeyStands items q p) (known_kept key q past is) (known_stands q)) (grows_nothing past);
-    states = states_activated items states key stand.states;
+  -- an activation, of whichever version
+  activated_by : (key : PubKey) (i : JournalItem) → key_of i ≡ key → ((l : List (PubKey × KeyState)) → with_state l i ≡ with_key l key Active)
+      → ((past : Past) (q : PubKey) → Grows past past (floors_in (i ∷ []) q) (blocks_in (i ∷ []) q) (votes_in (i ∷ []) q)) → ItemsStand (items ++ i ∷ []) (with_known keys key) (with_key states key Active) (with_watch watched i)
+  activated_by key i names says nothing = record {
+    named = known_keys key ∙ ap (λ ks. insert_key key_cmp ks key) stand.named ∙ ap (λ k. insert_key key_cmp (named_keys items) k) (sym names) ∙ sym (named_more items (i ∷ []));
+    each = λ q past is. grown_stands items (i ∷ []) q past past (subst (λ (p : Past). KeyStands items q p) (known_kept key q past is) (known_stands q)) (nothing past q);
+    states = states_activated items states key i says stand.states;
+    watches = watches_one items i watched stand.watches;
   }
 
-  pub closing : (key : PubKey) → kept_of states key ≡ Some Active → ItemsStand items keys (with_kept states key Closing)
-  closing key active = record { named = stand.named; each = stand.each; states = states_closing items states key stand.states active }
+  pub activated : (key : PubKey) (epoch : ℕ) → ItemsStand (items ++ item.Activate key epoch ∷ []) (with_known keys key) (with_key states key Active) (with_key watched key (fresh_watch epoch))
+  activated key epoch = activated_by key (item.Activate key epoch) refl (λ l. refl) (λ past q. grows_nothing past)
 
-  pub closed : (key : PubKey) → IsSome (kept_of keys key) → IsSome (kept_of states key) → ItemsStand (items ++ item.Close key ∷ []) keys (with_kept states key Closed)
+  pub undated : (key : PubKey) → ItemsStand (items ++ item.ActivateUndated key ∷ []) (with_known keys key) (with_key states key Active) (without_watch watched key)
+  undated key = activated_by key (item.ActivateUndated key) refl (λ l. refl) (λ past q. grows_nothing past)
+
+  pub answered : (key : PubKey) (telling : Telling) → IsSome (kept_of keys key) → ItemsStand (items ++ answer_item key telling ∷ []) keys states (with_telling watched key telling)
+  answered key telling found = record {
+    named = named_there (answer_item key telling) found;
+    each = λ q past is. grown_stands items (answer_item key telling ∷ []) q past past (stand.each q past is) (grows_nothing past);
+    states = states_more items (answer_item key telling ∷ []) (λ said. refl) ∙ stand.states;
+    watches = watches_one items (answer_item key telling) watched stand.watches;
+  }
+
+  pub closing : (key : PubKey) → kept_of states key ≡ Some Active → ItemsStand items keys (with_kept states key Closing) watched
+  closing key active = record { named = stand.named; each = stand.each; states = states_closing items states key stand.states active; watches = stand.watches }
+
+  pub closed : (key : PubKey) → IsSome (kept_of keys key) → IsSome (kept_of states key) → ItemsStand (items ++ item.Close key ∷ []) keys (with_kept states key Closed) (without_watch watched key)
   closed key found active = record {
     named = named_there (item.Close key) found;
     each = λ q past is. grown_stands items (item.Close key ∷ []) q past past (stand.each q past is) (grows_nothing past);
     states = states_closed items states key stand.states active;
+    watches = watches_one items (item.Close key) watched stand.watches;
   }
 
   -- ---- an own message
@@ -113,6 +132,10 @@ module _ (items : List JournalItem) (keys : List (PubKey × Past)) (states : Lis
   own_state : (key : PubKey) (m : Message) (said : List (PubKey × KeyState)) → fold with_state said (message_item key m ∷ []) ≡ said
   own_state key (message.Block slot root) said = refl
   own_state key (message.Vote source target root) said = refl
+
+  own_watch : (key : PubKey) (m : Message) (kept : List (PubKey × Watched)) → fold with_watch kept (message_item key m ∷ []) ≡ kept
+  own_watch key (message.Block slot root) kept = refl
+  own_watch key (message.Vote source target root) kept = refl
 
   own_apart : (key q : PubKey) (m : Message) → is_at (key_cmp key) q ≡ false → has q (map key_of (message_item key m ∷ [])) ≡ false
   own_apart key q m apart = let back : is_at (key_cmp q) key ≡ false = apart_back key q apart in rw (own_names key m, back) refl
@@ -135,19 +158,20 @@ module _ (items : List JournalItem) (keys : List (PubKey × Past)) (states : Lis
       subst (λ (p : Past). KeyStands (items ++ message_item key m ∷ []) q p) (some-injective (with_own past m) after h) there
   own_each key q m past after is false e h = unnamed_stands items (message_item key m ∷ []) q after (own_apart key q m e) (stand.each q after h)
 
-  pub own : (key : PubKey) (m : Message) → IsSome (kept_of keys key) → ItemsStand (items ++ message_item key m ∷ []) (own_grown keys key m) states
+  pub own : (key : PubKey) (m : Message) → IsSome (kept_of keys key) → ItemsStand (items ++ message_item key m ∷ []) (own_grown keys key m) states watched
   own key m found = at (kept_of keys key) refl found where
-    at : (o : Option Past) → kept_of keys key ≡ o → IsSome o → ItemsStand (items ++ message_item key m ∷ []) (own_grown_from keys key m o) states
+    at : (o : Option Past) → kept_of keys key ≡ o → IsSome o → ItemsStand (items ++ message_item key m ∷ []) (own_grown_from keys key m o) states watched
     at None is some = absurd (let bad : false ≡ true = some in cc)
     at (Some past) is some = record {
       named = keys-set_value (is_at (key_cmp key)) keys (with_own past m) ∙ named_there (message_item key m) (subst (λ (k : PubKey). IsSome (kept_of keys k)) (sym (own_names key m)) found);
       each = λ q after h. own_each key q m past after is (is_at (key_cmp key) q) refl (sym (changed keys key q (with_own past m) found) ∙ h);
       states = states_more items (message_item key m ∷ []) (own_state key m) ∙ stand.states;
+      watches = watches_more items (message_item key m ∷ []) (own_watch key m) ∙ stand.watches;
     }
 
   -- ---- books, written in another order of the same keys and entries
 
-  file_stands : (books written : List (PubKey × Book)) → EachOnce books → IsDistinct (eq_by_cmp key_cmp) (keys_of written) → HoldSame books written → ItemsStand (items ++ file_items written) (with_file keys books) states
+  file_stands : (books written : List (PubKey × Book)) → EachOnce books → IsDistinct (eq_by_cmp key_cmp) (keys_of written) → HoldSame books written → ItemsStand (items ++ file_items written) (with_file keys books) states watched
   file_stands books written once also same = record {
     named =
         keys_with_file keys books
@@ -156,6 +180,7 @@ module _ (items : List JournalItem) (keys : List (PubKey × Past)) (states : Lis
         ∙ sym (named_more items (file_items written));
     each = λ q past is. grown_stands items (file_items written) q (known_past (kept_of keys q)) past (known_stands q) (grows q past (sym (gained_listed with_book keys books q once) ∙ is));
     states = states_more items (file_items written) (λ said. file_state said written) ∙ stand.states;
+    watches = watches_more items (file_items written) (λ kept. file_watch kept written) ∙ stand.watches;
   } where
     distinct : IsDistinct (eq_by_cmp key_cmp) (keys_of books)
     distinct = distinct_once books once
@@ -173,12 +198,12 @@ module _ (items : List JournalItem) (keys : List (PubKey × Past)) (states : Lis
         (subst (λ (bs : List BlockEntry). (e : BlockEntry) → Contains listed.blocks e ↔ Contains bs e) (sym (file_blocks q written also)) blocks)
         (subst (λ (vs : List VoteEntry). (e : VoteEntry) → Contains listed.votes e ↔ Contains vs e) (sym (file_votes q written also)) votes)
 
-  pub merged : (file : File) → EachOnce file.books → ItemsStand (items ++ file_items (canonical file).books) (with_file keys file.books) states
+  pub merged : (file : File) → EachOnce file.books → ItemsStand (items ++ file_items (canonical file).books) (with_file keys file.books) states watched
   merged file once =
       file_stands file.books (canonical file).books once (IsDistinct-from_sorted key_cmp (keys_of (canonical file).books) (canonical_in_order file).keys) (canonical_same file)
 
-  pub gained_one : (key : PubKey) (book : Book) → ItemsStand (items ++ book_items (key, book)) (with_file keys ((key, book) ∷ [])) states
+  pub gained_one : (key : PubKey) (book : Book) → ItemsStand (items ++ book_items (key, book)) (with_file keys ((key, book) ∷ [])) states watched
   gained_one key book =
       let one : List (PubKey × Book) = (key, book) ∷ [] in
       let once : EachOnce one = λ i j d before within. absurd (omega arith) in
-      subst (λ (more : List JournalItem). ItemsStand (items ++ more) (with_file keys one) states) (append-nil (book_items (key, book))) (file_stands one one once (distinct_once one once) (hold_same_itself one))
+      subst (λ (more : List JournalItem). ItemsStand (items ++ more) (with_file keys one) states watched) (append-nil (book_items (key, book))) (file_stands one one once (distinct_once one once) (hold_same_itself one))

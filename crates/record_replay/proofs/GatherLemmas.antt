@@ -19,12 +19,15 @@ use Rattle.protect_record.specs.declared.floors.Floors.{Floors}
 use Rattle.protect_record.specs.Parts.{no_floors}
 use Rattle.protect_record.specs.Floors.{greater_floors}
 use Rattle.protect_record.proofs.BoundLemmas.{same_floors, greater-none, greater_pair-none}
+use Rattle.doppel_watch.specs.declared.watch.Watch.{Watch}
+use Rattle.record_codec.specs.declared.version.JournalVersion.{JournalVersion}
 use Rattle.record_codec.specs.declared.item.JournalItem.{JournalItem}
 use Rattle.record_codec.specs.declared.item.JournalItem.TheVariants as item
 use Rattle.record_join.specs.Keys.{key_cmp, kept_of, with_key, with_kept}
 use Rattle.record_join.specs.KeyLaws.{at_itself, same_key, apart_back, kept_here, kept_apart, put_kept}
 use Rattle.record_codec.specs.Reading.{batch_of}
 use Rattle.record_replay.specs.Items.{items_in, items_or_none, key_of, named_keys, blocks_of, votes_of, floors_of_item, blocks_in, votes_in, floors_in, states_in, with_state}
+use Rattle.record_replay.specs.Watches.{AreWatchesOf, Watched, watches_in, with_watch}
 use Rattle.record_replay.specs.Gathering.{Gains, with_gain, gains_in, known_gains, with_item, IsGathered}
 use Rattle.record_replay.specs.declared.state.KeyState.{KeyState}
 
@@ -65,7 +68,9 @@ said : (gains : Gains) (one : JournalItem)
 said gains (item.Block key entry) = rw (at_itself key) (same_gains _ _ (sym (greater_none gains.floors)) refl (sym (append-nil gains.votes)))
 said gains (item.Vote key entry) = rw (at_itself key) (same_gains _ _ (sym (greater_none gains.floors)) (sym (append-nil gains.blocks)) refl)
 said gains (item.Floors key block vote) = rw (at_itself key) (same_gains _ _ refl (sym (append-nil gains.blocks)) (sym (append-nil gains.votes)))
-said gains (item.Activate key) = same_gains _ _ (sym (greater_none gains.floors)) (sym (append-nil gains.blocks)) (sym (append-nil gains.votes))
+said gains (item.ActivateUndated key) = same_gains _ _ (sym (greater_none gains.floors)) (sym (append-nil gains.blocks)) (sym (append-nil gains.votes))
+said gains (item.Answer key epoch live moment) = same_gains _ _ (sym (greater_none gains.floors)) (sym (append-nil gains.blocks)) (sym (append-nil gains.votes))
+said gains (item.Activate key epoch) = same_gains _ _ (sym (greater_none gains.floors)) (sym (append-nil gains.blocks)) (sym (append-nil gains.votes))
 said gains (item.Close key) = same_gains _ _ (sym (greater_none gains.floors)) (sym (append-nil gains.blocks)) (sym (append-nil gains.votes))
 
 -- of another key
@@ -74,7 +79,9 @@ unsaid : (gains : Gains) (one : JournalItem) (key : PubKey) → is_at (key_cmp k
 unsaid gains (item.Block k entry) key other = rw other (same_gains _ _ (sym (greater_none gains.floors)) (sym (append-nil gains.blocks)) (sym (append-nil gains.votes)))
 unsaid gains (item.Vote k entry) key other = rw other (same_gains _ _ (sym (greater_none gains.floors)) (sym (append-nil gains.blocks)) (sym (append-nil gains.votes)))
 unsaid gains (item.Floors k block vote) key other = rw other (same_gains _ _ (sym (greater_none gains.floors)) (sym (append-nil gains.blocks)) (sym (append-nil gains.votes)))
-unsaid gains (item.Activate k) key other = same_gains _ _ (sym (greater_none gains.floors)) (sym (append-nil gains.blocks)) (sym (append-nil gains.votes))
+unsaid gains (item.ActivateUndated k) key other = same_gains _ _ (sym (greater_none gains.floors)) (sym (append-nil gains.blocks)) (sym (append-nil gains.votes))
+unsaid gains (item.Answer k epoch live moment) key other = same_gains _ _ (sym (greater_none gains.floors)) (sym (append-nil gains.blocks)) (sym (append-nil gains.votes))
+unsaid gains (item.Activate k epoch) key other = same_gains _ _ (sym (greater_none gains.floors)) (sym (append-nil gains.blocks)) (sym (append-nil gains.votes))
 unsaid gains (item.Close k) key other = same_gains _ _ (sym (greater_none gains.floors)) (sym (append-nil gains.blocks)) (sym (append-nil gains.votes))
 
 keys_with_key : {X : Type 0} (xs : List (PubKey × X)) (k : PubKey) (x : X) → keys_of (with_key xs k x) ≡ insert_key key_cmp (keys_of xs) k
@@ -101,59 +108,70 @@ each_more items kept one each q = at (is_at (key_cmp (key_of one)) q) refl where
       ap known_gains (kept_apart kept (key_of one) q (with_gain (known_gains (kept_of kept (key_of one))) one) is)
       ∙ each q ∙ unsaid (gains_in items q) one q (apart_back (key_of one) q is) ∙ sym (gains_more items one q)
 
-pub gathered_more : (items : List JournalItem) (one : JournalItem) (kept new : List (PubKey × Gains)) (states stated : List (PubKey × KeyState)) → IsGathered items kept states
-    → new ≡ with_item kept one → stated ≡ with_state states one → IsGathered (items ++ one ∷ []) new stated
-gathered_more items one kept new states stated gathered is has = record {
+-- what an item makes of watches, whatever they stand for
+abbrev pub Takes : List (PubKey × Watch) → List (PubKey × Watch) → JournalItem → Type 0
+Takes watches later one = (watched : List (PubKey × Watched)) → AreWatchesOf watches watched → AreWatchesOf later (with_watch watched one)
+
+watches_more : (items : List JournalItem) (one : JournalItem) → watches_in (items ++ one ∷ []) ≡ with_watch (watches_in items) one
+watches_more items one = fold-append with_watch [] items (one ∷ [])
+
+pub gathered_more : (items : List JournalItem) (one : JournalItem) (kept new : List (PubKey × Gains)) (states stated : List (PubKey × KeyState)) (watches later : List (PubKey × Watch)) → IsGathered items kept states watches
+    → new ≡ with_item kept one → stated ≡ with_state states one → Takes watches later one → IsGathered (items ++ one ∷ []) new stated later
+gathered_more items one kept new states stated watches later gathered is has takes = record {
   named = ap keys_of is ∙ keys_with_key kept (key_of one) _ ∙ ap (λ ks. insert_key key_cmp ks (key_of one)) gathered.named ∙ sym (named_more items one);
   each = λ q. ap (λ xs. known_gains (kept_of xs q)) is ∙ each_more items kept one gathered.each q;
   stated = has ∙ ap (λ xs. with_state xs one) gathered.stated ∙ sym (states_more items one);
+  watched = let W : List (PubKey × Watched) → Type 0 = λ xs. AreWatchesOf later xs in subst W (sym (watches_more items one)) (takes (watches_in items) gathered.watched);
 }
 
 -- nothing is gathered of no items
-pub gathered_none : IsGathered [] [] []
-gathered_none = record { named = refl; each = λ key. refl; stated = refl }
+pub gathered_none : IsGathered [] [] [] []
+gathered_none = record { named = refl; each = λ key. refl; stated = refl; watched = tt }
 
 -- so far in a list of items
-pub gathered_next : (before items : List JournalItem) (i : ℕ) (d : JournalItem) (kept new : List (PubKey × Gains)) (states stated : List (PubKey × KeyState)) → i < length items
-    → IsGathered (before ++ take i items) kept states → new ≡ with_item kept (get_or items i d) → stated ≡ with_state states (get_or items i d) → IsGathered (before ++ take (i + 1) items) new stated
-gathered_next before items i d kept new states stated lt gathered is has =
+pub gathered_next : (before items : List JournalItem) (i : ℕ) (d : JournalItem) (kept new : List (PubKey × Gains)) (states stated : List (PubKey × KeyState)) (watches later : List (PubKey × Watch)) → i < length items
+    → IsGathered (before ++ take i items) kept states watches → new ≡ with_item kept (get_or items i d) → stated ≡ with_state states (get_or items i d) → Takes watches later (get_or items i d)
+    → IsGathered (before ++ take (i + 1) items) new stated later
+gathered_next before items i d kept new states stated watches later lt gathered is has takes =
     let one : JournalItem = get_or items i d in
-    let P : List JournalItem → Type 0 = λ xs. IsGathered xs new stated in
-    subst P (append_assoc before (take i items) (one ∷ []) ∙ ap (λ xs. before ++ xs) (sym (take_more items i d lt))) (gathered_more (before ++ take i items) one kept new states stated gathered is has)
+    let P : List JournalItem → Type 0 = λ xs. IsGathered xs new stated later in
+    subst P (append_assoc before (take i items) (one ∷ []) ∙ ap (λ xs. before ++ xs) (sym (take_more items i d lt))) (gathered_more (before ++ take i items) one kept new states stated watches later gathered is has takes)
 
 some_injective : {A : Type 0} (x y : A) → Some x ≡ Some y → x ≡ y
 some_injective x y h = cc
 
 -- so far in payloads that are lent one at a time
-pub record SoFar (all left : List (List ℕ)) (kept : List (PubKey × Gains)) (states : List (PubKey × KeyState)) : Type 0 where
+pub record SoFar (version : JournalVersion) (all left : List (List ℕ)) (kept : List (PubKey × Gains)) (states : List (PubKey × KeyState)) (watches : List (PubKey × Watch)) : Type 0 where
   pub done : List (List ℕ)
   pub split : done ++ left ≡ all
-  pub gathered : IsGathered (items_in done) kept states
+  pub gathered : IsGathered (items_in version done) kept states watches
 
-pub lent_begun : (all : List (List ℕ)) (kept : List (PubKey × Gains)) (states : List (PubKey × KeyState)) → IsGathered [] kept states → SoFar all all kept states
-lent_begun all kept states h = record { done = []; split = refl; gathered = h }
+pub lent_begun : (version : JournalVersion) (all : List (List ℕ)) (kept : List (PubKey × Gains)) (states : List (PubKey × KeyState)) (watches : List (PubKey × Watch)) → IsGathered [] kept states watches → SoFar version all all kept states watches
+lent_begun version all kept states watches h = record { done = []; split = refl; gathered = h }
 
 -- the next one was taken in
-pub lent_next : (all left : List (List ℕ)) (p : List ℕ) (kept more : List (PubKey × Gains)) (states more_states : List (PubKey × KeyState)) → SoFar all left kept states → Some p ≡ slice_get left 0
-    → ((before : List JournalItem) → IsGathered before kept states → IsGathered (before ++ items_or_none (batch_of p)) more more_states) → SoFar all (drop 1 left) more more_states
-lent_next all [] p kept more states more_states so is takes = absurd (none-some p (sym is))
-lent_next all (x ∷ left) p kept more states more_states so is takes = record {
+pub lent_next : (version : JournalVersion) (all left : List (List ℕ)) (p : List ℕ) (kept more : List (PubKey × Gains)) (states more_states : List (PubKey × KeyState)) (watches more_watches : List (PubKey × Watch))
+    → SoFar version all left kept states watches → Some p ≡ slice_get left 0
+    → ((before : List JournalItem) → IsGathered before kept states watches → IsGathered (before ++ items_or_none (batch_of version p)) more more_states more_watches) → SoFar version all (drop 1 left) more more_states more_watches
+lent_next version all [] p kept more states more_states watches more_watches so is takes = absurd (none-some p (sym is))
+lent_next version all (x ∷ left) p kept more states more_states watches more_watches so is takes = record {
   done = so.done ++ p ∷ [];
   split = append_assoc so.done (p ∷ []) left ∙ ap (λ q. so.done ++ q ∷ left) (some_injective p x is) ∙ so.split;
-  gathered = subst P (sym longer) (takes (items_in so.done) so.gathered);
+  gathered = subst P (sym longer) (takes (items_in version so.done) so.gathered);
 } where
   P : List JournalItem → Type 0
-  P items = IsGathered items more more_states
+  P items = IsGathered items more more_states more_watches
 
-  longer : items_in (so.done ++ p ∷ []) ≡ items_in so.done ++ items_or_none (batch_of p)
-  longer = flat_map-append (λ q. items_or_none (batch_of q)) so.done (p ∷ []) ∙ ap (λ items. items_in so.done ++ items) (append-nil (items_or_none (batch_of p)))
+  longer : items_in version (so.done ++ p ∷ []) ≡ items_in version so.done ++ items_or_none (batch_of version p)
+  longer = flat_map-append (λ q. items_or_none (batch_of version q)) so.done (p ∷ []) ∙ ap (λ items. items_in version so.done ++ items) (append-nil (items_or_none (batch_of version p)))
 
 -- none is left
-pub lent_all : (all left : List (List ℕ)) (kept : List (PubKey × Gains)) (states : List (PubKey × KeyState)) → SoFar all left kept states → None ≡ slice_get left 0 → IsGathered (items_in all) kept states
-lent_all all [] kept states so is =
-    let P : List (List ℕ) → Type 0 = λ ps. IsGathered (items_in ps) kept states in
+pub lent_all : (version : JournalVersion) (all left : List (List ℕ)) (kept : List (PubKey × Gains)) (states : List (PubKey × KeyState)) (watches : List (PubKey × Watch)) → SoFar version all left kept states watches → None ≡ slice_get left 0
+    → IsGathered (items_in version all) kept states watches
+lent_all version all [] kept states watches so is =
+    let P : List (List ℕ) → Type 0 = λ ps. IsGathered (items_in version ps) kept states watches in
     subst P (sym (append-nil so.done) ∙ so.split) so.gathered
-lent_all all (x ∷ left) kept states so is = absurd (none-some x is)
+lent_all version all (x ∷ left) kept states watches so is = absurd (none-some x is)
 
 -- an item of a key that is kept
 pub took_known : {E : Type 0} (r : Result (Unit {0}) E) (old new : List (PubKey × Gains)) (key : PubKey) (one : JournalItem) (was after : Gains) → IsStrictlySortedBy key_cmp (keys_of old) → key ≡ key_of one

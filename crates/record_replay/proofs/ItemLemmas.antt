@@ -45,21 +45,27 @@ no_blocks_of : (key : PubKey) (i : JournalItem) → is_at (key_cmp key) (key_of 
 no_blocks_of key (item.Block k entry) apart = rw apart refl
 no_blocks_of key (item.Vote k entry) apart = refl
 no_blocks_of key (item.Floors k block vote) apart = refl
-no_blocks_of key (item.Activate k) apart = refl
+no_blocks_of key (item.ActivateUndated k) apart = refl
+no_blocks_of key (item.Activate k epoch) apart = refl
+no_blocks_of key (item.Answer k epoch live moment) apart = refl
 no_blocks_of key (item.Close k) apart = refl
 
 no_votes_of : (key : PubKey) (i : JournalItem) → is_at (key_cmp key) (key_of i) ≡ false → votes_of key i ≡ []
 no_votes_of key (item.Block k entry) apart = refl
 no_votes_of key (item.Vote k entry) apart = rw apart refl
 no_votes_of key (item.Floors k block vote) apart = refl
-no_votes_of key (item.Activate k) apart = refl
+no_votes_of key (item.ActivateUndated k) apart = refl
+no_votes_of key (item.Activate k epoch) apart = refl
+no_votes_of key (item.Answer k epoch live moment) apart = refl
 no_votes_of key (item.Close k) apart = refl
 
 no_floors_of : (key : PubKey) (i : JournalItem) → is_at (key_cmp key) (key_of i) ≡ false → floors_of_item key i ≡ no_floors
 no_floors_of key (item.Block k entry) apart = refl
 no_floors_of key (item.Vote k entry) apart = refl
 no_floors_of key (item.Floors k block vote) apart = rw apart refl
-no_floors_of key (item.Activate k) apart = refl
+no_floors_of key (item.ActivateUndated k) apart = refl
+no_floors_of key (item.Activate k epoch) apart = refl
+no_floors_of key (item.Answer k epoch live moment) apart = refl
 no_floors_of key (item.Close k) apart = refl
 
 pub no_blocks_in : (items : List JournalItem) (key : PubKey) → has key (map key_of items) ≡ false → blocks_in items key ≡ []

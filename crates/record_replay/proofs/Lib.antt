@@ -6,6 +6,7 @@ pub mod BookItemLemmas
 pub mod SameBookLemmas
 pub mod ChangeLemmas
 pub mod PruningLemmas
+pub mod WatchLemmas
 pub mod GatherLemmas
 pub mod BooksLemmas
 pub mod MessageLemmas

@@ -12,6 +12,7 @@ use Rattle.record_join.specs.BooksPasts.{own_grown, own_grown_from, with_message
 use Rattle.record_join.specs.KeyLaws.{changed}
 use Rattle.record_replay.specs.Batches.{message_item, message_items}
 use Rattle.record_replay.specs.Replaying.{ItemsStand}
+use Rattle.record_replay.specs.Watches.{Watched}
 use Rattle.record_replay.specs.declared.state.KeyState.{KeyState}
 use Rattle.record_replay.proofs.ChangeLemmas.{own}
 
@@ -28,12 +29,12 @@ still_kept keys key q m found = at (kept_of keys key) refl where
       let P : Option Past → Type 0 = λ o. IsSome o in
       subst P (sym (changed keys key q (with_own past m) (ap is_some is))) (either (is_at (key_cmp key) q) (with_own past m))
 
-pub recorded : (items : List JournalItem) (keys : List (PubKey × Past)) (states : List (PubKey × KeyState)) (listed : List (PubKey × Message)) → ItemsStand items keys states
-    → ((one : PubKey × Message) → Contains listed one → IsSome (kept_of keys one.0)) → ItemsStand (items ++ message_items listed) (with_messages keys listed) states
-recorded items keys states [] stand found = let P : List JournalItem → Type 0 = λ i. ItemsStand i keys states in subst P (sym (append-nil items)) stand
-recorded items keys states (p ∷ listed) stand found =
-    let first = own items keys states stand p.0 p.1 (found p (contains_first p listed)) in
+pub recorded : (items : List JournalItem) (keys : List (PubKey × Past)) (states : List (PubKey × KeyState)) (watched : List (PubKey × Watched)) (listed : List (PubKey × Message)) → ItemsStand items keys states watched
+    → ((one : PubKey × Message) → Contains listed one → IsSome (kept_of keys one.0)) → ItemsStand (items ++ message_items listed) (with_messages keys listed) states watched
+recorded items keys states watched [] stand found = let P : List JournalItem → Type 0 = λ i. ItemsStand i keys states watched in subst P (sym (append-nil items)) stand
+recorded items keys states watched (p ∷ listed) stand found =
+    let first = own items keys states watched stand p.0 p.1 (found p (contains_first p listed)) in
     let grown = own_grown keys p.0 p.1 in
-    let rest = recorded (items ++ message_item p.0 p.1 ∷ []) grown states listed first (λ one c. still_kept keys p.0 one.0 p.1 (found one (contains_later p listed one c))) in
-    let P : List JournalItem → Type 0 = λ i. ItemsStand i (with_messages grown listed) states in
+    let rest = recorded (items ++ message_item p.0 p.1 ∷ []) grown states watched listed first (λ one c. still_kept keys p.0 one.0 p.1 (found one (contains_later p listed one c))) in
+    let P : List JournalItem → Type 0 = λ i. ItemsStand i (with_messages grown listed) states watched in
     subst P (append_assoc items (message_item p.0 p.1 ∷ []) (message_items listed)) rest

@@ -17,6 +17,7 @@ use Rattle.record_codec.specs.declared.item.JournalItem.TheVariants as item
 use Rattle.record_join.specs.Keys.{key_cmp, kept_of, with_key, with_kept}
 use Rattle.record_join.specs.KeyLaws.{key_total, put_kept}
 use Rattle.record_replay.specs.Items.{states_in, with_state}
+use Rattle.record_replay.specs.Watches.{Watched, watches_in, with_watch}
 use Rattle.record_replay.specs.Replaying.{lasting_state, lasting_states}
 use Rattle.record_replay.specs.declared.state.KeyState.{KeyState}
 use Rattle.record_replay.specs.declared.state.KeyState.TheVariants.{Active, Closing, Closed}
@@ -52,7 +53,9 @@ some_lasting None found = found
 some_lasting (Some s) found = refl
 
 step_sorted : (states : List (PubKey × KeyState)) (i : JournalItem) → IsStrictlySortedBy key_cmp (keys_of states) → IsStrictlySortedBy key_cmp (keys_of (with_state states i))
-step_sorted states (item.Activate key) sorted = subst (IsStrictlySortedBy key_cmp) (sym (keys_with states key Active)) (sorted_inserted key_cmp key_total key (keys_of states) sorted)
+step_sorted states (item.ActivateUndated key) sorted = subst (IsStrictlySortedBy key_cmp) (sym (keys_with states key Active)) (sorted_inserted key_cmp key_total key (keys_of states) sorted)
+step_sorted states (item.Activate key epoch) sorted = subst (IsStrictlySortedBy key_cmp) (sym (keys_with states key Active)) (sorted_inserted key_cmp key_total key (keys_of states) sorted)
+step_sorted states (item.Answer key epoch live moment) sorted = sorted
 step_sorted states (item.Close key) sorted = subst (IsStrictlySortedBy key_cmp) (sym (keys_with states key Closed)) (sorted_inserted key_cmp key_total key (keys_of states) sorted)
 step_sorted states (item.Block key entry) sorted = sorted
 step_sorted states (item.Vote key entry) sorted = sorted
@@ -69,8 +72,18 @@ states_sorted items = all_sorted [] items nothing_sorted
 pub states_more : (items more : List JournalItem) → ((states : List (PubKey × KeyState)) → fold with_state states more ≡ states) → states_in (items ++ more) ≡ states_in items
 states_more items more none = fold-append with_state [] items more ∙ none (states_in items)
 
-pub states_activated : (items : List JournalItem) (states : List (PubKey × KeyState)) (key : PubKey) → states_in items ≡ lasting_states states → states_in (items ++ item.Activate key ∷ []) ≡ lasting_states (with_key states key Active)
-states_activated items states key is = fold-append with_state [] items (item.Activate key ∷ []) ∙ ap (λ l. with_key l key Active) is ∙ sym (lasting_with states key Active)
+-- items that change no watch
+pub watches_more : (items more : List JournalItem) → ((watched : List (PubKey × Watched)) → fold with_watch watched more ≡ watched) → watches_in (items ++ more) ≡ watches_in items
+watches_more items more none = fold-append with_watch [] items more ∙ none (watches_in items)
+
+-- one more item
+pub watches_one : (items : List JournalItem) (i : JournalItem) (watched : List (PubKey × Watched)) → watches_in items ≡ watched → watches_in (items ++ i ∷ []) ≡ with_watch watched i
+watches_one items i watched is = fold-append with_watch [] items (i ∷ []) ∙ ap (λ l. with_watch l i) is
+
+-- an activation, of whichever version
+pub states_activated : (items : List JournalItem) (states : List (PubKey × KeyState)) (key : PubKey) (i : JournalItem) → ((l : List (PubKey × KeyState)) → with_state l i ≡ with_key l key Active) → states_in items ≡ lasting_states states
+    → states_in (items ++ i ∷ []) ≡ lasting_states (with_key states key Active)
+states_activated items states key i says is = fold-append with_state [] items (i ∷ []) ∙ says (states_in items) ∙ ap (λ l. with_key l key Active) is ∙ sym (lasting_with states key Active)
 
 pub states_closing : (items : List JournalItem) (states : List (PubKey × KeyState)) (key : PubKey) → states_in items ≡ lasting_states states → kept_of states key ≡ Some Active
     → states_in items ≡ lasting_states (with_kept states key Closing)

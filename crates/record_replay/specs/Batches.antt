@@ -1,5 +1,6 @@
 -- What is written of each change.
 use Rattle.std.specs.Prelude.{List, [], ◌∷◌, ◌++◌, map, flat_map, Some}
+use Rattle.doppel_watch.specs.Watching.{Telling}
 use Rattle.edge_kit.specs.declared.bytes.PubKey.{PubKey}
 use Rattle.slash_defs.specs.declared.book.Book.{Book}
 use Rattle.slash_defs.specs.declared.message.Message.{Message}
@@ -17,6 +18,10 @@ message_item key (message.Vote source target root) = item.Vote key (record { tar
 -- own messages, each of its key
 abbrev pub message_items : List (PubKey × Message) → List JournalItem
 message_items listed = map (λ one. message_item one.0 one.1) listed
+
+-- what was told of a key
+abbrev pub answer_item : PubKey → Telling → JournalItem
+answer_item key telling = item.Answer key telling.epoch telling.live telling.moment
 
 abbrev pub floors_item : PubKey → Floors → JournalItem
 floors_item key floors = item.Floors key floors.block floors.vote

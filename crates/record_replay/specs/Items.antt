@@ -10,6 +10,7 @@ use Rattle.protect_record.specs.Parts.{no_floors}
 use Rattle.protect_record.specs.Floors.{greater_floors}
 use Rattle.record_codec.specs.declared.item.JournalItem.{JournalItem}
 use Rattle.record_codec.specs.declared.item.JournalItem.TheVariants as item
+use Rattle.record_codec.specs.declared.version.JournalVersion.{JournalVersion}
 use Rattle.record_codec.specs.Reading.{batch_of}
 use Rattle.record_join.specs.Keys.{key_cmp, with_key}
 use Rattle.record_replay.specs.declared.state.KeyState.{KeyState}
@@ -20,16 +21,18 @@ abbrev pub items_or_none : Result (List JournalItem) ℕ → List JournalItem
 items_or_none (Ok items) = items
 items_or_none (Err offset) = []
 
--- the items of payloads, in order
-abbrev pub items_in : List (List ℕ) → List JournalItem
-items_in payloads = flat_map (λ payload. items_or_none (batch_of payload)) payloads
+-- the items of payloads of a file of this version, in order
+abbrev pub items_in : JournalVersion → List (List ℕ) → List JournalItem
+items_in version payloads = flat_map (λ payload. items_or_none (batch_of version payload)) payloads
 
 -- the key that an item names
 abbrev pub key_of : JournalItem → PubKey
 key_of (item.Block key entry) = key
 key_of (item.Vote key entry) = key
 key_of (item.Floors key block vote) = key
-key_of (item.Activate key) = key
+key_of (item.ActivateUndated key) = key
+key_of (item.Activate key epoch) = key
+key_of (item.Answer key epoch live moment) = key
 key_of (item.Close key) = key
 
 -- the keys that are named, in key order, each once
@@ -62,7 +65,8 @@ floors_in items key = fold greater_floors no_floors (map (floors_of_item key) it
 
 -- a key that was activated is active, and one that was closed is closed
 abbrev pub with_state : List (PubKey × KeyState) → JournalItem → List (PubKey × KeyState)
-with_state states (item.Activate key) = with_key states key Active
+with_state states (item.ActivateUndated key) = with_key states key Active
+with_state states (item.Activate key epoch) = with_key states key Active
 with_state states (item.Close key) = with_key states key Closed
 with_state states other = states
 

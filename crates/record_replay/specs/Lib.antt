@@ -1,4 +1,5 @@
 pub mod Items
+pub mod Watches
 pub mod Batches
 pub mod Replaying
 pub mod Pruning

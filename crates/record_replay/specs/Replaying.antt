@@ -13,6 +13,7 @@ use Rattle.record_codec.specs.declared.item.JournalItem.{JournalItem}
 use Rattle.record_join.specs.Keys.{kept_of, with_key}
 use Rattle.record_join.specs.BooksPasts.{key_limit}
 use Rattle.record_replay.specs.Items.{named_keys, blocks_in, votes_in, floors_in, states_in}
+use Rattle.record_replay.specs.Watches.{Watched, watches_in}
 use Rattle.record_replay.specs.declared.fault.ReplayFault.{ReplayFault}
 use Rattle.record_replay.specs.declared.fault.ReplayFault.TheVariants as fault
 use Rattle.record_replay.specs.declared.state.KeyState.{KeyState}
@@ -46,11 +47,12 @@ lasting_state Closed = Closed
 abbrev pub lasting_states : List (PubKey × KeyState) → List (PubKey × KeyState)
 lasting_states states = map (λ s. (s.0, lasting_state s.1)) states
 
--- the items stand for the pasts of just the keys that they name, and for these states
-pub record ItemsStand (items : List JournalItem) (keys : List (PubKey × Past)) (held : List (PubKey × KeyState)) : Type 0 where
+-- the items stand for the pasts of just the keys that they name, and for these states and watches
+pub record ItemsStand (items : List JournalItem) (keys : List (PubKey × Past)) (held : List (PubKey × KeyState)) (watched : List (PubKey × Watched)) : Type 0 where
   pub named : keys_of keys ≡ named_keys items
   pub each : (key : PubKey) (past : Past) → kept_of keys key ≡ Some past → KeyStands items key past
   pub states : states_in items ≡ lasting_states held
+  pub watches : watches_in items ≡ watched
 
 -- the key is kept, a new one with the empty past
 abbrev pub with_known : List (PubKey × Past) → PubKey → List (PubKey × Past)

@@ -57,7 +57,10 @@ impl KeyHistory {
             JournalItem::Floors { block, vote, .. } => {
                 self.floors = join_floors(&self.floors, &Floors { block, vote });
             }
-            JournalItem::Activate { .. } | JournalItem::Close { .. } => {}
+            JournalItem::ActivateUndated { .. }
+            | JournalItem::Activate { .. }
+            | JournalItem::Answer { .. }
+            | JournalItem::Close { .. } => {}
         }
         Ok(())
     }

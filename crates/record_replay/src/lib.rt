@@ -8,6 +8,7 @@ mod key_history;
 mod laws;
 mod payloads;
 mod state;
+mod watches;
 
 pub use batches::{book_items, file_items, message_item, message_items};
 pub use fault::ReplayFault;

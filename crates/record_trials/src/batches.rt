@@ -2,7 +2,8 @@
 //!
 //! | Subject | What comes of it |
 //! |---|---|
-//! | `payload BYTES` | how many bytes there are, what a check says, the items that are read, and the bytes that are written of them |
+//! | `payload BYTES` | of a file of the first version: how many bytes there are, what a check says, the items that are read, and the bytes that are written of them |
+//! | `payload_two BYTES` | the same of a file of the second version |
 //! | `replay BYTES \| BYTES ..` | what the payloads of a file are replayed to: the records of the keys, and their states |
 //! | `book KEY ENTRIES` | the items of a book |
 //! | `snapshot KEY STATE ENTRIES` | how many items each batch of a snapshot has |
@@ -14,7 +15,7 @@ use edge_kit::{PubKey, push_hex};
 use journal_frames::{Found, Reader, header_bytes, parse};
 use key_snapshot::snapshot_batches;
 use protect_record::Floors;
-use record_codec::{JournalItem, check_batch, decode, encode};
+use record_codec::{JournalItem, JournalVersion, check_batch, decode, encode};
 use record_replay::{KeyState, Replayed, book_items, replay};
 use std::alloc::{AllocError, Global};
 
@@ -25,8 +26,13 @@ const NO_FLOORS: Floors = Floors {
 };
 
 /// Puts the items that are read of bytes after a text, and the bytes that are written of them; or where they can't be read.
-fn put_read(alloc: Global, out: &mut String, bytes: &[u8]) -> Result<(), AllocError> {
-    let items = match decode(alloc, bytes)? {
+fn put_read(
+    alloc: Global,
+    out: &mut String,
+    version: JournalVersion,
+    bytes: &[u8],
+) -> Result<(), AllocError> {
+    let items = match decode(alloc, version, bytes)? {
         Ok(items) => items,
         Err(bad) => return write!(out, "read: {bad:?}\n"),
     };
@@ -35,12 +41,12 @@ fn put_read(alloc: Global, out: &mut String, bytes: &[u8]) -> Result<(), AllocEr
     push_hex(alloc, out, written.as_slice())
 }
 
-fn payload(alloc: Global, text: &str) -> Option<String> {
+fn payload(alloc: Global, version: JournalVersion, text: &str) -> Option<String> {
     let bytes = pieces(alloc, text)?;
     let count = bytes.len();
-    let checked = check_batch(bytes.as_slice());
+    let checked = check_batch(version, bytes.as_slice());
     let mut out = format!(in alloc; "{count} bytes\ncheck: {checked:?}\n").ok()?;
-    put_read(alloc, &mut out, bytes.as_slice()).ok()?;
+    put_read(alloc, &mut out, version, bytes.as_slice()).ok()?;
     Some(out)
 }
 
@@ -96,7 +102,7 @@ fn put_replayed(alloc: Global, out: &mut String, replayed: &Replayed) -> Result<
 /// What the payloads that a reader lends are replayed to.
 fn replay_lent(alloc: Global, reader: Reader) -> Option<String> {
     let mut out = String::new(alloc);
-    match replay(alloc, reader) {
+    match replay(alloc, JournalVersion::One, reader) {
         Ok(replayed) => put_replayed(alloc, &mut out, &replayed).ok()?,
         Err(fault) => write!(out, "{fault}").ok()?,
     }
@@ -152,7 +158,8 @@ fn snapshot(alloc: Global, key: &PubKey, text: &str) -> Option<String> {
 pub fn outcome(alloc: Global, subject: &str, text: &str) -> Option<String> {
     let (key, rest) = text.split_once(' ').unwrap_or((text, ""));
     match subject {
-        "payload" => payload(alloc, text),
+        "payload" => payload(alloc, JournalVersion::One, text),
+        "payload_two" => payload(alloc, JournalVersion::Two, text),
         "replay" => replays(alloc, text),
         "book" => items_of_book(alloc, key_of(key)?, rest),
         _ => snapshot(alloc, &key_of(key)?, rest),

@@ -1,5 +1,5 @@
-//! The items of a journal in words: `block KEY SLOT`, `vote KEY SOURCE->TARGET`, `floors KEY ..`, `activate KEY` and
-//! `close KEY`.
+//! The items of a journal in words: `block KEY SLOT`, `vote KEY SOURCE->TARGET`, `floors KEY ..`, `activate KEY`,
+//! `activate KEY at EPOCH`, `answer KEY epoch EPOCH live|absent at MOMENT` and `close KEY`.
 use crate::entries::{put_block, put_vote};
 use crate::fixed_bytes::put_bytes;
 use edge_kit::PubKey;
@@ -12,7 +12,11 @@ fn kind_of(item: &JournalItem) -> (&'static str, &PubKey) {
         JournalItem::Block { key, .. } => ("block ", key),
         JournalItem::Vote { key, .. } => ("vote ", key),
         JournalItem::Floors { key, .. } => ("floors ", key),
-        JournalItem::Activate { key } => ("activate ", key),
+        JournalItem::ActivateUndated { key } | JournalItem::Activate { key, .. } => (
+            "activate ",
+            key,
+        ),
+        JournalItem::Answer { key, .. } => ("answer ", key),
         JournalItem::Close { key } => ("close ", key),
     }
 }
@@ -23,7 +27,17 @@ fn put_said(alloc: Global, out: &mut String, item: &JournalItem) -> Result<(), A
         JournalItem::Block { entry, .. } => put_block(alloc, out, entry),
         JournalItem::Vote { entry, .. } => put_vote(alloc, out, entry),
         JournalItem::Floors { block, vote, .. } => write!(out, " block {block:?} vote {vote:?}"),
-        JournalItem::Activate { .. } | JournalItem::Close { .. } => Ok(()),
+        JournalItem::Activate { epoch, .. } => write!(out, " at {epoch}"),
+        JournalItem::Answer {
+            epoch,
+            live,
+            moment,
+            ..
+        } => {
+            let said = if *live { "live" } else { "absent" };
+            write!(out, " epoch {epoch} {said} at {moment}")
+        }
+        JournalItem::ActivateUndated { .. } | JournalItem::Close { .. } => Ok(()),
     }
 }
 

@@ -36,7 +36,9 @@ fn outcome(alloc: Global, subject: &str, arguments: &str) -> Option<String> {
         "books" => books::outcome(alloc, arguments),
         "joined" => books::outcome_of_join(alloc, arguments),
         "interchange" => interchange(alloc, arguments),
-        "payload" | "replay" | "book" | "snapshot" => batches::outcome(alloc, subject, arguments),
+        "payload" | "payload_two" | "replay" | "book" | "snapshot" => batches::outcome(
+            alloc, subject, arguments,
+        ),
         _ => containers::outcome(alloc, subject, arguments),
     }
 }

@@ -44,7 +44,7 @@ nothing_opens : Opens genesis ([], []) nothing_lasts
 nothing_opens = record {
   payloads = [];
   read = no_byte_read genesis;
-  stand = record { items = record { named = refl; each = λ key past h. absurd (none_some past h); states = refl }; size = refl; generation = refl };
+  stand = record { items = record { named = refl; each = λ key past h. absurd (none_some past h); states = refl; watches = refl }; size = refl; generation = refl };
 }
 
 -- a client that has done nothing

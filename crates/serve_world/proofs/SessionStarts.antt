@@ -102,6 +102,6 @@ starts_empty genesis client files e = record {
   opens = record {
     payloads = [];
     read = e;
-    stand = record { items = record { named = refl; each = λ key past h. absurd (none_some past h); states = refl }; size = refl; generation = refl };
+    stand = record { items = record { named = refl; each = λ key past h. absurd (none_some past h); states = refl; watches = refl }; size = refl; generation = refl };
   };
 }

@@ -53,7 +53,7 @@ opens_same genesis file l states e o = record {
   payloads = o.payloads;
   read = o.read;
   stand = record {
-    items = record { named = o.stand.items.named; each = o.stand.items.each; states = o.stand.items.states ∙ e };
+    items = record { named = o.stand.items.named; each = o.stand.items.each; states = o.stand.items.states ∙ e; watches = o.stand.items.watches };
     size = o.stand.size;
     generation = o.stand.generation;
   };

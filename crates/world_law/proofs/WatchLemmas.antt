@@ -13,7 +13,8 @@ use Rattle.doppel_watch.specs.Watching.{Telling, IsSeenSilent, latest, was_live,
 use Rattle.doppel_watch.proofs.TellingLemmas.{latest-push, was_live-push, was_live-push_other, was_absent-push, was_absent-push_other}
 use Rattle.doppel_watch.proofs.StateLemmas.{state_allowed}
 use Rattle.desk_machine.specs.States.{State, IsAllowed}
-use Rattle.desk_machine.specs.Watches.{Watched, Watching, fresh_watch, standing_under, told_more, watch_of}
+use Rattle.record_replay.specs.Watches.{Watched, fresh_watch, told_more}
+use Rattle.desk_machine.specs.Watches.{Watching, standing_under, watch_of}
 use Rattle.desk_machine.specs.Machine.{Reply, after}
 use Rattle.desk_machine.specs.declared.call.DeskCall.{DeskCall}
 use Rattle.desk_machine.specs.declared.call.DeskCall.TheVariants as call

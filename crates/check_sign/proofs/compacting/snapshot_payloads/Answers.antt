@@ -5,6 +5,8 @@ use Rattle.std.proofs.lemmas.List.{length-append, take_all}
 use Rattle.std.proofs.lemmas.Map.Iter.{iter_turn, iter_end}
 use Rattle.edge_kit.specs.declared.bytes.PubKey.{PubKey}
 use Rattle.protect_record.specs.Parts.{Parts}
+use Rattle.record_codec.specs.Spelling.{IsOf}
+use Rattle.record_codec.specs.declared.version.JournalVersion.TheVariants.{One}
 use Rattle.record_codec.specs.declared.item.JournalItem.{JournalItem}
 use Rattle.record_join.proofs.FileLemmas.{read_at}
 use Rattle.key_snapshot.specs.Snapshots.{entry_items, snapshot_of}
@@ -23,6 +25,12 @@ push_spelled-requires-clause-short c =
     let short = snapshot_short c.in-Some.key.now c.state_of.result c.in-Some.record.now (c.batches_law.ensures.filled 4096 (entry_items c.in-Some.key.now c.in-Some.record.now) (omega arith)) in
     let same = ap (λ (l : List (Vec JournalItem Global)). map batch_of_vec l) c.deref.ensures.value ∙ c.in_ok-batches.ensures in
     subst (λ (l : List (List JournalItem)). AllByRecursion Short l) (sym same) short
+
+pub push_spelled-requires-clause-versions : goal.push_spelled-requires-clause-versions
+push_spelled-requires-clause-versions c =
+    let old = c.batches_law.ensures.versions c.in-Some.key.now c.state_of.result c.in-Some.record.now in
+    let same = ap (λ (l : List (Vec JournalItem Global)). map batch_of_vec l) c.deref.ensures.value ∙ c.in_ok-batches.ensures in
+    subst (λ (l : List (List JournalItem)). AllByRecursion (AllByRecursion (IsOf One)) l) (sym same) old
 
 pub keys-preserved : goal.keys-preserved
 keys-preserved c =

@@ -1,4 +1,4 @@
-use Rattle.std.proofs.Common.{◌≡◌, inl, List, refl, subst}
+use Rattle.std.proofs.Common.{inl, List, refl, subst}
 use Rattle.edge_kit.specs.declared.bytes.PubKey.{PubKey}
 use Rattle.slash_defs.specs.declared.message.Message.{Message}
 use Rattle.record_join.specs.BooksPasts.{AreNew}

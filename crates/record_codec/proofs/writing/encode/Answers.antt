@@ -7,7 +7,7 @@ use Rattle.record_codec.proofs.Batches.{AllFit, batch_again}
 use Rattle.record_codec.proofs.writing.encode.Goals as goal
 
 pub returns-clause-read_back : goal.returns-clause-read_back
-returns-clause-read_back c =
+returns-clause-read_back c = λ version of.
     let all : take c.loop-item.item-index c.args.items.now ≡ c.args.items.now = take_all c.loop-item.item-index c.args.items.now c.loop-item-test.false in
-    ap batch_of (c.loop-item.invariant.spelled ∙ ap spelling all)
-    ∙ batch_again c.args.items.now c.requires (subst (λ (l : List JournalItem). AllFit l) all c.loop-item.invariant.fits)
+    ap (batch_of version) (c.loop-item.invariant.spelled ∙ ap spelling all)
+    ∙ batch_again version c.args.items.now c.requires.batch of (subst (λ (l : List JournalItem). AllFit l) all c.loop-item.invariant.fits)

@@ -1,8 +1,9 @@
 use Rattle.std.proofs.Common.{ℕ, arith, List, [], ◌∷◌, refl, sym, ◌∙◌, ap, subst, max}
 use Rattle.record_join.specs.Keys.{with_key}
+use Rattle.record_codec.specs.declared.version.JournalVersion.TheVariants.{One}
 use Rattle.record_codec.specs.declared.item.JournalItem.{JournalItem}
 use Rattle.record_codec.specs.declared.item.JournalItem.TheVariants as item
-use Rattle.record_replay.proofs.ChangeLemmas.{activated}
+use Rattle.record_replay.proofs.ChangeLemmas.{undated}
 use Rattle.record_replay.specs.Items.{items_in}
 use Rattle.record_replay.specs.declared.state.KeyState.TheVariants.{Active}
 use Rattle.desk_machine.specs.Watches.{WatchesStand, with_begun}
@@ -39,10 +40,10 @@ pub returns-in-Err-write_active-clause-machine : goal.returns-in-Err-write_activ
 returns-in-Err-write_active-clause-machine g c = λ state stands.
     let s = opened c.args.self.now _ state c.self.view_is stands in
     let told = c.in-Err-write_active.ensures.wrote in
-    by_reply g.D.Disk.faults c.self.inside.journal c.write_active.new.journal (item.Activate c.args.key ∷ []) _ state (call.Activate c.args.key c.args.now) c.in-Err-write_active.told told.0
+    by_reply g.D.Disk.faults c.self.inside.journal c.write_active.new.journal (item.ActivateUndated c.args.key ∷ []) _ state (call.Activate c.args.key c.args.now) c.in-Err-write_active.told told.0
     (λ r. Reply state (call.Activate c.args.key c.args.now) r) (λ r. after state (call.Activate c.args.key c.args.now) r)
     told.1 told.2 s.payloads s.size c.self.invariant.0.size (up_at c.args.self.now _ c.self.view_is c.in-Ok.ensures.up) (up_state _ state.torn s.torn (up_at c.args.self.now _ c.self.view_is c.in-Ok.ensures.up)) refl refl refl (c.in-Ok.ensures.may state stands) refl
-    (activated (items_in c.self.inside.journal.payloads) state.keys state.states s.payloads.items c.args.key) refl refl (λ h. h) (λ n w h. h) (λ h. h) (λ h. h) (λ n w h. h) refl refl (λ n w. refl) (record {
+    (undated (items_in One c.self.inside.journal.payloads) state.keys state.states [] s.payloads.items c.args.key) refl refl (λ h. h) (λ n w h. h) (λ h. h) (λ h. h) (λ n w h. h) refl refl (λ n w. refl) (record {
       genesis = s.genesis;
       keys = c.in-Err-write_active.ensures.kept state.keys s.keys;
       states = c.in-Err-write_active.ensures.unmarked ∙ s.states;
@@ -60,7 +61,7 @@ returns-in-Err-write_active-clause-counted g c =
 pub returns-in-Err-write_active-clause-rose : goal.returns-in-Err-write_active-clause-rose
 returns-in-Err-write_active-clause-rose g c = λ disk up.
     let told = c.in-Err-write_active.ensures.wrote in
-    rose_from g.D.Disk.faults c.self.inside.journal c.write_active.new.journal (item.Activate c.args.key ∷ []) _ told.0 told.2 (sym told.1 ∙ disk) (ap (λ d. disks_in d) c.self.view_is)
+    rose_from g.D.Disk.faults c.self.inside.journal c.write_active.new.journal (item.ActivateUndated c.args.key ∷ []) _ told.0 told.2 (sym told.1 ∙ disk) (ap (λ d. disks_in d) c.self.view_is)
 
 pub returns-in-Err-write_active-clause-moved : goal.returns-in-Err-write_active-clause-moved
 returns-in-Err-write_active-clause-moved g c =
@@ -73,7 +74,7 @@ pub returns-clause-machine : goal.returns-clause-machine
 returns-clause-machine g c = λ state stands.
     let s = opened c.args.self.now _ state c.self.view_is stands in
     let up = up_state _ state.torn s.torn (up_at c.args.self.now _ c.self.view_is c.in-Ok.ensures.up) in
-    let items : List JournalItem = item.Activate c.args.key ∷ [] in
+    let items : List JournalItem = item.ActivateUndated c.args.key ∷ [] in
     let wrote = c.in-Ok-write_active.ensures.wrote in
     let moment = c.max-self-inside.ensures ∙ ap (λ m. max m c.args.now) s.latest in
     let W : ℕ → Type 0 = λ n. WatchesStand c.begin.new.self (with_begun state.watching c.args.key n) in
@@ -81,7 +82,7 @@ returns-clause-machine g c = λ state stands.
     let H : ℕ → Type 0 = λ n. HasRoomFor n items in (
       (up, c.in-Ok.ensures.may state stands, subst H s.size wrote.0),
       grown g.D.Disk.faults c.self.inside.journal c.write_active.new.journal items _ state _ wrote s.size c.self.invariant.0.size refl refl refl
-          (activated (items_in c.self.inside.journal.payloads) state.keys state.states s.payloads.items c.args.key) refl s.payloads.generation up (record {
+          (undated (items_in One c.self.inside.journal.payloads) state.keys state.states [] s.payloads.items c.args.key) refl s.payloads.generation up (record {
             genesis = s.genesis;
             keys = c.in-Ok-write_active.ensures.known state.keys s.keys;
             states = c.in-Ok-write_active.ensures.active ∙ ap (λ l. with_key l c.args.key Active) s.states;

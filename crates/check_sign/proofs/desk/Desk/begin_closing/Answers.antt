@@ -1,5 +1,6 @@
-use Rattle.std.proofs.Common.{rules, refl}
+use Rattle.std.proofs.Common.{[], rules, refl}
 use Rattle.record_replay.proofs.ChangeLemmas.{closing}
+use Rattle.record_codec.specs.declared.version.JournalVersion.TheVariants.{One}
 use Rattle.record_replay.specs.Items.{items_in}
 use Rattle.record_replay.specs.declared.state.KeyState.TheVariants.{Active}
 use Rattle.check_sign.proofs.MachineLemmas.{opened, none_at, some_at, is_some_of}
@@ -18,7 +19,7 @@ returns-in-Active-clause-machine g c = λ state stands.
     let here = active_at c.state_of.result c.self.inside.states.entries c.self.inside.states.entries c.args.key c.state_of.ensures.value refl c.in-Active.is in
     let active = active_at c.state_of.result c.self.inside.states.entries state.states c.args.key c.state_of.ensures.value s.states c.in-Active.is in (
       (is_some_of _ at.0 at.1, active),
-      begun_closing _ state c.args.key _ _ s (c.set_state.ensures.set (is_some_of _ Active here)) (closing (items_in c.self.inside.journal.payloads) state.keys state.states s.payloads.items c.args.key active),
+      begun_closing _ state c.args.key _ _ s (c.set_state.ensures.set (is_some_of _ Active here)) (closing (items_in One c.self.inside.journal.payloads) state.keys state.states [] s.payloads.items c.args.key active),
     )
 
 pub returns-in-Closing-clause-machine : goal.returns-in-Closing-clause-machine

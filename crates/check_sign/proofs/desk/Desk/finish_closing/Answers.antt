@@ -1,6 +1,7 @@
-use Rattle.std.proofs.Common.{refl, ap, ◌∙◌}
+use Rattle.std.proofs.Common.{[], refl, ap, ◌∙◌}
 use Rattle.record_join.specs.Keys.{with_kept}
 use Rattle.record_replay.proofs.ChangeLemmas.{closed}
+use Rattle.record_codec.specs.declared.version.JournalVersion.TheVariants.{One}
 use Rattle.record_replay.specs.Items.{items_in}
 use Rattle.record_replay.specs.declared.state.KeyState.TheVariants.{Closing, Closed}
 use Rattle.check_sign.specs.Writing.{journal_of}
@@ -25,7 +26,7 @@ returns-in-Err-write_items-clause-machine g c = λ state stands.
     let may = may_be_closed _ state c.args.key _ stands c.in-Ok.ensures.book c.in-Ok.ensures.closing c.in-Ok.ensures.idle in
     let proceeds = may.proceeds in
     closing_fault g.D.Disk.faults c.self.inside.journal c.write_items.new.journal _ state c.args.key c.in-Err-write_items.fault c.refusal.result proceeds c.in-Err-write_items.ensures.wrote s.payloads s.size c.self.invariant.0.size
-    (up_at c.args.self.now _ c.self.view_is c.in-Ok.ensures.up) (up_state _ state.torn s.torn (up_at c.args.self.now _ c.self.view_is c.in-Ok.ensures.up)) (closed (items_in c.self.inside.journal.payloads) state.keys state.states s.payloads.items c.args.key proceeds.0 (is_some_of _ Closing proceeds.1)) refl refl refl (record {
+    (up_at c.args.self.now _ c.self.view_is c.in-Ok.ensures.up) (up_state _ state.torn s.torn (up_at c.args.self.now _ c.self.view_is c.in-Ok.ensures.up)) (closed (items_in One c.self.inside.journal.payloads) state.keys state.states [] s.payloads.items c.args.key proceeds.0 (is_some_of _ Closing proceeds.1)) refl refl refl (record {
       genesis = s.genesis;
       keys = s.keys;
       states = s.states;
@@ -48,7 +49,7 @@ returns-clause-machine g c = λ state stands.
     let may = may_be_closed _ state c.args.key _ stands c.in-Ok.ensures.book c.in-Ok.ensures.closing c.in-Ok.ensures.idle in
     let proceeds = may.proceeds in
     closing_done g.D.Disk.faults c.self.inside.journal c.write_items.new.journal _ state c.args.key may.parts may.past c.note_closed.result proceeds c.in_default.ensures.wrote s.payloads s.size c.self.invariant.0.size
-    (up_state _ state.torn s.torn (up_at c.args.self.now _ c.self.view_is c.in-Ok.ensures.up)) (closed (items_in c.self.inside.journal.payloads) state.keys state.states s.payloads.items c.args.key proceeds.0 (is_some_of _ Closing proceeds.1)) refl refl refl (record {
+    (up_state _ state.torn s.torn (up_at c.args.self.now _ c.self.view_is c.in-Ok.ensures.up)) (closed (items_in One c.self.inside.journal.payloads) state.keys state.states [] s.payloads.items c.args.key proceeds.0 (is_some_of _ Closing proceeds.1)) refl refl refl (record {
       genesis = s.genesis;
       keys = s.keys;
       states = c.set_state.ensures.set (is_some_of _ Closing (state_of_key c.args.self.now _ c.self.view_is c.args.key Closing c.in-Ok.ensures.closing)) ∙ ap (λ l. with_kept l c.args.key Closed) s.states;

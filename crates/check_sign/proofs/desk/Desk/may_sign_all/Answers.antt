@@ -1,4 +1,4 @@
-use Rattle.std.proofs.Common.{◌≡◌, ◌∙◌, List, sym, subst}
+use Rattle.std.proofs.Common.{◌∙◌, List, sym, subst}
 use Rattle.std.specs.Prelude.{Contains}
 use Rattle.std.proofs.lemmas.List.{get_or_default, take_all}
 use Rattle.edge_kit.specs.declared.bytes.PubKey.{PubKey}

@@ -1,4 +1,4 @@
-use Rattle.std.specs.Prelude.{List, Contains}
+use Rattle.std.specs.Prelude.{Contains}
 use Rattle.std.proofs.Common.{take}
 use Rattle.edge_kit.specs.declared.bytes.PubKey.{PubKey}
 use Rattle.slash_defs.specs.declared.message.Message.{Message}

@@ -1,6 +1,7 @@
-use Rattle.std.proofs.Common.{◌≡◌, refl, ◌∙◌, ap, rules}
+use Rattle.std.proofs.Common.{[], ◌≡◌, refl, ◌∙◌, ap, rules}
 use Rattle.interchange_io.specs.WrittenOrder.{canonical}
 use Rattle.record_replay.proofs.ChangeLemmas.{merged}
+use Rattle.record_codec.specs.declared.version.JournalVersion.TheVariants.{One}
 use Rattle.record_replay.specs.Batches.{file_items}
 use Rattle.record_replay.specs.Items.{items_in}
 use Rattle.desk_machine.specs.declared.call.DeskCall.TheVariants as call
@@ -56,7 +57,7 @@ returns-clause-machine g c = λ state stands.
       ((up, (same ∙ s.genesis, fits_file c.self.inside.books state.keys c.args.file.books s.keys done.within), sized (file_items (canonical c.args.file).books) _ _ s.size done.wrote.0), c.len-keys.ensures),
       grown g.D.Disk.faults c.self.inside.journal c.gain_file.new.journal (file_items (canonical c.args.file).books) _ state _
           done.wrote s.size c.self.invariant.0.size refl refl refl
-          (merged (items_in c.self.inside.journal.payloads) state.keys state.states s.payloads.items c.args.file c.requires) refl s.payloads.generation up
+          (merged (items_in One c.self.inside.journal.payloads) state.keys state.states [] s.payloads.items c.args.file c.requires) refl s.payloads.generation up
           (record {
             genesis = s.genesis;
             keys = done.gained state.keys s.keys;

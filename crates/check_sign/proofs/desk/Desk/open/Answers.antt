@@ -1,4 +1,4 @@
-use Rattle.std.proofs.Common.{inl, refl}
+use Rattle.std.proofs.Common.{[], inl, refl}
 use Rattle.record_journal.specs.Journals.{MayRead, disks_of}
 use Rattle.record_journal.specs.TwoDisks.{LeftPair}
 use Rattle.check_sign.specs.Contents.{Contents}
@@ -34,7 +34,8 @@ returns-clause-opened g c =
           watches = c.new.ensures.stands;
           size = c.in-Ok.ensures.size;
           torn = c.in-Ok.ensures.whole;
-        }) c.in-Ok.ensures.lent c.in-Ok-replay.ensures.stands;
+        }) c.in-Ok.ensures.lent
+            (λ pasts states items. let all = c.in-Ok-replay.ensures.stands pasts states [] items in (all.0, all.1));
         size = c.in-Ok.ensures.size;
         genesis_is = refl;
         none_open = c.new-2.ensures.grants;

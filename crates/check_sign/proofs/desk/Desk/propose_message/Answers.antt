@@ -1,5 +1,6 @@
 use Rattle.std.proofs.Common.{◌+◌, Some, max, refl, sym, ap, ◌∙◌, subst, arith, ◌++◌, ◌∷◌, []}
 use Rattle.record_replay.proofs.ChangeLemmas.{own}
+use Rattle.record_codec.specs.declared.version.JournalVersion.TheVariants.{One}
 use Rattle.record_replay.specs.Items.{items_in}
 use Rattle.desk_machine.specs.declared.call.DeskCall.TheVariants as call
 use Rattle.desk_machine.specs.declared.call.DeskReply.TheVariants as reply
@@ -52,7 +53,7 @@ returns-in-Err-record_message-clause-machine g c = λ state stands.
     let told = c.in-Err-record_message.ensures.wrote at.0 at.2.1 in
     proposal_fault g.D.Disk.faults c.self.inside.journal c.record_message.new.journal _ state c.args.key c.args.message c.args.now at.0 told.0 c.in-Err-record_message.told at.1
     may.1.0.1 at.2.0 may.1.1 told.2 s.payloads s.size c.self.invariant.0.size c.in-Ok.ensures.own.up
-    may.0 (own (items_in c.self.inside.journal.payloads) state.keys state.states s.payloads.items c.args.key c.args.message (is_some_of _ at.0 at.1)) refl refl refl (record {
+    may.0 (own (items_in One c.self.inside.journal.payloads) state.keys state.states [] s.payloads.items c.args.key c.args.message (is_some_of _ at.0 at.1)) refl refl refl (record {
       genesis = s.genesis;
       keys = subst (λ l. Rattle.record_join.specs.BooksPasts.BooksStand l state.keys) (sym c.in-Err-record_message.ensures.kept) (c.pass_message.ensures.kept state.keys s.keys);
       states = s.states;
@@ -90,7 +91,7 @@ returns-clause-machine g c = λ state stands.
     let at = past_with _ _ (c.in-Ok-pass_message.ensures.passes state.keys s.keys) in
     proposal_granted g.D.Disk.faults c.self.inside.journal c.record_message.new.journal _ state c.args.key c.args.message c.args.now at.0 c.give-grant.result at.1
     may.1.0.1 at.2.0 may.1.1 (c.in-Ok-record_message.ensures.wrote at.0 at.2.1) s.payloads s.size c.self.invariant.0.size
-    may.0 (own (items_in c.self.inside.journal.payloads) state.keys state.states s.payloads.items c.args.key c.args.message (is_some_of _ at.0 at.1)) refl refl refl (record {
+    may.0 (own (items_in One c.self.inside.journal.payloads) state.keys state.states [] s.payloads.items c.args.key c.args.message (is_some_of _ at.0 at.1)) refl refl refl (record {
       genesis = s.genesis;
       keys = c.in-Ok-record_message.ensures.stands state.keys (c.pass_message.ensures.kept state.keys s.keys);
       states = s.states;

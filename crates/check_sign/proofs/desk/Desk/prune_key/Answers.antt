@@ -2,6 +2,7 @@ use Rattle.std.proofs.Common.{◌≡◌, ◌+◌, ◌++◌, ◌∷◌, [], List,
 use Rattle.edge_kit.specs.declared.bytes.PubKey.{PubKey}
 use Rattle.slash_defs.specs.declared.book.Book.{Book}
 use Rattle.protect_record.specs.Pasts.{Past}
+use Rattle.record_codec.specs.declared.version.JournalVersion.TheVariants.{One}
 use Rattle.record_codec.specs.declared.item.JournalItem.{JournalItem}
 use Rattle.record_join.specs.BooksPasts.{BooksStand, with_file}
 use Rattle.record_join.specs.Keys.{kept_of}
@@ -45,12 +46,12 @@ returns-in-Err-gain_book-clause-machine g c = λ state stands.
     let s = opened c.args.self.now _ state c.self.view_is stands in
     let book : Book = c.in-Ok.book in
     let at = pruned_by _ state c.args.key book stands c.in-Ok.ensures.book in
-    let I : List (PubKey × Past) → Type 0 = λ l. ItemsStand (items_in c.self.inside.journal.payloads ++ book_items (c.args.key, book)) l state.states in
+    let I : List (PubKey × Past) → Type 0 = λ l. ItemsStand (items_in One c.self.inside.journal.payloads ++ book_items (c.args.key, book)) l state.states [] in
     let told = c.in-Err-gain_book.ensures.wrote in
     by_reply g.D.Disk.faults c.self.inside.journal c.gain_book.new.journal (book_items (c.args.key, book)) _ state (call.Prune c.args.key) c.in-Err-gain_book.told told.0
     (λ r. Reply state (call.Prune c.args.key) r) (λ r. after state (call.Prune c.args.key) r)
     told.1 told.2 s.payloads s.size c.self.invariant.0.size (up_at c.args.self.now _ c.self.view_is c.in-Ok.ensures.up) (up_state _ _ s.torn (up_at c.args.self.now _ c.self.view_is c.in-Ok.ensures.up)) refl refl refl (is_some_of _ at.0 at.1) (writes state c.args.key book at.0 at.1 at.2)
-    (subst I (sym (keys_are state c.args.key book at.0 at.1 at.2)) (gained_one (items_in c.self.inside.journal.payloads) state.keys state.states s.payloads.items c.args.key book)) (ap (λ i. state.size + frame_size i) (writes state c.args.key book at.0 at.1 at.2)) refl (λ h. h) (λ a b h. h)
+    (subst I (sym (keys_are state c.args.key book at.0 at.1 at.2)) (gained_one (items_in One c.self.inside.journal.payloads) state.keys state.states [] s.payloads.items c.args.key book)) (ap (λ i. state.size + frame_size i) (writes state c.args.key book at.0 at.1 at.2)) refl (λ h. h) (λ a b h. h)
     (λ h. h) (λ h. h) (λ a b h. h) refl refl (λ a b. refl)
     (record {
       genesis = s.genesis;
@@ -87,13 +88,13 @@ returns-clause-machine g c = λ state stands.
     let at = pruned_by _ state c.args.key book stands c.in-Ok.ensures.book in
     let wrote = c.in-Ok-gain_book.ensures.wrote in
     let written = writes state c.args.key book at.0 at.1 at.2 in
-    let I : List (PubKey × Past) → Type 0 = λ l. ItemsStand (items_in c.self.inside.journal.payloads ++ book_items (c.args.key, book)) l state.states in
+    let I : List (PubKey × Past) → Type 0 = λ l. ItemsStand (items_in One c.self.inside.journal.payloads ++ book_items (c.args.key, book)) l state.states [] in
     let H : List JournalItem → Type 0 = λ i. HasRoomFor state.size i in
     let K : List (PubKey × Past) → Type 0 = λ l. BooksStand c.gain_book.new.books l in (
       ((up, is_some_of _ at.0 at.1, subst H (sym written) (sized (book_items (c.args.key, book)) _ _ s.size wrote.0)), some_is _ at.0 (λ past. c.note_pruned.result ≡ pruning_of past) at.1 (c.note_pruned.ensures.book ∙ at.2)),
       grown g.D.Disk.faults c.self.inside.journal c.gain_book.new.journal (book_items (c.args.key, book)) _ state _
           wrote s.size c.self.invariant.0.size refl refl refl
-          (subst I (sym (keys_are state c.args.key book at.0 at.1 at.2)) (gained_one (items_in c.self.inside.journal.payloads) state.keys state.states s.payloads.items c.args.key book)) (ap (λ i. state.size + frame_size i) written) s.payloads.generation up
+          (subst I (sym (keys_are state c.args.key book at.0 at.1 at.2)) (gained_one (items_in One c.self.inside.journal.payloads) state.keys state.states [] s.payloads.items c.args.key book)) (ap (λ i. state.size + frame_size i) written) s.payloads.generation up
           (record {
             genesis = s.genesis;
             keys = subst K (sym (keys_are state c.args.key book at.0 at.1 at.2)) (c.in-Ok-gain_book.ensures.gained state.keys s.keys);

@@ -1,5 +1,6 @@
-use Rattle.std.proofs.Common.{◌≡◌, max, refl, ◌∙◌, ap, arith, subst}
+use Rattle.std.proofs.Common.{[], max, refl, ap, arith, subst}
 use Rattle.record_replay.proofs.MessageLemmas.{recorded}
+use Rattle.record_codec.specs.declared.version.JournalVersion.TheVariants.{One}
 use Rattle.record_replay.specs.Batches.{message_items}
 use Rattle.record_replay.specs.Items.{items_in}
 use Rattle.desk_machine.specs.declared.call.DeskCall.TheVariants as call
@@ -74,7 +75,7 @@ returns-clause-machine g c = λ state stands.
       (may.0, fresh_of state c.args.proposals may.1 (done.new state.keys s.keys), sized (message_items c.args.proposals) _ _ s.size done.wrote.0),
       grown g.D.Disk.faults c.self.inside.journal c.keep_messages.new.journal (message_items c.args.proposals) _ state _
           done.wrote s.size c.self.invariant.0.size refl refl refl
-          (recorded (items_in c.self.inside.journal.payloads) state.keys state.states c.args.proposals s.payloads.items (λ one at. (may.1 one at).0.0)) refl s.payloads.generation may.0
+          (recorded (items_in One c.self.inside.journal.payloads) state.keys state.states [] c.args.proposals s.payloads.items (λ one at. (may.1 one at).0.0)) refl s.payloads.generation may.0
           (record {
             genesis = s.genesis;
             keys = done.taken state.keys s.keys;

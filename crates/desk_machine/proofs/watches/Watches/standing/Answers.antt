@@ -3,7 +3,8 @@ use Rattle.edge_kit.specs.declared.bytes.PubKey.{PubKey}
 use Rattle.record_join.specs.Keys.{kept_of}
 use Rattle.doppel_watch.specs.declared.watch.WatchState.{WatchState}
 use Rattle.doppel_watch.specs.declared.watch.WatchState.TheVariants.{Allowed}
-use Rattle.desk_machine.specs.Watches.{IsOwnWatch, KeptWatches, Watched, Watching, WatchesStand, fresh_watch, standing_under, watch_of}
+use Rattle.record_replay.specs.Watches.{Watched, fresh_watch}
+use Rattle.desk_machine.specs.Watches.{IsOwnWatch, KeptWatches, Watching, WatchesStand, standing_under, watch_of}
 use Rattle.desk_machine.proofs.WatchLemmas.{by_fresh, kept_watch, no_watch, off_standing, on_standing, standing_at}
 use Rattle.desk_machine.proofs.watches.Watches.standing.Goals as goal
 
