@@ -1,5 +1,5 @@
 #!/usr/bin/env bash
-# The built program as a validator client, over TCP: a beacon node and a signing service (stand_ins.py), and `curl` as the operator. First
+# The built program as a validator client, over TCP: a beacon node and a signing service (stand_ins.py), and `curl` as the operator. It needs gcc. First
 # keys are taken in by the Keymanager API. Then duties are done for ten slots: each that is due must be posted once, with the service's
 # signature, and the keys are listed meanwhile. Then one key is deleted with its file, and taken in by a second journal, which must refuse
 # what was signed here. A second process over the same journal must be refused, too. Last, how long the votes of a slot take, from its third
@@ -12,21 +12,29 @@
 # validators about a sixteenth are chosen, in 1, 4 and 16 lanes with a service that takes 10, 15 or 20 ms: from two thirds of the slot to the last
 # aggregate, next to the best that this many lanes allow, which is the aggregates of the fullest lane with the servers' time for their three
 # requests, and what the question, the votes and the choices of the fullest lane take, by the servers' time for them, over the 4 seconds before;
-# and next to a plain client. Each validator that is chosen must post once, with its proof, the votes' data and a signature of the service, and no other
-# one. It takes about ten minutes, and three for the aggregates alone.
+# and next to a plain client. Node, service and plain client are here in C (fast_peers.c, fast_client.c), so that they take little time themselves. Each
+# row is the middle of three runs, by its ratio to the best, and ends with the least and the greatest ratio. Each validator that is chosen must post once,
+# with its proof, the votes' data and a signature of the service, and no other one. It takes about a quarter of an hour, and eight minutes for the
+# aggregates alone.
 # Usage: bench/serve.sh [VOTES ..|aggregates]     (10 100 1000 where none is given; PROGRAM=PATH for another program)
 set -eu
 cd "$(dirname "$0")/.."
 program=${PROGRAM:-crates/validator/out/validator}
 [ -x "$program" ] || { echo "bench/serve.sh: $program is not there: run 'rt run -- --version' in crates/validator first" >&2; exit 1; }
-command -v curl >/dev/null || { echo "bench/serve.sh: curl is wanted" >&2; exit 1; }
+for tool in curl gcc; do command -v "$tool" >/dev/null || { echo "bench/serve.sh: $tool is wanted" >&2; exit 1; }; done
 [ $# -gt 0 ] || set -- 10 100 1000
-exec env PYTHONPATH=bench python3 -B - "$program" "$@" <<'PY'
+built=$(mktemp -d)
+trap 'rm -rf "$built"' EXIT
+gcc -O2 -Wall -Wextra -pthread -o "$built/peers" bench/fast_peers.c bench/fast_answers.c bench/fast_signature.c
+gcc -O2 -Wall -Wextra -pthread -o "$built/client" bench/fast_client.c
+env PYTHONPATH=bench python3 -B - "$program" "$built" "$@" <<'PY'
 import collections, json, math, multiprocessing, os, shutil, socket, subprocess, sys, time
 from stand_ins import *
+from fast_peers import fast_client, fast_servers
 
-ONLY_AGGREGATES = sys.argv[2:] == ['aggregates']
-counts = [] if ONLY_AGGREGATES else [int(n) for n in sys.argv[2:]]
+built = sys.argv[2]
+ONLY_AGGREGATES = sys.argv[3:] == ['aggregates']
+counts = [] if ONLY_AGGREGATES else [int(n) for n in sys.argv[3:]]
 
 def curl(method, body=None):
     words = ['curl', '-sS', '--retry', '200', '--retry-delay', '1', '--retry-connrefused', '-X', method, '-H', 'Authorization: Bearer ' + TOKEN, 'http://127.0.0.1:%d/eth/v1/keystores' % port]
@@ -102,11 +110,14 @@ def voted(journal, count, lanes):
     wanted('requests of each kind: %s' % [len(of) for of in took], [len(of) for of in took] == [1, count, count])
     return sorted(r.ended - third for r, _ in posted(requests)), sum(took[0]), sum(map(sum, took[1:])) / count
 
-def round_trip(server, method, target, body):
+def request(method, target, body):
     text = json.dumps(body).encode() if body is not None else b''
+    return b'%s %s HTTP/1.1\r\nHost: a\r\nContent-Length: %d\r\nConnection: close\r\n\r\n' % (method.encode(), target.encode(), len(text)) + text
+
+def round_trip(server, method, target, body):
     with socket.create_connection(('127.0.0.1', server.port)) as link:
         link.setsockopt(socket.IPPROTO_TCP, socket.TCP_NODELAY, 1)
-        link.sendall(b'%s %s HTTP/1.1\r\nHost: a\r\nContent-Length: %d\r\nConnection: close\r\n\r\n' % (method.encode(), target.encode(), len(text)) + text)
+        link.sendall(request(method, target, body))
         while link.recv(65536):
             pass
 
@@ -125,15 +136,15 @@ def asks_once():
     round_trip(node, 'GET', DATA + '?slot=1&committee_index=0', None)
     return time.time() - begun
 
-def plain(count, lanes, trips, target):
-    """The seconds of a plain client: a process for each lane, which sends the requests of its votes or aggregates one after another."""
+def plain(count, lanes):
+    """The seconds of a plain client: a process for each lane, which sends the requests of its votes one after another."""
     begin = time.time() + 1
     processes = [multiprocessing.get_context('fork').Process(target=trips, args=(len(range(lane, count, lanes)), begin)) for lane in range(min(count, lanes))]
     for process in processes:
         process.start()
     for process in processes:
         process.join()
-    return max(r.ended for r in node.take() if r.target == target) - begin
+    return max(r.ended for r in node.take() if r.target == VOTES) - begin
 
 def votes_table(counts):
     print('ms a signature; lanes; votes a slot; seconds from the third of the slot to the last post; best; ratio; plain client; ratio; posts in the slot', flush=True)
@@ -141,19 +152,19 @@ def votes_table(counts):
         signer.set(delay=delay / 1000)
         for count in counts:
             at, question, own = voted('v%d-%d-%d' % (delay, lanes, count), count, lanes)
-            best, beside, in_slot = question + math.ceil(count / lanes) * own, asks_once() + plain(count, lanes, trips, VOTES), sum(t < SLOT - THIRD for t in at)
+            best, beside, in_slot = question + math.ceil(count / lanes) * own, asks_once() + plain(count, lanes), sum(t < SLOT - THIRD for t in at)
             print('%d; %d; %d; %.3f; %.3f; %.2f; %.3f; %.2f; %d' % (delay, lanes, count, at[-1], best, at[-1] / best, beside, at[-1] / beside, in_slot), flush=True)
 
 # ---- how long aggregates take
 
-MEMBERS = 256
+MEMBERS, RUNS = 256, 3
 
-def aggregated(journal, count, lanes):
+def aggregated(journal, count, lanes, peers):
     """The seconds from the third of a slot to the last choice, and from its two thirds to each aggregate, in order; and the servers' own time for the question,
     for a vote with its choice, and for an aggregate: the means of these."""
-    child, third = vote_once(journal, count, lanes, options=('--aggregate',), committee=MEMBERS)
+    child, third = vote_once(journal, count, lanes, options=('--aggregate',), peers=peers, committee=MEMBERS)
     lines, _ = ended(child)
-    asked, signatures = node.take(), signer.take()
+    signatures, asked = (peer.take() for peer in peers)
     proofs = {r.target[len(SIGN):]: signature_of(r.target[len(SIGN):], r.body['signingRoot']) for r in signatures if r.body['type'] == 'AGGREGATION_SLOT'}
     wanted('the slot is signed by %d validators' % len(proofs), sorted(proofs) == sorted(key(n) for n in range(count)))
     chosen = [key(n) for n in range(count) if is_aggregator(proofs[key(n)], MEMBERS)]
@@ -180,25 +191,37 @@ proof = {'message': {'aggregator_index': '0', 'aggregate': {'aggregation_bits': 
          'signature': signature_of(key(0), ZERO)}
 asked_for = {'type': 'AGGREGATE_AND_PROOF', 'fork_info': asked['fork_info'], 'signingRoot': ZERO, 'aggregate_and_proof': proof['message']}
 
-def aggregate_trips(count, begin):
-    time.sleep(begin - time.time())
-    for _ in range(count):
-        round_trip(node, 'GET', AGGREGATE + '?attestation_data_root=' + ZERO + '&slot=1', None)
-        round_trip(signer, 'POST', SIGN + key(0), asked_for)
-        round_trip(node, 'POST', AGGREGATES, [proof])
+def plain_aggregates(count, lanes, peers):
+    """The seconds of a plain client (fast_client.c), by the same notes as those of the program."""
+    service, asked = peers
+    requests = [(asked.port, request('GET', AGGREGATE + '?attestation_data_root=' + ZERO + '&slot=1', None)), (service.port, request('POST', SIGN + key(0), asked_for)),
+                (asked.port, request('POST', AGGREGATES, [proof]))]
+    begun, over = fast_client(os.path.join(built, 'client'), requests, count, lanes)
+    signatures, posts = service.take(), [r for r in asked.take() if r.target == AGGREGATES]
+    wanted('a plain client with %d signatures and %d posts' % (len(signatures), len(posts)), len(signatures) == len(posts) == count)
+    last = max(r.ended for r in posts)
+    wanted('a plain client from %f to %f, with its last answer at %f' % (begun, over, last), begun < last <= over)
+    return last - begun
+
+def aggregates_row(delay, lanes, turn, peers):
+    """A run: what its row shows from the aggregates on."""
+    chosen_by, at, question, before, own = aggregated('a%d-%d-%d' % (delay, lanes, turn), 100, lanes, peers)
+    late = max(0, question + math.ceil(100 / lanes) * before - 4)
+    best, beside = late + math.ceil(len(at) / lanes) * own, late + plain_aggregates(len(at), lanes, peers)
+    return len(at), chosen_by, at[-1], best, at[-1] / best, beside, at[-1] / beside
 
 def aggregates_table():
-    print('ms a signature; lanes; votes; aggregates; seconds from the third of the slot to the last choice; from its two thirds to the last aggregate; best; ratio; plain client; ratio', flush=True)
+    print('the middle of %d runs by their ratio to the best, and the least and the greatest of these ratios:' % RUNS)
+    print('ms a signature; lanes; votes; aggregates; seconds from the third of the slot to the last choice; from its two thirds to the last aggregate; best; ratio; plain client; ratio; '
+          'least; greatest', flush=True)
+    peers = fast_servers(os.path.join(built, 'peers'))
     for delay, lanes in ((delay, lanes) for delay in (10, 15, 20) for lanes in (1, 4, 16)):
-        signer.set(delay=delay / 1000)
-        chosen_by, at, question, before, own = aggregated('a%d-%d' % (delay, lanes), 100, lanes)
-        late = max(0, question + math.ceil(100 / lanes) * before - 4)
-        best, beside = late + math.ceil(len(at) / lanes) * own, late + plain(len(at), lanes, aggregate_trips, AGGREGATES)
-        print('%d; %d; 100; %d; %.3f; %.3f; %.3f; %.2f; %.3f; %.2f' % (delay, lanes, len(at), chosen_by, at[-1], best, at[-1] / best, beside, at[-1] / beside), flush=True)
+        peers[0].set(delay=delay / 1000)
+        runs = sorted((aggregates_row(delay, lanes, turn, peers) for turn in range(RUNS)), key=lambda run: run[4])
+        shown = '%d; %.3f; %.3f; %.3f; %.2f; %.3f; %.2f' % runs[RUNS // 2]
+        print('%d; %d; 100; %s; %.2f; %.2f' % (delay, lanes, shown, runs[0][4], runs[-1][4]), flush=True)
 
-if ONLY_AGGREGATES:
-    signer.set(delay=0)
-else:
+if not ONLY_AGGREGATES:
     taken_in_done_and_deleted()
     votes_table(counts)
 aggregates_table()

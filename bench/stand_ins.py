@@ -201,10 +201,12 @@ def is_aggregator(signature, members):
     """Whether a validator with this signature of the slot aggregates the votes of its committee (consensus-specs)."""
     return int.from_bytes(hashlib.sha256(bytes.fromhex(signature[2:])).digest()[:8], 'little') % max(1, members // 16) == 0
 
-def vote_once(journal, count, lanes, connections=0, options=(), **due):
-    """Starts the program with that many keys, each of which votes in slot 1; gives it, and the moment of the third of that slot."""
+def vote_once(journal, count, lanes, connections=0, options=(), peers=None, **due):
+    """Starts the program with that many keys, each of which votes in slot 1; gives it, and the moment of the third of that slot. The peers are a signing
+    service and a node, those here where none are given."""
+    service, asked = peers or (signer, node)
     sessions(journal, [{'op': 'activate', 'pubkey': key(n)} for n in range(count)])
     begun = int(time.time()) - 8
-    node.set(genesis_time=begun, blocks={}, votes={n: 1 for n in range(count)}, **due)
-    node.take(), signer.take()
-    return serve(journal, 2, connections, lanes, options=options), begun + SLOT + THIRD
+    asked.set(genesis_time=begun, blocks={}, votes={n: 1 for n in range(count)}, **due)
+    asked.take(), service.take()
+    return serve(journal, 2, connections, lanes, nodes=[asked.url], signing=service.url, options=options), begun + SLOT + THIRD
